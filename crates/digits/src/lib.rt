@@ -1,0 +1,1 @@
+// Numbers and their digits: definitions and laws only, cited by every crate that reads or writes bytes.

@@ -1,0 +1,45 @@
+-- What a call answers: a value, or a refusal of a number and a place; and what lent memory holds afterwards.
+-- The order of document 01's checks is the order of a list: 'Where several items offend, the first one counts.'
+-- Assumes nothing.
+use Prim.Native.Nat.{ℕ, suc}
+use mathlib.Core.Bool.{Bool, true, false, cond}
+use mathlib.Core.List.{List, [], _∷_}
+use lib.Dec.{ltb}
+use lib.ListN.{length}
+
+-- 'An answer is a value or a refusal of a number and a place.'
+pub data Answer (A : Type 0) : Type 0 where
+  value : A → Answer A
+  refused : ℕ → ℕ → Answer A
+
+-- one check: whether it offends, its number and its place
+pub data Check : Type 0 where
+  check : Bool → ℕ → ℕ → Check
+
+abbrev pub unless : {A : Type 0} → Check → Answer A → Answer A
+unless (check true n p) a = refused n p
+unless (check false n p) a = a
+
+-- the first check that offends, or else the answer
+abbrev pub first : {A : Type 0} → List Check → Answer A → Answer A
+first [] a = a
+first (c ∷ cs) a = unless c (first cs a)
+
+-- the index of the first item that offends, or how many items there are where none does
+unfoldable pub place : {A : Type 0} → (A → Bool) → List A → ℕ
+place bad [] = 0
+place bad (x ∷ xs) = cond (bad x) 0 (suc (place bad xs))
+
+-- the check of each item of a list, whose place is the index of the first that offends
+abbrev pub each : {A : Type 0} → (A → Bool) → ℕ → List A → Check
+each bad n xs = check (ltb (place bad xs) (length xs)) n (place bad xs)
+
+-- whether it is refused, and with what, apart from the value
+abbrev pub done : {A : Type 0} → Answer A → Answer (Unit {0})
+done (value x) = value tt
+done (refused n p) = refused n p
+
+-- 'A refusal writes to no lent memory': the full result, or exactly the former contents
+abbrev pub after : {A : Type 0} → Answer A → A → A
+after (value x) old = x
+after (refused n p) old = old

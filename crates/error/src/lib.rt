@@ -1,0 +1,51 @@
+// The refusals, and the answer of a call that has no value of its own.
+// Ported from turbo-quant/src/error.rs and changed: an error is a number and a place.
+
+// The refusal numbers of document 01. A name is the Rust's where it has one.
+
+// Bits outside 1..16, or total bits below 2 in residual mode. Place: the bits.
+pub const INVALID_BIT_WIDTH: u32 = 1;
+// Dimension 0. Place 0.
+pub const ZERO_DIMENSION: u32 = 2;
+// Odd dimension. Place: the dimension.
+pub const ODD_DIMENSION: u32 = 3;
+// An even dimension that is no power of two, or above 4,096. Place: the dimension.
+pub const ROTATION_FAILED: u32 = 4;
+// A lent input's length, or a record's dimension, differs from the setup's. Place: what was found.
+pub const DIMENSION_MISMATCH: u32 = 5;
+// An output buffer isn't exactly the needed length. Place: the needed length.
+pub const OUTPUT_LENGTH: u32 = 6;
+// A direction entry is not finite or lies outside -1..1. Place: its index.
+pub const INVALID_DIRECTION: u32 = 7;
+// In residual mode, projections 0 or above 4,096. Place: the count.
+pub const ZERO_PROJECTION_COUNT: u32 = 8;
+// A matrix entry is not finite. Place: its index.
+pub const NON_FINITE_MATRIX: u32 = 9;
+// A sign is neither -1 nor 1. Place: its index.
+pub const MALFORMED_SIGN: u32 = 10;
+// A value is not finite, in the vector, after rotation or after projection. Place: its index there.
+pub const NON_FINITE_INPUT: u32 = 11;
+// A score or distance is not finite. Place 0.
+pub const NON_FINITE_SCORE: u32 = 12;
+// Byte length wrong. Place: the length found.
+pub const MALFORMED_LENGTH: u32 = 13;
+// Padding bits not zero. Place: that byte's index in its payload.
+pub const MALFORMED_PADDING: u32 = 14;
+// An index at or above 2^bits. Place: its index; for a codebook or a single angle, 0.
+pub const MALFORMED_INDEX: u32 = 15;
+// A radius is NaN, infinite or below zero. Place: its index.
+pub const MALFORMED_RADIUS: u32 = 16;
+// A bound not finite, or min above max; for a codebook also min equal to max. Place 0.
+pub const MALFORMED_RANGE: u32 = 17;
+// A map bit not defined, or profile BlockLogU8. Place: the map byte, or 0.
+pub const UNDEFINED_PROFILE: u32 = 18;
+// Count times bits exceeds the largest usize. Place 0.
+pub const LENGTH_OVERFLOW: u32 = 19;
+// A record's bits or projections are not the setup's. Place 0.
+pub const PROFILE_MISMATCH: u32 = 20;
+
+// What a call answers whose result, if any, stands in lent memory.
+pub enum Outcome {
+    Done,
+    Refused { number: u32, place: usize },
+}
