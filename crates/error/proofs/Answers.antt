@@ -1,7 +1,9 @@
--- What an answer says of lent memory, by its two cases. Assumes nothing.
+-- What an answer says of lent memory, by its two cases, and what a chain of checks says of each check. Assumes nothing.
 use Prim.Native.Nat.{ℕ}
 use mathlib.Core.Path.{_≡_, refl, ap}
-use Rattle.error.specs.Answer.{Answer, value, refused, done, after}
+use mathlib.Core.Bool.{Bool, true, false}
+use mathlib.Core.List.{List, [], _∷_}
+use Rattle.error.specs.Answer.{Answer, value, refused, Check, check, unless, first, accepted, done, after}
 
 module _ {A : Type 0} where
   -- a refusal leaves the former contents
@@ -15,5 +17,31 @@ module _ {A : Type 0} where
   pub done-refused : (a : Answer A) {n p : ℕ} → a ≡ refused n p → done a ≡ refused n p
   done-refused a e = ap done e
 
-  pub done-value : (a : Answer A) {x : A} → a ≡ value x → done a ≡ value tt
+  pub done-value : (a : Answer A) {x : A} → a ≡ value x → done a ≡ accepted
   done-value a e = ap done e
+
+  -- ---- a chain of checks answers alike whatever stands at its end: `accepted` serves a function that only checks
+
+  pub first-passed : (cs : List Check) (a : Answer A) → first cs accepted ≡ accepted → first cs a ≡ a
+  first-passed [] a e = refl
+  first-passed (check true n p ∷ cs) a e = cc
+  first-passed (check false n p ∷ cs) a e = first-passed cs a e
+
+  pub first-refused : (cs : List Check) (a : Answer A) {n p : ℕ} → first cs accepted ≡ refused n p → first cs a ≡ refused n p
+  first-refused [] a e = cc
+  first-refused (check true n p ∷ cs) a e = cc
+  first-refused (check false n p ∷ cs) a e = first-refused cs a e
+
+  pub first-done : (cs : List Check) (v : A) → done (first cs (value v)) ≡ first cs accepted
+  first-done [] v = refl
+  first-done (check true n p ∷ cs) v = refl
+  first-done (check false n p ∷ cs) v = first-done cs v
+
+  -- of a chain that answers a value, the first check does not offend, and the others do not either
+  pub first-head : (b : Bool) (n p : ℕ) (cs : List Check) (a : Answer A) {x : A} → first (check b n p ∷ cs) a ≡ value x → b ≡ false
+  first-head true n p cs a e = cc
+  first-head false n p cs a e = refl
+
+  pub first-rest : (b : Bool) (n p : ℕ) (cs : List Check) (a : Answer A) {x : A} → first (check b n p ∷ cs) a ≡ value x → first cs a ≡ value x
+  first-rest true n p cs a e = cc
+  first-rest false n p cs a e = e

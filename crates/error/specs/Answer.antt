@@ -34,9 +34,13 @@ place bad (x ∷ xs) = cond (bad x) 0 (suc (place bad xs))
 abbrev pub each : {A : Type 0} → (A → Bool) → ℕ → List A → Check
 each bad n xs = check (ltb (place bad xs) (length xs)) n (place bad xs)
 
+-- the answer of a call that has no value of its own, where nothing offends
+abbrev pub accepted : Answer (Unit {0})
+accepted = value tt
+
 -- whether it is refused, and with what, apart from the value
 abbrev pub done : {A : Type 0} → Answer A → Answer (Unit {0})
-done (value x) = value tt
+done (value x) = accepted
 done (refused n p) = refused n p
 
 -- 'A refusal writes to no lent memory': the full result, or exactly the former contents
