@@ -1,8 +1,9 @@
 -- What an answer says of lent memory, by its two cases, and what a chain of checks says of each check. Assumes nothing.
 use Prim.Native.Nat.{ℕ}
-use mathlib.Core.Path.{_≡_, refl, ap}
+use mathlib.Core.Path.{_≡_, refl, ap, _∙_}
 use mathlib.Core.Bool.{Bool, true, false}
 use mathlib.Core.List.{List, [], _∷_}
+use native.Mathlib.Omega.{arith}
 use Rattle.error.specs.Answer.{Answer, value, refused, Check, check, unless, first, accepted, done, after}
 
 module _ {A : Type 0} where
@@ -37,11 +38,26 @@ module _ {A : Type 0} where
   first-done (check true n p ∷ cs) v = refl
   first-done (check false n p ∷ cs) v = first-done cs v
 
-  -- of a chain that answers a value, the first check does not offend, and the others do not either
-  pub first-head : (b : Bool) (n p : ℕ) (cs : List Check) (a : Answer A) {x : A} → first (check b n p ∷ cs) a ≡ value x → b ≡ false
-  first-head true n p cs a e = cc
-  first-head false n p cs a e = refl
+-- ---- what is left where none offends
 
-  pub first-rest : (b : Bool) (n p : ℕ) (cs : List Check) (a : Answer A) {x : A} → first (check b n p ∷ cs) a ≡ value x → first cs a ≡ value x
-  first-rest true n p cs a e = cc
-  first-rest false n p cs a e = e
+pub first-head : {A : Type 0} (b : Bool) (n p : ℕ) (cs : List Check) (a : Answer A) {x : A} → first (check b n p ∷ cs) a ≡ value x → b ≡ false
+first-head true n p cs a e = cc
+first-head false n p cs a e = refl
+
+pub first-rest : {A : Type 0} (b : Bool) (n p : ℕ) (cs : List Check) (a : Answer A) {x : A} → first (check b n p ∷ cs) a ≡ value x → first cs a ≡ value x
+first-rest true n p cs a e = cc
+first-rest false n p cs a e = e
+
+abbrev pub AllPass : List Check → Type 0
+AllPass [] = Unit {0}
+AllPass (check b n p ∷ cs) = (b ≡ false) × AllPass cs
+
+pub first-all : {A : Type 0} (cs : List Check) (a : Answer A) {x : A} → first cs a ≡ value x → AllPass cs
+first-all [] a e = tt
+first-all (check true n p ∷ cs) a e = let z : _≡_ {A = ℕ} 0 1 = cc in absurd (omega arith)
+first-all (check false n p ∷ cs) a e = (refl, first-all cs a e)
+
+-- and back: a chain none of whose checks offends answers what stands at its end
+pub all-first : {A : Type 0} (cs : List Check) (a : Answer A) → AllPass cs → first cs a ≡ a
+all-first [] a all = refl
+all-first (check b n p ∷ cs) a all = ap (λ (t : Bool). unless (check t n p) (first cs a)) (all .0) ∙ all-first cs a (all .1)

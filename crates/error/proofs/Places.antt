@@ -8,6 +8,8 @@ use mathlib.Core.List.{List, [], _∷_}
 use native.Mathlib.Nat.{zero-add, le-of-suc-le-suc, not-suc-le-zero}
 use native.Mathlib.Numerals.{add-one}
 use native.Mathlib.Omega.{arith}
+use borrow.Author.Tests.{lt-ltb, le-ltb, ltb-false}
+use lib.Dec.{ltb}
 use lib.ListN.{length, getD, drop, drop-of-length-le}
 use lib.Seq.{drop-cons}
 use Rattle.error.specs.Answer.{place}
@@ -63,3 +65,15 @@ module _ {A : Type 0} where
       split rest true t j g = let z = place-bad bad x xs t in absurd (omega (arith, z, e))
       split rest false f zero g = f
       split rest false f (suc j) g = rest (let z = place-good bad x xs f in omega (arith, z, e)) j (le-of-suc-le-suc g)
+
+  -- ---- the check `each`, from what a search returned
+
+  pub each-offends : (bad : A → Bool) (xs : List A) {i : ℕ} → i ≡ place bad xs → i < length xs → ltb (place bad xs) (length xs) ≡ true
+  each-offends bad xs {i} e l = lt-ltb (place bad xs) (length xs) (omega (arith, e))
+
+  pub each-passes : (bad : A → Bool) (xs : List A) {i : ℕ} → i ≡ place bad xs → length xs ≤ i → ltb (place bad xs) (length xs) ≡ false
+  each-passes bad xs {i} e l = le-ltb (place bad xs) (length xs) (omega (arith, e))
+
+  -- and back: where the check passes, no item offends
+  pub each-clear : (bad : A → Bool) (xs : List A) (d : A) → ltb (place bad xs) (length xs) ≡ false → (i : ℕ) → i < length xs → bad (getD xs i d) ≡ false
+  each-clear bad xs d e = place-passed bad xs d (let most = place-le bad xs in let least = ltb-false (place bad xs) (length xs) e in omega (arith, most, least))
