@@ -1,6 +1,6 @@
 -- What an answer says of lent memory, by its two cases, and what a chain of checks says of each check. Assumes nothing.
 use Prim.Native.Nat.{ℕ}
-use mathlib.Core.Path.{_≡_, refl, ap, _∙_}
+use mathlib.Core.Path.{_≡_, refl, sym, ap, _∙_}
 use mathlib.Core.Bool.{Bool, true, false}
 use mathlib.Core.List.{List, [], _∷_}
 use native.Mathlib.Omega.{arith}
@@ -20,6 +20,13 @@ module _ {A : Type 0} where
 
   pub done-value : (a : Answer A) {x : A} → a ≡ value x → done a ≡ accepted
   done-value a e = ap done e
+
+  -- the answer and the lent memory, both at once
+  pub both-refused : (a : Answer A) (old : A) {n p : ℕ} → a ≡ refused n p → (refused n p ≡ done a) × (old ≡ after a old)
+  both-refused a old e = (sym (done-refused a e), sym (after-refused a old e))
+
+  pub both-value : (a : Answer A) (old : A) {x : A} (new : A) → a ≡ value x → new ≡ x → (accepted ≡ done a) × (new ≡ after a old)
+  both-value a old new e f = (sym (done-value a e), f ∙ sym (after-value a old e))
 
   -- ---- a chain of checks answers alike whatever stands at its end: `accepted` serves a function that only checks
 

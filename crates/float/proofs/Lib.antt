@@ -1,0 +1,9 @@
+pub mod Bytes
+pub mod Decode
+pub mod Examples
+pub mod Floor
+pub mod IntegerRoot
+pub mod RootCases
+pub mod RootPattern
+pub mod Round
+pub mod SquareRoot

@@ -1,0 +1,14 @@
+-- A float as four bytes, the least significant first: its IEEE 754 pattern's digits in base 256.
+-- Document 01: 'F32 copies the four little-endian bytes; −0.0 is kept.' Assumes nothing.
+use Prim.Native.Nat.{ℕ}
+use mathlib.Core.List.{List}
+use lib.Ieee.{Float, binary32, ofBits, toBits}
+use Rattle.digits.specs.Digits.{number, digits}
+
+-- the float whose pattern these bytes are; every NaN's pattern reads as the one `nan`
+unfoldable pub ofLeBytes : List ℕ → Float
+ofLeBytes bytes = ofBits binary32 (number 256 bytes)
+
+-- the four bytes of a float's pattern; `nan` is written as 7FC00000
+unfoldable pub toLeBytes : Float → List ℕ
+toLeBytes x = digits 256 4 (toBits binary32 x)

@@ -1,0 +1,4 @@
+pub mod Bytes
+pub mod Rounding
+pub mod SquareRoot
+pub mod Units

@@ -1,0 +1,49 @@
+-- The square root of an f32, twice. `NearestRoot x r` says what it is: r is the f32 nearest to the root of x, by comparing integer squares.
+-- `squareRoot` works it out for every float. Document 01: 'The root of any f32 is IEEE 754 squareRoot, shown by comparing integer squares:
+-- −0.0 gives −0.0, below zero gives NaN.' Assumes nothing.
+use Prim.Native.Nat.{ℕ, zero, suc, _+_, _-_, _*_, _/_, _^_, _<_}
+use mathlib.Core.Bool.{false, cond}
+use lib.Dec.{T, ltb, leb}
+use lib.Ieee.{Float, nan, inf, fin, binary32, fits, ofBits, size}
+use Rattle.float.specs.Units.{nonNegative, units}
+
+abbrev pub square : ℕ → ℕ
+square a = a * a
+
+-- In units of 2 ^ -149 the root of x is the real number whose square is `units x * 2 ^ 149`. Of two floats r and y, r is nearer to the root exactly where
+-- the root lies on r's side of the midpoint (r + y) / 2: for y below r, where (r + y) ^ 2 is below 4 * units x * 2 ^ 149, and for y above r the other way round.
+-- r is a finite f32 that is not negative, and it is nearer than every other such y. Nearer is strict: the midpoint of two
+-- neighbours ends one binary place below an f32's last, so its square has more digits than an f32 holds, a tie can't occur, and 'ties to even' never has to be asked.
+pub record NearestRoot (x r : Float) : Type 0 where
+  pub fit : T (fits binary32 r)
+  pub not-negative : T (nonNegative r)
+  pub above-smaller : (y : Float) → T (fits binary32 y) → T (nonNegative y) → units y < units r → square (units y + units r) < 4 * (units x * 2 ^ 149)
+  pub below-larger : (y : Float) → T (fits binary32 y) → T (nonNegative y) → units r < units y → 4 * (units x * 2 ^ 149) < square (units y + units r)
+
+-- the root of n, cut: to r, what was found so far, j more binary digits are added, the highest first, each where the square stays at most n
+unfoldable pub rootBits : ℕ → ℕ → ℕ → ℕ
+rootBits zero r n = r
+rootBits (suc j) r n = rootBits j (cond (leb (square (r + 2 ^ j)) n) (r + 2 ^ j) r) n
+
+-- the whole number nearest to the root of an n below 2 ^ 48: from q, the root cut, one up where n is above (q + 1/2) ^ 2
+unfoldable pub nearestRoot : ℕ → ℕ
+unfolding rootBits
+nearestRoot n = let q = rootBits 24 0 n in cond (ltb (square q + q) n) (suc q) q
+
+-- the root of n has half as many binary digits as n, rounded up; it keeps 24 of them, and drops so many
+unfoldable pub dropped : ℕ → ℕ
+unfolding size
+dropped n = (size n + 1) / 2 - 24
+
+-- the pattern of the f32 nearest to the root of n, n counted in units of 2 ^ -298 and the root in units of 2 ^ -149
+unfoldable pub rootPattern : ℕ → ℕ
+unfolding nearestRoot dropped
+rootPattern n = dropped n * 2 ^ 23 + nearestRoot (n / 2 ^ (2 * dropped n))
+
+-- IEEE 754's squareRoot: a zero is its own root, with its sign, and what is below zero has none
+unfoldable pub squareRoot : Float → Float
+unfolding rootPattern units
+squareRoot nan = nan
+squareRoot (inf s) = cond s nan (inf false)
+squareRoot (fin s zero e) = fin s zero e
+squareRoot (fin s (suc m) e) = cond s nan (ofBits binary32 (rootPattern (units (fin false (suc m) e) * 2 ^ 149)))

@@ -1,0 +1,27 @@
+-- A finite f32 as a whole number of units of 2 ^ -149, the smallest positive f32: document 01, 'Every finite f32 is a whole multiple of 2^−149'.
+-- And the two numbers that the pattern of a finite f32 that is not negative stands for: a significand, and by how many places it is shifted.
+-- Assumes nothing.
+use Prim.Native.Nat.{ℕ, _+_, _-_, _*_, _/_, _%_, _^_}
+use mathlib.Core.Bool.{Bool, false, not, cond}
+use lib.Dec.{ltb}
+use lib.Ieee.{Float, nan, inf, fin, up, down}
+
+-- finite, and with a clear sign
+abbrev pub nonNegative : Float → Bool
+nonNegative nan = false
+nonNegative (inf s) = false
+nonNegative (fin s m e) = not s
+
+-- the magnitude, in units of 2 ^ -149
+unfoldable pub units : Float → ℕ
+units nan = 0
+units (inf s) = 0
+units (fin s m e) = m * up e * 2 ^ 149 / down e
+
+-- of a pattern below 7F800000: the digits, with the leading one where the exponent's field is not 0
+unfoldable pub significandOf : ℕ → ℕ
+significandOf b = cond (ltb b (2 ^ 23)) b (2 ^ 23 + b % 2 ^ 23)
+
+-- the exponent's field less 1; a field of 0 counts as 1
+unfoldable pub shiftOf : ℕ → ℕ
+shiftOf b = b / 2 ^ 23 - 1

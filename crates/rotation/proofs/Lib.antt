@@ -1,0 +1,12 @@
+pub mod Lists
+pub mod InPlace
+pub mod Stores
+pub mod Blocks
+pub mod Stages
+pub mod Ordered
+pub mod Powers
+pub mod Accepted
+pub mod Applied
+pub mod SignValues
+pub mod ErrorBound
+pub mod Examples

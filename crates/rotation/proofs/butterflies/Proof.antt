@@ -1,0 +1,69 @@
+use Prim.Native.Nat.{_+_, _*_, _≤_, _-_}
+use native.Mathlib.Omega.{arith}
+use lib.ListN.{length}
+use Rattle.rotation.proofs.Stages.{Through, through-start, through-more, through-stage, block-fits}
+use Rattle.rotation.proofs.butterflies.Statement.{statement}
+use Rattle.rotation.proofs.butterflies.Tie as tie
+use Rattle.rotation.proofs.butterflies.Reads as reads
+use Rattle.rotation.proofs.butterflies.Lts as lts
+use Rattle.rotation.proofs.block.Reads as block-reads
+
+abbrev Inv-loop : tie.InvT-loop
+Inv-loop values₀ h start₀ values start = (start ≤ length values₀) × Through h start values₀ values
+
+abbrev μ-loop : tie.MeasureT-loop
+μ-loop values₀ h start₀ values start = length values₀ - start
+
+-- src/lib.rt:31:5
+loop-holds : tie.Need-loop-holds Inv-loop μ-loop
+loop-holds c = (omega arith, through-start _ _)
+
+-- the block that is left lies within the values
+room : (c : tie.After-slice-known2 Inv-loop μ-loop) → c .before .before .before .before .before .loop .start + 2 * c .before .before .before .before .before .before .before .args .h ≤ length (c .before .before .before .before .before .before .before .args .values .now)
+room c =
+    let inv = c .before .before .before .before .before .loop .inv .1 in
+    let fits = block-fits _ _ _ _ inv (c .before .before .before .before .before .before .before .pre) (omega arith) in
+    omega (arith, fits, inv .long)
+
+-- src/lib.rt:32:9
+block-requires : tie.Need-block-requires Inv-loop μ-loop
+block-requires c κs = block-fits _ _ _ _ (c .before .before .loop .inv .1) (c .before .before .before .before .pre) (omega (arith, c .before .before .loop .inv .1 .long))
+
+-- src/lib.rt:33:25
+mul-start : tie.Need-mul-start Inv-loop μ-loop
+mul-start c = omega (arith, room c, c .before .before .before .before .before .before .before .good .0 .0)
+
+-- src/lib.rt:33:17
+add-start : tie.Need-add-start Inv-loop μ-loop
+add-start c = omega (arith, room c, c .before .before .before .before .before .before .before .good .0 .0)
+
+-- src/lib.rt:31:5
+loop-less : tie.Need-loop-less Inv-loop μ-loop
+loop-less c = omega (arith, room c, c .before .before .before .before .before .before .before .pre .above)
+
+-- src/lib.rt:31:5
+loop-again : tie.Need-loop-again Inv-loop μ-loop
+loop-again c = (room c, through-more _ _ _ _ _ (c .before .before .before .before .before .loop .inv .1) (c .before .before .block .ensures) (room c))
+
+-- src/lib.rt:26:1
+same-length : tie.Need-same-length Inv-loop μ-loop
+same-length c = c .before .loop .inv .1 .long
+
+-- src/lib.rt:26:1
+returns : tie.Need-returns Inv-loop μ-loop
+returns c = through-stage _ _ _ _ (c .before .loop .inv .1) (omega (arith, c .before .loop .inv .1 .long))
+
+pub butterflies-spec : {M : Type 1} → statement M
+butterflies-spec =
+    tie.close
+    (tie.spec
+    Inv-loop
+    μ-loop
+    loop-holds
+    block-requires
+    mul-start
+    add-start
+    loop-less
+    loop-again
+    same-length
+    returns)

@@ -1,0 +1,34 @@
+-- One block of butterflies, done in place: what each entry holds when `done` of the h pairs from `start` on are through. Assumes nothing.
+use Prim.Native.Nat.{ℕ, _+_, _*_, _≤_, _<_}
+use mathlib.Core.Path.{_≡_}
+use mathlib.Core.List.{List}
+use lib.Count.{ones}
+use lib.ListN.{length, getD}
+use lib.Ieee.{Float, nan, binary32, add, sub}
+
+abbrev pub at : List Float → ℕ → Float
+at xs i = getD xs i nan
+
+-- of the list xs, ys is what is left when the pairs (start + o, start + h + o) with o < done are through
+pub record Partly (h start done : ℕ) (xs ys : List Float) : Type 0 where
+  pub long : length ys ≡ length xs
+  pub sums : (o : ℕ) → o < done → at ys (start + o) ≡ add binary32 (at xs (start + o)) (at xs (start + o + h))
+  pub differences : (o : ℕ) → o < done → at ys (start + o + h) ≡ sub binary32 (at xs (start + o)) (at xs (start + o + h))
+  pub before : (i : ℕ) → i < start → at ys i ≡ at xs i
+  pub lows : (o : ℕ) → done ≤ o → o < h → at ys (start + o) ≡ at xs (start + o)
+  pub highs : (o : ℕ) → done ≤ o → at ys (start + o + h) ≡ at xs (start + o + h)
+
+abbrev pub BlockDone : ℕ → ℕ → List Float → List Float → Type 0
+BlockDone h start xs ys = Partly h start h xs ys
+
+-- the length is so many blocks of 2 h entries, with h above 0
+pub record Stepped (h long : ℕ) : Type 0 where
+  pub above : 0 < h
+  pub blocks : ℕ
+  pub whole : long ≡ blocks * (2 * h)
+
+-- a dimension that is a power of two up to 4,096, and as many values
+pub record Transformable (dim long : ℕ) : Type 0 where
+  pub bit : ones dim ≡ 1
+  pub small : dim ≤ 4096
+  pub whole : long ≡ dim

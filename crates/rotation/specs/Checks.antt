@@ -1,0 +1,50 @@
+-- The checks of a dimension, of rotation signs and of lengths, as document 01 lists them. Assumes nothing.
+use Prim.Native.Nat.{ℕ, _%_}
+use mathlib.Core.Bool.{Bool, true, false, not, _&&_, _||_}
+use mathlib.Core.List.{List, [], _∷_}
+use lib.Count.{ones}
+use lib.Dec.{ltb, eqb}
+use lib.IntN.{pos}
+use lib.ListN.{length}
+use lib.Ieee.{Float, fin, ne}
+use Rattle.error.specs.Answer.{Check, check, each}
+
+-- '2: dimension 0. Place 0.'
+abbrev pub zeroDimension : ℕ → Check
+zeroDimension n = check (eqb n 0) 2 0
+
+-- '3: odd dimension. Place: the dimension.'
+abbrev pub oddDimension : ℕ → Check
+oddDimension n = check (eqb (n % 2) 1) 3 n
+
+-- 'even dimension that is no power of two, or above 4,096'; 'A dimension is a power of two exactly when one bit of it is set.'
+abbrev pub outsidePowers : ℕ → Bool
+outsidePowers n = not (eqb (ones n) 1) || ltb 4096 n
+
+-- '4: .. Place: the dimension.'
+abbrev pub noPower : ℕ → Check
+noPower n = check (outsidePowers n) 4 n
+
+-- '5: a lent input's length .. differs from the setup's. Place: the length .. found.'
+abbrev pub wrongLength : ℕ → ℕ → Check
+wrongLength needed found = check (not (eqb found needed)) 5 found
+
+-- '6: an output buffer isn't exactly the needed length. Place: the needed length.'
+abbrev pub wrongOutput : ℕ → ℕ → Check
+wrongOutput needed found = check (not (eqb found needed)) 6 needed
+
+-- '10: a sign is neither −1 nor 1. Place: its index.'
+abbrev pub badSign : Float → Bool
+badSign s = ne s (fin true 1 (pos 0)) && ne s (fin false 1 (pos 0))
+
+-- 'Rotating either way: 2, 3, 4, 5 for the signs, 10, 5 for the input'; 'In every call 6 comes after all input checks.'
+abbrev pub rotationChecks : ℕ → List Float → ℕ → ℕ → List Check
+rotationChecks n signs long room =
+    zeroDimension n
+    ∷ oddDimension n
+    ∷ noPower n
+    ∷ wrongLength n (length signs)
+    ∷ each badSign 10 signs
+    ∷ wrongLength n long
+    ∷ wrongOutput n room
+    ∷ []

@@ -1,0 +1,25 @@
+-- The rotation without rounding: the same steps over whole numbers, with 1/sqrt(n) 'as the floats that they are'. An entry is a whole number of
+-- units of 2 ^ -298, since a value is one of units of 2 ^ -149 and so is 1/sqrt(n). Assumes nothing.
+use Prim.Native.Nat.{ℕ}
+use mathlib.Core.Bool.{Bool}
+use mathlib.Core.List.{List, map}
+use lib.Count.{trailingZeros}
+use lib.Ieee.{Float, lt}
+use Rattle.rounding.specs.Signed.{Diff, nought, _⊞_, _⊟_, _⊠_}
+use Rattle.rounding.specs.Value.{val, mag, posZero}
+use Rattle.rounding.specs.Sums.{sum, turnedEach}
+use Rattle.rounding.specs.Butterfly.{stages}
+use Rattle.rotation.specs.Rotation.{inverseRoot}
+
+-- whether a sign is -1
+abbrev pub negative : Float → Bool
+negative s = lt s posZero
+
+-- 'the query rotated without rounding'
+unfoldable pub exactRotated : ℕ → List Float → List Float → List Diff
+exactRotated n signs xs =
+    map (λ x. x ⊠ val (inverseRoot n)) (stages _⊞_ _⊟_ nought (trailingZeros 64 n) 1 (turnedEach (map negative signs) (map val xs)))
+
+-- 'X the sum of the query's absolute values', in units of 2 ^ -149
+unfoldable pub absoluteSum : List Float → ℕ
+absoluteSum xs = sum (map mag xs)

@@ -1,0 +1,4 @@
+pub mod Block
+pub mod Checks
+pub mod Rotation
+pub mod Exact

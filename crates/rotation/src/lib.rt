@@ -1,0 +1,240 @@
+// Deterministic rotation: signs, then a normalized Hadamard transform, and back.
+// Ported from turbo-quant/src/rotation.rs and changed: only FastHadamardRotation is carried, its signs are lent, the output is lent, and
+// an error is a number and a place.
+
+use error::DIMENSION_MISMATCH;
+use error::MALFORMED_SIGN;
+use error::ODD_DIMENSION;
+use error::OUTPUT_LENGTH;
+use error::Outcome;
+use error::ROTATION_FAILED;
+use error::ZERO_DIMENSION;
+ghost use mathlib.Core.Path.{_≡_};
+ghost use Prim.Native.Nat.{_+_, _*_, _^_, _≤_};
+ghost use lib.ListN.{length};
+ghost use lib.Ieee.{binary32, add, sub};
+ghost use Rattle.error.specs.Answer.{first, place, accepted, done, after};
+ghost use Rattle.error.specs.Outcomes.{says};
+ghost use Rattle.rounding.specs.Butterfly.{stage, stages};
+ghost use Rattle.rounding.specs.Sums.{products};
+ghost use Rattle.rounding.specs.Value.{posZero};
+ghost use Rattle.rotation.specs.Checks.{badSign, outsidePowers, rotationChecks};
+ghost use Rattle.rotation.specs.Rotation.{inverseRoot, scaled, hadamardOf, applied, appliedInverse};
+ghost use Rattle.rotation.specs.Block.{BlockDone, Stepped, Transformable};
+
+// Whether a dimension is no power of two, or above 4,096.
+pub fn outside_powers(dim: usize) -> bool
+    ensures { λ r. ⌜ r ≡ outsidePowers dim ⌝ }
+{
+    if usize::count_ones(dim) != 1 {
+        return true;
+    }
+    4096 < dim
+}
+
+// Whether a sign is neither -1 nor 1.
+fn is_bad_sign(sign: f32) -> bool
+    ensures { λ r. ⌜ r ≡ badSign sign ⌝ }
+{
+    if sign != -1.0 { sign != 1.0 } else { false }
+}
+
+// The index of the first sign that is neither -1 nor 1, or their number where there is none.
+pub fn first_bad_sign(signs: &[f32]) -> usize
+    ensures { λ r. ⌜ r ≡ place badSign (now (signs .entry)) ⌝ }
+{
+    let mut i = 0;
+    while i < signs.len() {
+        if is_bad_sign(signs[i]) {
+            return i;
+        }
+        i += 1;
+    }
+    i
+}
+
+// The rotation of the input into the output: signs, butterflies, scale.
+pub fn apply(dim: usize, signs: &[f32], input: &[f32], output: &mut [f32]) -> Outcome
+    ensures { λ r. ⌜ says r ≡ done (applied dim (now (signs .entry)) (now (input .entry)) (length (now (output .entry)))) ⌝ }
+    ensures { λ _. ⌜ now (output .exit) ≡ after (applied dim (now (signs .entry)) (now (input .entry)) (length (now (output .entry)))) (now (output .entry)) ⌝ }
+{
+    let checked = check(dim, signs, input.len(), output.len());
+    if let Outcome::Refused { number, place } = checked {
+        return Outcome::Refused { number, place };
+    }
+    flip_into(input, signs, output);
+    hadamard(output, dim);
+    Outcome::Done
+}
+
+// The inverse rotation of the input into the output: butterflies, scale, signs.
+pub fn apply_inverse(dim: usize, signs: &[f32], input: &[f32], output: &mut [f32]) -> Outcome
+    ensures { λ r. ⌜ says r ≡ done (appliedInverse dim (now (signs .entry)) (now (input .entry)) (length (now (output .entry)))) ⌝ }
+    ensures { λ _. ⌜ now (output .exit) ≡ after (appliedInverse dim (now (signs .entry)) (now (input .entry)) (length (now (output .entry)))) (now (output .entry)) ⌝ }
+{
+    let checked = check(dim, signs, input.len(), output.len());
+    if let Outcome::Refused { number, place } = checked {
+        return Outcome::Refused { number, place };
+    }
+    copy_into(input, output);
+    hadamard(output, dim);
+    flip(output, signs);
+    Outcome::Done
+}
+
+// The checks of a rotation, either way.
+fn check(dim: usize, signs: &[f32], input: usize, output: usize) -> Outcome
+    ensures { λ r. ⌜ says r ≡ first (rotationChecks dim (now (signs .entry)) input output) accepted ⌝ }
+{
+    if dim == 0 {
+        return Outcome::Refused {
+            number: ZERO_DIMENSION,
+            place: 0,
+        };
+    }
+    if dim % 2 == 1 {
+        return Outcome::Refused {
+            number: ODD_DIMENSION,
+            place: dim,
+        };
+    }
+    if outside_powers(dim) {
+        return Outcome::Refused {
+            number: ROTATION_FAILED,
+            place: dim,
+        };
+    }
+    if signs.len() != dim {
+        return Outcome::Refused {
+            number: DIMENSION_MISMATCH,
+            place: signs.len(),
+        };
+    }
+    let bad = first_bad_sign(signs);
+    if bad < signs.len() {
+        return Outcome::Refused {
+            number: MALFORMED_SIGN,
+            place: bad,
+        };
+    }
+    if input != dim {
+        return Outcome::Refused {
+            number: DIMENSION_MISMATCH,
+            place: input,
+        };
+    }
+    if output != dim {
+        return Outcome::Refused {
+            number: OUTPUT_LENGTH,
+            place: dim,
+        };
+    }
+    Outcome::Done
+}
+
+// The butterflies with step h of one block, the 2 h entries from start on.
+fn block(values: &mut [f32], start: usize, h: usize)
+    requires { ⌜ start + 2 * h ≤ length (now values) ⌝ }
+    ensures { λ _. ⌜ BlockDone h start (now (values .entry)) (now (values .exit)) ⌝ }
+{
+    let mut offset = 0;
+    while offset < h {
+        let low = start + offset;
+        let high = low + h;
+        let a = values[low];
+        let b = values[high];
+        values[low] = a + b;
+        values[high] = a - b;
+        offset += 1;
+    }
+}
+
+// The butterflies with step h, in place.
+fn butterflies(values: &mut [f32], h: usize)
+    requires { ⌜ Stepped h (length (now values)) ⌝ }
+    ensures { λ _. ⌜ now (values .exit) ≡ stage (add binary32) (sub binary32) posZero h (now (values .entry)) ⌝ }
+{
+    let mut start = 0;
+    while start < values.len() {
+        block(values, start, h);
+        start = start + 2 * h;
+    }
+}
+
+// Every stage, in place: so many, with steps 1, 2, 4 and on.
+fn transform(values: &mut [f32], count: u32)
+    requires { ⌜ (count ≤ 12) × (length (now values) ≡ 2 ^ count) ⌝ }
+    ensures { λ _. ⌜ now (values .exit) ≡ stages (add binary32) (sub binary32) posZero count 1 (now (values .entry)) ⌝ }
+{
+    let mut step = 1;
+    let mut left = count;
+    while 0 < left {
+        butterflies(values, step);
+        step = 2 * step;
+        left = left - 1;
+    }
+}
+
+// Each value times the factor, in place.
+fn scale_by(values: &mut [f32], factor: f32)
+    ensures { λ _. ⌜ now (values .exit) ≡ scaled factor (now (values .entry)) ⌝ }
+{
+    let mut i = 0;
+    while i < values.len() {
+        values[i] = values[i] * factor;
+        i += 1;
+    }
+}
+
+// Each value times its sign, in place.
+fn flip(values: &mut [f32], signs: &[f32])
+    requires { ⌜ length (now signs) ≡ length (now values) ⌝ }
+    ensures { λ _. ⌜ now (values .exit) ≡ products (now (values .entry)) (now (signs .entry)) ⌝ }
+{
+    let mut i = 0;
+    while i < values.len() {
+        values[i] = values[i] * signs[i];
+        i += 1;
+    }
+}
+
+// Each value of the input times its sign, into the output.
+fn flip_into(input: &[f32], signs: &[f32], output: &mut [f32])
+    requires { ⌜ (length (now signs) ≡ length (now input)) × (length (now output) ≡ length (now input)) ⌝ }
+    ensures { λ _. ⌜ now (output .exit) ≡ products (now (input .entry)) (now (signs .entry)) ⌝ }
+{
+    let mut i = 0;
+    while i < output.len() {
+        output[i] = input[i] * signs[i];
+        i += 1;
+    }
+}
+
+// The input, into the output.
+fn copy_into(input: &[f32], output: &mut [f32])
+    requires { ⌜ length (now output) ≡ length (now input) ⌝ }
+    ensures { λ _. ⌜ now (output .exit) ≡ now (input .entry) ⌝ }
+{
+    let mut i = 0;
+    while i < output.len() {
+        output[i] = input[i];
+        i += 1;
+    }
+}
+
+// 1 / sqrt(dim), root and quotient each rounded once.
+fn inverse_root(dim: usize) -> f32
+    requires { ⌜ dim ≤ 4096 ⌝ }
+    ensures { λ r. ⌜ r ≡ inverseRoot dim ⌝ }
+{
+    1.0 / float::sqrt(dim as f32)
+}
+
+// The normalized transform of dim values, in place.
+fn hadamard(values: &mut [f32], dim: usize)
+    requires { ⌜ Transformable dim (length (now values)) ⌝ }
+    ensures { λ _. ⌜ now (values .exit) ≡ hadamardOf dim (now (values .entry)) ⌝ }
+{
+    transform(values, usize::trailing_zeros(dim));
+    scale_by(values, inverse_root(dim));
+}

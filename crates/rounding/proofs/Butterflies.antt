@@ -1,0 +1,110 @@
+-- Butterflies on lists of any length: a stage of floats keeps close to the stage of exact numbers, at one rounding more, with the r's and the a's under the same butterflies with +.
+-- And a stage all of whose entries are finite comes from finite entries. Assumes nothing.
+use mathlib.Core.Path.{_≡_, refl, sym, ap, _∙_, subst}
+use Prim.Native.Nat.{ℕ, zero, suc, _+_, _-_, _/_, _%_, _^_, _≤_, _<_}
+use native.Mathlib.Nat.{add-zero, zero-add, add-suc, suc-add, le-of-suc-le-suc, not-suc-le-zero}
+use native.Mathlib.Omega.{arith}
+use mathlib.Core.Bool.{Bool, true, false, cond}
+use mathlib.Core.List.{List, [], _∷_, map}
+use lib.Dec.{T, eqb}
+use lib.ListN.{length, getD}
+use lib.Ieee.{Float, binary32, add, sub}
+use lib.Ieee.Scale.{finite}
+use Rattle.rounding.specs.Signed.{Diff, nought, _⊞_, _⊟_}
+use Rattle.rounding.specs.Value.{posZero}
+use Rattle.rounding.specs.Close.{Close}
+use Rattle.rounding.specs.Sums.{AllClose, none, next, AllFinite}
+use Rattle.rounding.specs.Butterfly.{from, entry, stage, stages}
+use Rattle.rounding.proofs.Calculus.{close-zero, close-add, close-sub}
+use Rattle.rounding.proofs.Finite.{add-finite, sub-finite}
+use Rattle.rounding.proofs.Folds.{all-close-at, all-close-errors, all-close-sizes, all-close-numbers, all-close-weaken}
+
+-- ---- a list made by its indices
+tabled-length : {A : Type 0} (f : ℕ → A) (n count : ℕ) → length (map f (from n count)) ≡ count
+unfolding from
+tabled-length f n zero = refl
+tabled-length f n (suc count) = ap suc (tabled-length f (suc n) count)
+
+tabled-at : {A : Type 0} (f : ℕ → A) (n count : ℕ) (d : A) (i : ℕ) → i < count → getD (map f (from n count)) i d ≡ f (n + i)
+unfolding from
+tabled-at f n zero d i h = absurd (not-suc-le-zero h)
+tabled-at f n (suc count) d zero h = ap f (sym (add-zero n))
+tabled-at f n (suc count) d (suc i) h = tabled-at f (suc n) count d i (le-of-suc-le-suc h) ∙ ap f (suc-add n i ∙ sym (add-suc n i))
+
+module _ {A : Type 0} (plus less : A → A → A) (d : A) (h : ℕ) (xs : List A) where
+  pub stage-length : length (stage plus less d h xs) ≡ length xs
+  unfolding stage
+  stage-length = tabled-length (λ (i : ℕ). entry plus less d h xs i) 0 (length xs)
+
+  pub stage-at : (i : ℕ) → i < length xs → getD (stage plus less d h xs) i d ≡ entry plus less d h xs i
+  unfolding stage
+  stage-at i l = tabled-at (λ (j : ℕ). entry plus less d h xs j) 0 (length xs) d i l ∙ ap (λ (j : ℕ). entry plus less d h xs j) (zero-add i)
+
+pub stages-length : {A : Type 0} (plus less : A → A → A) (d : A) (n h : ℕ) (xs : List A) → length (stages plus less d n h xs) ≡ length xs
+unfolding stages
+stages-length plus less d zero h xs = refl
+stages-length plus less d (suc n) h xs = stages-length plus less d n (h + h) (stage plus less d h xs) ∙ stage-length plus less d h xs
+
+-- ---- the error of a stage
+module _ {s k : ℕ} {rs bs : List ℕ} {vs : List Float} {xs : List Diff} (K : k ≤ 2 ^ 23) (all : AllClose s k rs bs vs xs) (h : ℕ) where
+  entry-close : (i : ℕ) → Close s (k + 1) (entry _+_ _+_ 0 h rs i) (entry _+_ _+_ 0 h bs i) (entry (add binary32) (sub binary32) posZero h vs i) (entry _⊞_ _⊟_ nought h xs i)
+  unfolding entry
+  entry-close i = go (eqb (i / h % 2) 0)
+    where
+      at : (j : ℕ) → Close s k (getD rs j 0) (getD bs j 0) (getD vs j posZero) (getD xs j nought)
+      at j = all-close-at posZero (close-zero s k) all j
+
+      go : (b : Bool)
+          → Close s (k + 1) (cond b (getD rs i 0 + getD rs (i + h) 0) (getD rs (i - h) 0 + getD rs i 0)) (cond b (getD bs i 0 + getD bs (i + h) 0) (getD bs (i - h) 0 + getD bs i 0))
+          (cond b (add binary32 (getD vs i posZero) (getD vs (i + h) posZero)) (sub binary32 (getD vs (i - h) posZero) (getD vs i posZero)))
+          (cond b (getD xs i nought ⊞ getD xs (i + h) nought) (getD xs (i - h) nought ⊟ getD xs i nought))
+      go true = close-add K (at i) (at (i + h))
+      go false = close-sub K (at (i - h)) (at i)
+
+tabled-close : {s k : ℕ} (f g : ℕ → ℕ) (v : ℕ → Float) (x : ℕ → Diff) → ((i : ℕ) → Close s k (f i) (g i) (v i) (x i)) → (n count : ℕ)
+    → AllClose s k (map f (from n count)) (map g (from n count)) (map v (from n count)) (map x (from n count))
+unfolding from
+tabled-close f g v x each n zero = none
+tabled-close f g v x each n (suc count) = next (each n) (tabled-close f g v x each (suc n) count)
+
+pub close-stage : {s k : ℕ} {rs bs : List ℕ} {vs : List Float} {xs : List Diff} (h : ℕ) → k ≤ 2 ^ 23 → AllClose s k rs bs vs xs
+    → AllClose s (k + 1) (stage _+_ _+_ 0 h rs) (stage _+_ _+_ 0 h bs) (stage (add binary32) (sub binary32) posZero h vs) (stage _⊞_ _⊟_ nought h xs)
+unfolding stage
+close-stage {s} {k} {rs} {bs} {vs} {xs} h K all =
+    rw (all-close-errors all, all-close-sizes all, all-close-numbers all)
+    (tabled-close (λ (i : ℕ). entry _+_ _+_ 0 h rs i) (λ (i : ℕ). entry _+_ _+_ 0 h bs i) (λ (i : ℕ). entry (add binary32) (sub binary32) posZero h vs i)
+    (λ (i : ℕ). entry _⊞_ _⊟_ nought h xs i) (entry-close K all h) 0 (length vs))
+
+pub close-stages : {s k : ℕ} {rs bs : List ℕ} {vs : List Float} {xs : List Diff} (n h : ℕ) → k + n ≤ 2 ^ 23 → AllClose s k rs bs vs xs
+    → AllClose s (k + n) (stages _+_ _+_ 0 n h rs) (stages _+_ _+_ 0 n h bs) (stages (add binary32) (sub binary32) posZero n h vs) (stages _⊞_ _⊟_ nought n h xs)
+unfolding stages
+close-stages zero h K all = all-close-weaken (omega arith) all
+close-stages (suc n) h K all = all-close-weaken (omega arith) (close-stages n (h + h) (omega arith) (close-stage h (omega arith) all))
+
+-- ---- no hidden infinity: the entry at i has x[i] as an operand
+tabled-finite : (f : ℕ → Float) (n : ℕ) (vs : List Float) → ((i : ℕ) → T (finite (f (n + i))) → T (finite (getD vs i posZero))) → AllFinite (map f (from n (length vs))) → AllFinite vs
+unfolding from
+tabled-finite f n [] each all = tt
+tabled-finite f n (v ∷ vs) each all = (
+  each 0 (subst (λ (i : ℕ). T (finite (f i))) (sym (add-zero n)) (all .0)),
+  tabled-finite f (suc n) vs (λ i t. each (suc i) (subst (λ (j : ℕ). T (finite (f j))) (suc-add n i ∙ sym (add-suc n i)) t)) (all .1),
+)
+
+entry-finite : (h : ℕ) (vs : List Float) (i : ℕ) → T (finite (entry (add binary32) (sub binary32) posZero h vs i)) → T (finite (getD vs i posZero))
+unfolding entry
+entry-finite h vs i = go (eqb (i / h % 2) 0)
+  where
+    go : (b : Bool) → T (finite (cond b (add binary32 (getD vs i posZero) (getD vs (i + h) posZero)) (sub binary32 (getD vs (i - h) posZero) (getD vs i posZero)))) → T (finite (getD vs i posZero))
+    go true t = add-finite binary32 (getD vs i posZero) (getD vs (i + h) posZero) t .0
+    go false t = sub-finite binary32 (getD vs (i - h) posZero) (getD vs i posZero) t .1
+
+pub stage-finite : (h : ℕ) (vs : List Float) → AllFinite (stage (add binary32) (sub binary32) posZero h vs) → AllFinite vs
+unfolding stage
+stage-finite h vs all =
+    tabled-finite (λ (i : ℕ). entry (add binary32) (sub binary32) posZero h vs i) 0 vs
+    (λ i t. entry-finite h vs i (subst (λ (j : ℕ). T (finite (entry (add binary32) (sub binary32) posZero h vs j))) (zero-add i) t)) all
+
+pub stages-finite : (n h : ℕ) (vs : List Float) → AllFinite (stages (add binary32) (sub binary32) posZero n h vs) → AllFinite vs
+unfolding stages
+stages-finite zero h vs all = all
+stages-finite (suc n) h vs all = stage-finite h vs (stages-finite n (h + h) (stage (add binary32) (sub binary32) posZero h vs) all)

@@ -1,0 +1,17 @@
+pub mod Signed
+pub mod Nearest
+pub mod Values
+pub mod Finite
+pub mod Sum
+pub mod Product
+pub mod Exact
+pub mod Bounds
+pub mod Calculus
+pub mod Totals
+pub mod Folds
+pub mod Partial
+pub mod Butterflies
+pub mod Blocks
+pub mod Times
+pub mod Compare
+pub mod Examples

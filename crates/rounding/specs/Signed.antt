@@ -1,0 +1,68 @@
+-- Whole numbers with a sign, each written as a difference of two naturals, and how far two of them lie apart.
+-- One number has many such pairs: `Same` says that two pairs are the same number. Assumes nothing.
+use mathlib.Core.Path.{_≡_}
+use Prim.Native.Nat.{ℕ, _+_, _-_, _*_, _≤_, _<_}
+use mathlib.Core.Bool.{Bool, true, false}
+
+infixl 65 _⊞_ _⊟_
+infixl 70 _⊠_ _⊙_
+-- plus - minus
+pub record Diff : Type 0 where
+  pub plus : ℕ
+  pub minus : ℕ
+
+abbrev pub nought : Diff
+nought = record { plus = 0; minus = 0 }
+
+-- the number of this size, negative where the sign is true
+abbrev pub signed : Bool → ℕ → Diff
+signed false n = record { plus = n; minus = 0 }
+signed true n = record { plus = 0; minus = n }
+
+abbrev pub opposite : Diff → Diff
+opposite x = record { plus = x .minus; minus = x .plus }
+
+abbrev pub _⊞_ : Diff → Diff → Diff
+x ⊞ y = record { plus = x .plus + y .plus; minus = x .minus + y .minus }
+
+abbrev pub _⊟_ : Diff → Diff → Diff
+x ⊟ y = x ⊞ opposite y
+
+abbrev pub _⊠_ : Diff → Diff → Diff
+x ⊠ y = record { plus = x .plus * y .plus + x .minus * y .minus; minus = x .plus * y .minus + x .minus * y .plus }
+
+-- so many times x
+abbrev pub _⊙_ : ℕ → Diff → Diff
+n ⊙ x = record { plus = n * x .plus; minus = n * x .minus }
+
+-- x, or its opposite where the sign is true: the product with 1 or -1
+abbrev pub turned : Bool → Diff → Diff
+turned false x = x
+turned true x = opposite x
+
+-- |x|
+abbrev pub size : Diff → ℕ
+size x = x .plus - x .minus + (x .minus - x .plus)
+
+-- t * |a - b| ≤ w, of naturals
+pub record Apart (t a b w : ℕ) : Type 0 where
+  pub above : t * a ≤ t * b + w
+  pub below : t * b ≤ t * a + w
+
+-- |x| ≤ w
+pub record Abs (x : Diff) (w : ℕ) : Type 0 where
+  pub above : x .plus ≤ x .minus + w
+  pub below : x .minus ≤ x .plus + w
+
+-- |x - y| ≤ w
+pub record Near (x y : Diff) (w : ℕ) : Type 0 where
+  pub above : x .plus + y .minus ≤ x .minus + y .plus + w
+  pub below : x .minus + y .plus ≤ x .plus + y .minus + w
+
+-- x = y: the pairs are one number
+pub record Same (x y : Diff) : Type 0 where
+  pub even : x .plus + y .minus ≡ x .minus + y .plus
+
+-- x + w < y
+pub record Under (w : ℕ) (x y : Diff) : Type 0 where
+  pub strict : x .plus + y .minus + w < x .minus + y .plus

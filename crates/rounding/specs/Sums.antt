@@ -1,0 +1,74 @@
+-- Sums in index order: of floats, each step rounded; of exact numbers; of naturals. A dot product is the sum of its products.
+-- Assumes nothing.
+use Prim.Native.Nat.{ℕ, _+_, _*_}
+use mathlib.Core.Bool.{Bool}
+use mathlib.Core.List.{List, [], _∷_}
+use lib.Dec.{T}
+use lib.Ieee.{Float, binary32, add, mul, fits}
+use lib.Ieee.Scale.{finite}
+use Rattle.rounding.specs.Signed.{Diff, nought, turned, _⊞_, _⊠_}
+use Rattle.rounding.specs.Value.{mag, posZero}
+use Rattle.rounding.specs.Close.{Close}
+
+-- 'Sums run in index order from +0.0' (document 01): the running sum, from the one so far
+unfoldable pub running : Float → List Float → Float
+running acc [] = acc
+running acc (v ∷ vs) = running (add binary32 acc v) vs
+
+abbrev pub total : List Float → Float
+total vs = running posZero vs
+
+-- the products of two lists, entry by entry, as far as the shorter one goes
+unfoldable pub products : List Float → List Float → List Float
+products [] cs = []
+products (v ∷ vs) [] = []
+products (v ∷ vs) (c ∷ cs) = mul binary32 v c ∷ products vs cs
+
+abbrev pub dot : List Float → List Float → Float
+dot vs cs = total (products vs cs)
+
+-- the same, exact
+unfoldable pub exactTotal : List Diff → Diff
+exactTotal [] = nought
+exactTotal (x ∷ xs) = x ⊞ exactTotal xs
+
+unfoldable pub exactProducts : List Diff → List Diff → List Diff
+exactProducts [] ys = []
+exactProducts (x ∷ xs) [] = []
+exactProducts (x ∷ xs) (y ∷ ys) = x ⊠ y ∷ exactProducts xs ys
+
+abbrev pub exactDot : List Diff → List Diff → Diff
+exactDot xs ys = exactTotal (exactProducts xs ys)
+
+-- each number, or its opposite where its sign is true: the products with 1 and -1
+unfoldable pub turnedEach : List Bool → List Diff → List Diff
+turnedEach [] xs = []
+turnedEach (s ∷ ss) [] = []
+turnedEach (s ∷ ss) (x ∷ xs) = turned s x ∷ turnedEach ss xs
+
+unfoldable pub sum : List ℕ → ℕ
+sum [] = 0
+sum (n ∷ ns) = n + sum ns
+
+-- each of the numbers times the size of its float, in units
+unfoldable pub weighted : List Float → List ℕ → List ℕ
+weighted [] ns = []
+weighted (c ∷ cs) [] = []
+weighted (c ∷ cs) (n ∷ ns) = mag c * n ∷ weighted cs ns
+
+-- ---- what is said of each entry
+-- it is an f32
+abbrev pub AllFit : List Float → Type 0
+AllFit [] = Unit {0}
+AllFit (v ∷ vs) = T (fits binary32 v) × AllFit vs
+
+-- it is neither a NaN nor an infinity
+abbrev pub AllFinite : List Float → Type 0
+AllFinite [] = Unit {0}
+AllFinite (v ∷ vs) = T (finite v) × AllFinite vs
+
+-- it is close to its exact number, with its own r and its own a
+pub data AllClose (s k : ℕ) : List ℕ → List ℕ → List Float → List Diff → Type 0 where
+  none : AllClose s k [] [] [] []
+  next : {r a : ℕ} {v : Float} {x : Diff} {rs bs : List ℕ} {vs : List Float} {xs : List Diff} → Close s k r a v x → AllClose s k rs bs vs xs
+      → AllClose s k (r ∷ rs) (a ∷ bs) (v ∷ vs) (x ∷ xs)
