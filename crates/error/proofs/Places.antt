@@ -1,7 +1,7 @@
 -- The first item of a list that offends, found by a loop: before index i none offended, and what is left is the same question of the rest.
 -- A loop keeps `place bad xs ≡ i + place bad (drop i xs)`; `place-start` opens it, `place-skip` is one turn, `place-here` and `place-end` its two ends.
 -- Assumes nothing.
-use Prim.Native.Nat.{ℕ, zero, suc, _+_, _≤_, _<_}
+use Prim.Native.Nat.{ℕ, zero, suc, _+_, _≤_, _<_, suc-le-suc}
 use mathlib.Core.Path.{_≡_, refl, sym, ap, _∙_}
 use mathlib.Core.Bool.{Bool, true, false, cond}
 use mathlib.Core.List.{List, [], _∷_}
@@ -77,3 +77,14 @@ module _ {A : Type 0} where
   -- and back: where the check passes, no item offends
   pub each-clear : (bad : A → Bool) (xs : List A) (d : A) → ltb (place bad xs) (length xs) ≡ false → (i : ℕ) → i < length xs → bad (getD xs i d) ≡ false
   each-clear bad xs d e = place-passed bad xs d (let most = place-le bad xs in let least = ltb-false (place bad xs) (length xs) e in omega (arith, most, least))
+
+  place-all : (bad : A → Bool) (xs : List A) (d : A) → ((i : ℕ) → i < length xs → bad (getD xs i d) ≡ false) → length xs ≤ place bad xs
+  place-all bad [] d h = omega arith
+  place-all bad (x ∷ xs) d h =
+      let here = place-good bad x xs (h 0 (omega arith)) in
+      let rest = place-all bad xs d (λ i g. h (suc i) (suc-le-suc g)) in
+      omega (arith, here, rest)
+
+  -- where no item offends, the check passes
+  pub each-none : (bad : A → Bool) (xs : List A) (d : A) → ((i : ℕ) → i < length xs → bad (getD xs i d) ≡ false) → ltb (place bad xs) (length xs) ≡ false
+  each-none bad xs d h = le-ltb (place bad xs) (length xs) (place-all bad xs d h)

@@ -2,7 +2,7 @@
 -- an input and an output of that length. Assumes nothing.
 use Prim.Native.Nat.{ℕ, suc, _^_, _≤_, _<_}
 use mathlib.Core.Path.{_≡_, refl, sym, ap, _∙_, subst}
-use mathlib.Core.Bool.{Bool, true, false, not, _||_}
+use mathlib.Core.Bool.{false, not}
 use mathlib.Core.List.{List}
 use native.Mathlib.Omega.{arith}
 use native.Mathlib.Decide.{decLt}
@@ -13,7 +13,7 @@ use lib.ListN.{length, getD}
 use lib.Pow.{pow-mono}
 use lib.Ieee.{Float, nan}
 use Rattle.error.specs.Answer.{first, accepted}
-use Rattle.error.proofs.Answers.{first-all}
+use Rattle.error.proofs.Chains.{first-passes, or-false}
 use Rattle.error.proofs.Places.{each-clear}
 use Rattle.rotation.specs.Checks.{badSign, rotationChecks}
 use Rattle.rotation.proofs.Powers.{one-bit}
@@ -30,14 +30,6 @@ pub record Rotatable (n : ℕ) (signs : List Float) (long room : ℕ) : Type 0 w
   pub input-long : long ≡ n
   pub output-long : room ≡ n
 
-or-left : (a b : Bool) → (a || b) ≡ false → a ≡ false
-or-left true b e = e
-or-left false b e = refl
-
-or-right : (a b : Bool) → (a || b) ≡ false → b ≡ false
-or-right true b e = cc
-or-right false b e = e
-
 -- the number of butterfly steps, two to which is the dimension
 pub power-steps : (n : ℕ) → Power n → n ≡ 2 ^ trailingZeros 64 n
 power-steps n p = one-bit 64 n (let small = p .small in omega arith) (p .bit)
@@ -53,10 +45,10 @@ power-few n p = elim (decLt 12 (trailingZeros 64 n)) [ yes many ↦ absurd (over
 
 pub rotatable : (n : ℕ) (signs : List Float) (long room : ℕ) → first (rotationChecks n signs long room) accepted ≡ accepted → Rotatable n signs long room
 rotatable n signs long room e =
-    let all = first-all (rotationChecks n signs long room) accepted e in
-    let power = all .1 .1 .0 in
+    let all = first-passes (rotationChecks n signs long room) tt e in
+    let power = or-false (not (eqb (ones n) 1)) (ltb 4096 n) (all .1 .1 .0) in
     record {
-      power = record { bit = eqb-true (ones n) 1 (not-false _ (or-left (not (eqb (ones n) 1)) (ltb 4096 n) power)); small = ltb-false 4096 n (or-right (not (eqb (ones n) 1)) (ltb 4096 n) power) };
+      power = record { bit = eqb-true (ones n) 1 (not-false _ (power .0)); small = ltb-false 4096 n (power .1) };
       signs-long = eqb-true (length signs) n (not-false _ (all .1 .1 .1 .0));
       signs-good = each-clear badSign signs nan (all .1 .1 .1 .1 .0);
       input-long = eqb-true long n (not-false _ (all .1 .1 .1 .1 .1 .0));

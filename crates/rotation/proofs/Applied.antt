@@ -5,7 +5,7 @@ use mathlib.Core.List.{List}
 use lib.ListN.{length}
 use lib.Ieee.{Float}
 use Rattle.error.specs.Answer.{Answer, value, refused, first, accepted}
-use Rattle.error.proofs.Answers.{first-passed, first-refused}
+use Rattle.error.proofs.Chains.{first-passed, first-refused}
 use Rattle.rotation.specs.Checks.{rotationChecks}
 use Rattle.rotation.specs.Rotation.{rotated, unrotated, applied, appliedInverse}
 

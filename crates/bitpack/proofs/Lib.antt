@@ -1,0 +1,16 @@
+pub mod Lengths
+pub mod Differs
+pub mod Padding
+pub mod Stores
+pub mod Digits
+pub mod Windows
+pub mod Packing
+pub mod Unpacking
+pub mod Answers
+pub mod Signs
+pub mod SignPacking
+pub mod SignUnpacking
+pub mod SignAnswers
+pub mod Bits
+pub mod RoundTrip
+pub mod Examples

@@ -1,0 +1,113 @@
+-- `bitpack::pack_words` meets its contract: the loop keeps `Packed`, and its two turns are laws of it. Assumes nothing.
+use Prim.Native.Nat.{ℕ, _+_, _-_}
+use mathlib.Core.Path.{refl, sym, ap, _∙_}
+use native.Mathlib.Omega.{arith}
+use lib.ListN.{length}
+use borrow.Author.Needs.{scaled-fits}
+use Rattle.bitpack.proofs.Windows.{shift-in-exact, shift-in-word}
+use Rattle.bitpack.proofs.Packing.{Packed, pack-start, pack-bound, pack-turn, pack-word, pack-within, pack-end}
+use Rattle.bitpack.proofs.pack_words.Statement.{statement}
+use Rattle.bitpack.proofs.pack_words.Tie as tie
+
+abbrev Inv-loop : tie.InvT-loop
+Inv-loop indices bits out₀ width acc₀ held₀ i₀ k₀ out acc held i k = Packed indices bits (length out₀) out acc held i k
+
+abbrev μ-loop : tie.MeasureT-loop
+μ-loop indices bits out₀ width acc₀ held₀ i₀ k₀ out acc held i k = length indices - i
+
+loop-holds : tie.Need-loop-holds Inv-loop μ-loop
+loop-holds c = pack-start _ _ _ (c .before .before .pre) _ refl
+
+mul-acc : tie.Need-mul-acc Inv-loop μ-loop
+mul-acc c = scaled-fits _ _ 2 (c .loop-test .taken) (c .before .before .before .before .good .0 .1)
+
+shared-slice-read-acc : tie.Need-shared-slice-read-acc Inv-loop μ-loop
+shared-slice-read-acc c = c .before .loop-test .taken
+
+cast-acc : tie.Need-cast-acc Inv-loop μ-loop
+cast-acc c = omega (arith, c .shared-slice-known2 .given (c .before .before .loop .i))
+
+shl-acc : tie.Need-shl-acc Inv-loop μ-loop
+shl-acc c = omega (arith, c .before .before .loop .inv .small)
+
+add-acc : tie.Need-add-acc Inv-loop μ-loop
+add-acc c =
+    let start = c .before .before .before .before .before in
+    let s = c .before .before .loop in
+    record { fits = shift-in-word (s .acc) (s .held) (start .args .bits) _ (s .inv .fits) (start .pre .small (s .i) (c .before .loop-test .taken)) (omega (arith, s .inv .small, start .pre .narrow)) }
+
+add-held : tie.Need-add-held Inv-loop μ-loop
+add-held c = omega (arith, c .before .before .loop .inv .small, c .before .before .before .before .before .pre .narrow)
+
+add-i : tie.Need-add-i Inv-loop μ-loop
+add-i c = omega arith
+
+put-word-requires : tie.Need-put-word-requires Inv-loop μ-loop
+put-word-requires c κs =
+    let start = c .before .before .before .before .before .before .before in
+    let s = c .before .before .before .before .loop in
+    omega (arith, pack-bound _ _ _ (start .pre) _ _ _ _ _ (s .inv) (c .before .before .before .loop-test .taken) (c .before .if1 .taken), s .inv .sized)
+
+add-k : tie.Need-add-k Inv-loop μ-loop
+add-k c =
+    let start = c .before .before .before .before .before .before .before .before .before .before in
+    let s = c .before .before .before .before .before .before .before .loop in
+    omega (arith, pack-bound _ _ _ (start .pre) _ _ _ _ _ (s .inv) (c .before .before .before .before .before .before .loop-test .taken) (c .before .before .before .before .if1 .taken), start .good)
+
+loop-less : tie.Need-loop-less Inv-loop μ-loop
+loop-less c = omega (arith, c .before .before .before .before .before .before .loop-test .taken)
+
+loop-again : tie.Need-loop-again Inv-loop μ-loop
+loop-again c =
+    let start = c .before .before .before .before .before .before .before .before .before .before in
+    let s = c .before .before .before .before .before .before .before .loop in
+    let more = c .before .before .before .before .before .before .loop-test .taken in
+    let sum = ap (λ (m : ℕ). s .acc + m) (shift-in-exact (s .held) (start .args .bits) _ (start .pre .small (s .i) more) (omega (arith, s .inv .small, start .pre .narrow))) in
+    pack-word _ _ _ (start .pre) _ _ _ _ _ (s .inv) more _ _ sum (c .before .before .before .before .if1 .taken) (c .before .before .put-word .ensures)
+
+loop-less-2 : tie.Need-loop-less-2 Inv-loop μ-loop
+loop-less-2 c = omega (arith, c .before .before .loop-test .taken)
+
+loop-again-2 : tie.Need-loop-again-2 Inv-loop μ-loop
+loop-again-2 c =
+    let start = c .before .before .before .before .before .before in
+    let s = c .before .before .before .loop in
+    let more = c .before .before .loop-test .taken in
+    let sum = ap (λ (m : ℕ). s .acc + m) (shift-in-exact (s .held) (start .args .bits) _ (start .pre .small (s .i) more) (omega (arith, s .inv .small, start .pre .narrow))) in
+    pack-turn _ _ _ (start .pre) _ _ _ _ _ (s .inv) more _ sum (c .if1 .left)
+
+put-rest-requires : tie.Need-put-rest-requires Inv-loop μ-loop
+put-rest-requires c κs = pack-within _ _ _ (c .before .before .before .before .before .pre) _ _ _ _ _ (c .before .before .loop .inv)
+
+same-length : tie.Need-same-length Inv-loop μ-loop
+same-length c = c .before .before .put-rest .kept .0 ∙ c .before .before .before .before .before .loop .inv .sized
+
+returns : tie.Need-returns Inv-loop μ-loop
+returns c =
+    let start = c .before .before .before .before .before .before .before .before in
+    let s = c .before .before .before .before .before .loop in
+    c .before .before .put-rest .ensures ∙ sym (pack-end _ _ _ (start .pre) _ _ _ _ _ (s .inv) (c .before .before .before .before .loop-test .left))
+
+pub pack-words-spec : {M : Type 1} → statement M
+pack-words-spec =
+    tie.close
+    (tie.spec
+    Inv-loop
+    μ-loop
+    loop-holds
+    mul-acc
+    shared-slice-read-acc
+    cast-acc
+    shl-acc
+    add-acc
+    add-held
+    add-i
+    put-word-requires
+    add-k
+    loop-less
+    loop-again
+    loop-less-2
+    loop-again-2
+    put-rest-requires
+    same-length
+    returns)

@@ -1,0 +1,66 @@
+-- Indices of b bits in bytes and back, refusals included, in document 01's terms.
+-- 'Index i of b bits occupies bits i×b upward, least significant first; bit k is bit k mod 8 of byte k/8': the indices are the
+-- digits, base 2^b, of one number, and the bytes are its digits, base 256. Assumes nothing.
+use Prim.Native.Nat.{ℕ, _-_, _*_, _^_}
+use mathlib.Core.Bool.{Bool, _||_}
+use mathlib.Core.List.{List, [], _∷_}
+use lib.Dec.{leb, ltb}
+use lib.ListN.{length}
+use Rattle.error.specs.Answer.{Answer, value, refused, Check, check, first, each}
+use Rattle.digits.specs.Digits.{number, digits}
+use Rattle.bitpack.specs.Padding.{bytesFor, differs, wrongLength, wrongPadding}
+use Rattle.bitpack.specs.declared.Length.{Length}
+use Rattle.bitpack.specs.declared.Length.the-variants.{Bytes, Refused}
+
+-- what a `Length` says: a number of bytes, or a refusal
+abbrev pub saysLength : Length → Answer ℕ
+saysLength (Bytes n) = value n
+saysLength (Refused n p) = refused n p
+
+-- '1: bits outside 1..16 .. Place: the bits.'
+abbrev pub wrongWidth : ℕ → Check
+wrongWidth bits = check (ltb bits 1 || ltb 16 bits) 1 bits
+
+-- '19: count times bits exceeds the largest usize. Place 0.'
+abbrev pub overflow : ℕ → ℕ → Check
+overflow count bits = check (ltb (2 ^ 64 - 1) (count * bits)) 19 0
+
+-- '15: index at or above 2^bits. Place: its index'
+abbrev pub tooLarge : ℕ → ℕ → Bool
+tooLarge bits index = leb (2 ^ bits) index
+
+-- '6: an output buffer isn't exactly the needed length. Place: the needed length.'
+abbrev pub wrongRoom : ℕ → ℕ → Check
+wrongRoom room needed = check (differs room needed) 6 needed
+
+-- how many bytes so many indices of so many bits take
+unfoldable pub packedLen : ℕ → ℕ → Answer ℕ
+packedLen count bits =
+    first
+    (wrongWidth bits
+    ∷ overflow count bits
+    ∷ [])
+    (value (bytesFor (count * bits)))
+
+-- 'Packing: 1, 19, the items, then 6.' `room` is the output's length, and the value is what the output holds afterwards
+unfoldable pub packOf : List ℕ → ℕ → ℕ → Answer (List ℕ)
+packOf indices bits room =
+    first
+    (wrongWidth bits
+    ∷ overflow (length indices) bits
+    ∷ each (tooLarge bits) 15 indices
+    ∷ wrongRoom room (bytesFor (length indices * bits))
+    ∷ [])
+    (value (digits 256 (bytesFor (length indices * bits)) (number (2 ^ bits) indices)))
+
+-- 'Unpacking: 1, 19, 13, 14, then 6.' `room` is the output's length, and the value is what the output holds afterwards
+unfoldable pub unpackOf : List ℕ → ℕ → ℕ → ℕ → Answer (List ℕ)
+unpackOf packed count bits room =
+    first
+    (wrongWidth bits
+    ∷ overflow count bits
+    ∷ wrongLength packed (count * bits)
+    ∷ wrongPadding packed (count * bits)
+    ∷ wrongRoom room count
+    ∷ [])
+    (value (digits (2 ^ bits) count (number 256 packed)))

@@ -1,0 +1,39 @@
+-- How many bytes so many bits take, and when the bits past the last used one are not zero, in document 01's terms.
+-- 'The length is count × b / 8, rounded up.' '14: padding bits not zero. Place: that byte's index in its payload.'
+-- Assumes nothing.
+use Prim.Native.Nat.{ℕ, _+_, _-_, _/_, _%_, _^_}
+use mathlib.Core.Bool.{Bool, not, _&&_}
+use mathlib.Core.List.{List, [], _∷_}
+use lib.Dec.{eqb}
+use lib.ListN.{length, getD}
+use Rattle.error.specs.Answer.{Answer, value, Check, check, first}
+
+-- a number of bits, over 8, rounded up
+abbrev pub bytesFor : ℕ → ℕ
+bytesFor bits = (bits + 7) / 8
+
+-- whether two numbers are not equal
+abbrev pub differs : ℕ → ℕ → Bool
+differs a b = not (eqb a b)
+
+-- whether the last byte has a bit that is not zero from bit `used` mod 8 up; a byte that is used whole has no padding
+unfoldable pub padded : List ℕ → ℕ → Bool
+padded packed used =
+    differs (used % 8) 0 && differs (getD packed (length packed - 1) 0 / 2 ^ (used % 8)) 0
+
+-- '13: byte length wrong. Place: the length found.'
+abbrev pub wrongLength : List ℕ → ℕ → Check
+wrongLength packed used = check (differs (length packed) (bytesFor used)) 13 (length packed)
+
+-- '14: padding bits not zero. Place: that byte's index in its payload.'
+abbrev pub wrongPadding : List ℕ → ℕ → Check
+wrongPadding packed used = check (padded packed used) 14 (length packed - 1)
+
+-- bytes of which so many bits are used: 13, then 14, or nothing to say
+unfoldable pub paddingOf : List ℕ → ℕ → Answer (Unit {0})
+paddingOf packed used =
+    first
+    (wrongLength packed used
+    ∷ wrongPadding packed used
+    ∷ [])
+    (value tt)

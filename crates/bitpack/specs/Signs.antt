@@ -1,0 +1,50 @@
+-- Signs in bytes and back, refusals included, in document 01's terms. 'Sign +1 is bit 1, −1 is bit 0.' Assumes nothing.
+use Prim.Native.Nat.{ℕ}
+use mathlib.Core.Bool.{Bool, false, not, cond, _||_}
+use mathlib.Core.List.{List, [], _∷_, map}
+use lib.Dec.{eqb}
+use lib.IntN.{ℤ, pos, negsuc}
+use lib.ListN.{length}
+use Rattle.error.specs.Answer.{Answer, value, first, each}
+use Rattle.digits.specs.Digits.{number, digits}
+use Rattle.bitpack.specs.Padding.{bytesFor, wrongLength, wrongPadding}
+use Rattle.bitpack.specs.Packing.{wrongRoom}
+
+abbrev pub isPlus : ℤ → Bool
+isPlus (pos n) = eqb n 1
+isPlus (negsuc n) = false
+
+-- `negsuc n` is −(n + 1)
+abbrev pub isMinus : ℤ → Bool
+isMinus (pos n) = false
+isMinus (negsuc n) = eqb n 0
+
+-- '10: a sign is neither −1 nor 1. Place: its index.'
+abbrev pub notSign : ℤ → Bool
+notSign z = not (isPlus z || isMinus z)
+
+-- 'Sign +1 is bit 1, −1 is bit 0.'
+abbrev pub bitOf : ℤ → ℕ
+bitOf z = cond (isPlus z) 1 0
+
+abbrev pub signOf : ℕ → ℤ
+signOf bit = cond (eqb bit 1) (pos 1) (negsuc 0)
+
+-- 'Packing signs: 10.' 'In every call 6 comes after all input checks.' `room` is the output's length
+unfoldable pub packSignsOf : List ℤ → ℕ → Answer (List ℕ)
+packSignsOf signs room =
+    first
+    (each notSign 10 signs
+    ∷ wrongRoom room (bytesFor (length signs))
+    ∷ [])
+    (value (digits 256 (bytesFor (length signs)) (number 2 (map bitOf signs))))
+
+-- 'Unpacking signs: 13, 14.' 'In every call 6 comes after all input checks.' `room` is the output's length
+unfoldable pub unpackSignsOf : List ℕ → ℕ → ℕ → Answer (List ℤ)
+unpackSignsOf packed count room =
+    first
+    (wrongLength packed count
+    ∷ wrongPadding packed count
+    ∷ wrongRoom room count
+    ∷ [])
+    (value (map signOf (digits 2 count (number 256 packed))))

@@ -1,0 +1,427 @@
+// Bit packing of indices and signs. Ported from turbo-quant/src/bitpack.rs and changed: outputs are lent, refusals are numbers.
+// Packing order is little-endian within each byte: the first index starts at bit 0 of byte 0.
+use error::INVALID_BIT_WIDTH;
+use error::LENGTH_OVERFLOW;
+use error::MALFORMED_INDEX;
+use error::MALFORMED_LENGTH;
+use error::MALFORMED_PADDING;
+use error::MALFORMED_SIGN;
+use error::OUTPUT_LENGTH;
+use error::Outcome;
+ghost use Prim.Native.Nat.{_+_, _-_, _*_, _^_, _<_, _≤_};
+ghost use mathlib.Core.Path.{_≡_};
+ghost use mathlib.Core.List.{_++_, map};
+ghost use lib.ListN.{length, take, drop};
+ghost use Rattle.error.specs.Answer.{place, done, after};
+ghost use Rattle.error.specs.Outcomes.{says};
+ghost use Rattle.digits.specs.Digits.{number, digits};
+ghost use Rattle.bitpack.specs.Padding.{bytesFor, paddingOf};
+ghost use Rattle.bitpack.specs.Signs.{notSign, bitOf, signOf, packSignsOf, unpackSignsOf};
+ghost use Rattle.bitpack.specs.Asked.{Packable, Unpackable, Refillable, Refilled};
+ghost use Rattle.bitpack.specs.Packing.{packedLen, saysLength, tooLarge, packOf, unpackOf};
+
+// A number of bytes, or a refusal.
+pub enum Length {
+    Bytes(usize),
+    Refused { number: u32, place: usize },
+}
+
+// Bits that were read and not yet handed out, and the next byte to read.
+struct Window {
+    acc: u64,
+    held: u64,
+    at: usize,
+}
+
+// The number of bytes that `count` indices of `bits` bits each take.
+pub fn packed_len(count: usize, bits: u8) -> Length
+    ensures { λ r. ⌜ saysLength r ≡ packedLen count bits ⌝ }
+{
+    if bits < 1 || 16 < bits {
+        return Length::Refused {
+            number: INVALID_BIT_WIDTH,
+            place: bits as usize,
+        };
+    }
+    let width = bits as usize;
+    if usize::MAX / width < count {
+        return Length::Refused {
+            number: LENGTH_OVERFLOW,
+            place: 0,
+        };
+    }
+    let total = count * width;
+    Length::Bytes(total / 8 + (total % 8 + 7) / 8)
+}
+
+// Packs the indices, each of which must fit in `bits` bits, into exactly the bytes that they need.
+pub fn pack_indices(indices: &[u16], bits: u8, out: &mut [u8]) -> Outcome
+    ensures said { λ r. ⌜ says r ≡ done (packOf (now (indices .entry)) bits (length (now (out .entry)))) ⌝ }
+    ensures left { λ r. ⌜ now (out .exit) ≡ after (packOf (now (indices .entry)) bits (length (now (out .entry)))) (now (out .entry)) ⌝ }
+{
+    let need = match packed_len(indices.len(), bits) {
+        Length::Bytes(n) => n,
+        Length::Refused { number, place } => {
+            return Outcome::Refused { number, place };
+        }
+    };
+    let bad = first_large(indices, bits);
+    if bad < indices.len() {
+        return Outcome::Refused {
+            number: MALFORMED_INDEX,
+            place: bad,
+        };
+    }
+    if out.len() != need {
+        return Outcome::Refused {
+            number: OUTPUT_LENGTH,
+            place: need,
+        };
+    }
+    pack_words(indices, bits, out);
+    Outcome::Done
+}
+
+// Unpacks `count` indices of `bits` bits each.
+pub fn unpack_indices(packed: &[u8], count: usize, bits: u8, out: &mut [u16]) -> Outcome
+    ensures said { λ r. ⌜ says r ≡ done (unpackOf (now (packed .entry)) count bits (length (now (out .entry)))) ⌝ }
+    ensures left { λ r. ⌜ now (out .exit) ≡ after (unpackOf (now (packed .entry)) count bits (length (now (out .entry)))) (now (out .entry)) ⌝ }
+{
+    if let Length::Refused { number, place } = packed_len(count, bits) {
+        return Outcome::Refused { number, place };
+    }
+    let used = count * bits as usize;
+    if let Outcome::Refused { number, place } = validate_padding_zero(packed, used) {
+        return Outcome::Refused { number, place };
+    }
+    if out.len() != count {
+        return Outcome::Refused {
+            number: OUTPUT_LENGTH,
+            place: count,
+        };
+    }
+    unpack_words(packed, bits, out);
+    Outcome::Done
+}
+
+// Packs signs, each -1 or 1, into exactly the bytes that they need: bit 1 is +1, bit 0 is -1.
+pub fn pack_signs(signs: &[i8], out: &mut [u8]) -> Outcome
+    ensures said { λ r. ⌜ says r ≡ done (packSignsOf (now (signs .entry)) (length (now (out .entry)))) ⌝ }
+    ensures left { λ r. ⌜ now (out .exit) ≡ after (packSignsOf (now (signs .entry)) (length (now (out .entry)))) (now (out .entry)) ⌝ }
+{
+    let stray = first_no_sign(signs);
+    if stray < signs.len() {
+        return Outcome::Refused {
+            number: MALFORMED_SIGN,
+            place: stray,
+        };
+    }
+    let bytes = signs.len() / 8 + (signs.len() % 8 + 7) / 8;
+    if out.len() != bytes {
+        return Outcome::Refused {
+            number: OUTPUT_LENGTH,
+            place: bytes,
+        };
+    }
+    pack_sign_bytes(signs, out);
+    Outcome::Done
+}
+
+// Unpacks `count` signs.
+pub fn unpack_signs(packed: &[u8], count: usize, out: &mut [i8]) -> Outcome
+    ensures said { λ r. ⌜ says r ≡ done (unpackSignsOf (now (packed .entry)) count (length (now (out .entry)))) ⌝ }
+    ensures left { λ r. ⌜ now (out .exit) ≡ after (unpackSignsOf (now (packed .entry)) count (length (now (out .entry)))) (now (out .entry)) ⌝ }
+{
+    if let Outcome::Refused { number, place } = validate_padding_zero(packed, count) {
+        return Outcome::Refused { number, place };
+    }
+    if out.len() != count {
+        return Outcome::Refused {
+            number: OUTPUT_LENGTH,
+            place: count,
+        };
+    }
+    unpack_sign_bytes(packed, out);
+    Outcome::Done
+}
+
+// Whether the length is right and all bits from `used_bits` up are zero.
+pub fn validate_padding_zero(packed: &[u8], used_bits: usize) -> Outcome
+    ensures { λ r. ⌜ says r ≡ paddingOf (now (packed .entry)) «used_bits» ⌝ }
+{
+    let used_bytes = used_bits / 8 + (used_bits % 8 + 7) / 8;
+    if packed.len() != used_bytes {
+        return Outcome::Refused {
+            number: MALFORMED_LENGTH,
+            place: packed.len(),
+        };
+    }
+    let used_in_last = used_bits % 8;
+    if used_in_last == 0 {
+        return Outcome::Done;
+    }
+    let last = packed.len() - 1;
+    if packed[last] >> used_in_last != 0 {
+        return Outcome::Refused {
+            number: MALFORMED_PADDING,
+            place: last,
+        };
+    }
+    Outcome::Done
+}
+
+// The place of the first index that does not fit in `bits` bits, or how many there are.
+fn first_large(indices: &[u16], bits: u8) -> usize
+    requires { ⌜ bits ≤ 16 ⌝ }
+    ensures { λ r. ⌜ r ≡ place (tooLarge bits) (now (indices .entry)) ⌝ }
+{
+    let levels = 1u32 << bits;
+    let mut i = 0;
+    while i < indices.len() {
+        if levels <= indices[i] as u32 {
+            return i;
+        }
+        i += 1;
+    }
+    i
+}
+
+// Writes indices that have passed every check. Bits are gathered in `acc`, lowest first, and leave it four bytes at a time.
+fn pack_words(indices: &[u16], bits: u8, out: &mut [u8])
+    requires { ⌜ Packable (now indices) bits (length (now out)) ⌝ }
+    ensures { λ r. ⌜ now (out .exit) ≡ digits 256 (length (now (out .entry))) (number (2 ^ bits) (now (indices .entry))) ⌝ }
+{
+    let width = bits as u64;
+    let mut acc: u64 = 0;
+    let mut held: u64 = 0;
+    let mut i = 0;
+    let mut k = 0;
+    while i < indices.len() {
+        acc += (indices[i] as u64) << held;
+        held += width;
+        i += 1;
+        if 32 <= held {
+            put_word(out, k, acc);
+            k += 4;
+            acc = acc >> 32;
+            held -= 32;
+        }
+    }
+    put_rest(out, k, acc);
+}
+
+// Four bytes at `at`: the lowest four of `word`.
+fn put_word(out: &mut [u8], at: usize, word: u64)
+    requires { ⌜ at + 4 ≤ length (now out) ⌝ }
+    ensures { λ r. ⌜ now (out .exit) ≡ take at (now (out .entry)) ++ digits 256 4 word ++ drop (at + 4) (now (out .entry)) ⌝ }
+{
+    out[at] = (word % 256) as u8;
+    out[at + 1] = (word / 256 % 256) as u8;
+    out[at + 2] = (word / 256 / 256 % 256) as u8;
+    out[at + 3] = (word / 256 / 256 / 256 % 256) as u8;
+}
+
+// All bytes from `from` on: the lowest of `rest`.
+fn put_rest(out: &mut [u8], from: usize, rest: u64)
+    requires { ⌜ from ≤ length (now out) ⌝ }
+    ensures { λ r. ⌜ now (out .exit) ≡ take from (now (out .entry)) ++ digits 256 (length (now (out .entry)) - from) rest ⌝ }
+{
+    let mut acc = rest;
+    let mut k = from;
+    while k < out.len() {
+        out[k] = (acc % 256) as u8;
+        acc = acc / 256;
+        k += 1;
+    }
+}
+
+// Writes the lowest `bits` bits again and again, from bytes that hold enough of them.
+fn unpack_words(packed: &[u8], bits: u8, out: &mut [u16])
+    requires { ⌜ Unpackable (now packed) bits (length (now out)) ⌝ }
+    ensures { λ r. ⌜ now (out .exit) ≡ digits (2 ^ bits) (length (now (out .entry))) (number 256 (now (packed .entry))) ⌝ }
+{
+    let width = bits as u64;
+    let mask = (1u64 << width) - 1;
+    let mut acc: u64 = 0;
+    let mut held: u64 = 0;
+    let mut at = 0;
+    let mut i = 0;
+    while i < out.len() {
+        let filled = refill(packed, width, acc, held, at);
+        out[i] = (filled.acc & mask) as u16;
+        acc = filled.acc >> width;
+        held = filled.held - width;
+        at = filled.at;
+        i += 1;
+    }
+}
+
+// Reads on until at least `width` bits are held: four bytes at once where there are four.
+fn refill(packed: &[u8], width: u64, acc: u64, held: u64, at: usize) -> Window
+    requires { ⌜ Refillable (now packed) width acc held at ⌝ }
+    ensures { λ r. ⌜ Refilled (now (packed .entry)) width acc held at (r .acc) (r .held) (r .at) ⌝ }
+{
+    if width <= held {
+        return Window { acc, held, at };
+    }
+    if 4 <= packed.len() - at {
+        let word = get_word(packed, at);
+        return Window {
+            acc: acc + (word << held),
+            held: held + 32,
+            at: at + 4,
+        };
+    }
+    refill_bytes(packed, width, acc, held, at)
+}
+
+// The four bytes at `at` as a number.
+fn get_word(packed: &[u8], at: usize) -> u64
+    requires { ⌜ at + 4 ≤ length (now packed) ⌝ }
+    ensures { λ r. ⌜ (r ≡ number 256 (take 4 (drop at (now (packed .entry))))) × (r < 2 ^ 32) ⌝ }
+{
+    let a = packed[at] as u64;
+    let b = packed[at + 1] as u64;
+    let c = packed[at + 2] as u64;
+    let d = packed[at + 3] as u64;
+    a + 256 * (b + 256 * (c + 256 * d))
+}
+
+// Reads on byte by byte until at least `width` bits are held.
+fn refill_bytes(packed: &[u8], width: u64, had: u64, before: u64, from: usize) -> Window
+    requires { ⌜ Refillable (now packed) width had before from ⌝ }
+    ensures { λ r. ⌜ Refilled (now (packed .entry)) width had before from (r .acc) (r .held) (r .at) ⌝ }
+{
+    let mut acc = had;
+    let mut held = before;
+    let mut at = from;
+    while held < width {
+        acc += (packed[at] as u64) << held;
+        held += 8;
+        at += 1;
+    }
+    Window { acc, held, at }
+}
+
+// Whether a number is neither -1 nor 1.
+fn no_sign(sign: i8) -> bool
+    ensures { λ r. ⌜ r ≡ notSign sign ⌝ }
+{
+    if sign == 1 {
+        return false;
+    }
+    sign != -1
+}
+
+// The place of the first number that is neither -1 nor 1, or how many there are.
+fn first_no_sign(signs: &[i8]) -> usize
+    ensures { λ r. ⌜ r ≡ place notSign (now (signs .entry)) ⌝ }
+{
+    let mut i = 0;
+    while i < signs.len() {
+        if no_sign(signs[i]) {
+            return i;
+        }
+        i += 1;
+    }
+    i
+}
+
+// The bit of a sign.
+fn bit(sign: i8) -> u8
+    ensures { λ r. ⌜ (r ≡ bitOf sign) × (r < 2) ⌝ }
+{
+    if sign == 1 { 1 } else { 0 }
+}
+
+// The sign of a bit.
+fn sign(bit: u8) -> i8
+    ensures { λ r. ⌜ r ≡ signOf bit ⌝ }
+{
+    if bit == 1 { 1 } else { -1 }
+}
+
+// Writes signs that have passed every check, eight to a byte.
+fn pack_sign_bytes(signs: &[i8], out: &mut [u8])
+    requires { ⌜ length (now out) ≡ bytesFor (length (now signs)) ⌝ }
+    ensures { λ r. ⌜ now (out .exit) ≡ digits 256 (length (now (out .entry))) (number 2 (map bitOf (now (signs .entry)))) ⌝ }
+{
+    let full = signs.len() / 8;
+    let mut k = 0;
+    while k < full {
+        out[k] = get_signs(signs, 8 * k) + 16 * get_signs(signs, 8 * k + 4);
+        k += 1;
+    }
+    if k < out.len() {
+        out[k] = get_last_signs(signs, 8 * k);
+    }
+}
+
+// The bits of four signs as a number.
+fn get_signs(signs: &[i8], at: usize) -> u8
+    requires { ⌜ at + 4 ≤ length (now signs) ⌝ }
+    ensures { λ r. ⌜ (r ≡ number 2 (take 4 (drop at (map bitOf (now (signs .entry)))))) × (r < 16) ⌝ }
+{
+    let a = bit(signs[at]);
+    let b = bit(signs[at + 1]);
+    let c = bit(signs[at + 2]);
+    let d = bit(signs[at + 3]);
+    a + 2 * (b + 2 * (c + 2 * d))
+}
+
+// The bits of all signs from `from` on as a number.
+fn get_last_signs(signs: &[i8], from: usize) -> u8
+    requires { ⌜ (from ≤ length (now signs)) × (length (now signs) < from + 8) ⌝ }
+    ensures { λ r. ⌜ r ≡ number 2 (drop from (map bitOf (now (signs .entry)))) ⌝ }
+{
+    let mut bits: u8 = 0;
+    let mut i = signs.len();
+    while from < i {
+        i -= 1;
+        bits = 2 * bits + bit(signs[i]);
+    }
+    bits
+}
+
+// Writes signs from bytes that hold enough of them, eight from a byte.
+fn unpack_sign_bytes(packed: &[u8], out: &mut [i8])
+    requires { ⌜ length (now out) ≤ 8 * length (now packed) ⌝ }
+    ensures { λ r. ⌜ now (out .exit) ≡ map signOf (digits 2 (length (now (out .entry))) (number 256 (now (packed .entry)))) ⌝ }
+{
+    let full = out.len() / 8;
+    let mut k = 0;
+    while k < full {
+        let byte = packed[k];
+        put_signs(out, 8 * k, byte);
+        put_signs(out, 8 * k + 4, byte / 16);
+        k += 1;
+    }
+    if 8 * k < out.len() {
+        put_last_signs(out, 8 * k, packed[k]);
+    }
+}
+
+// Four signs at `at`, of the lowest four bits.
+fn put_signs(out: &mut [i8], at: usize, bits: u8)
+    requires { ⌜ at + 4 ≤ length (now out) ⌝ }
+    ensures { λ r. ⌜ now (out .exit) ≡ take at (now (out .entry)) ++ map signOf (digits 2 4 bits) ++ drop (at + 4) (now (out .entry)) ⌝ }
+{
+    out[at] = sign(bits % 2);
+    out[at + 1] = sign(bits / 2 % 2);
+    out[at + 2] = sign(bits / 2 / 2 % 2);
+    out[at + 3] = sign(bits / 2 / 2 / 2 % 2);
+}
+
+// All signs from `from` on, of the lowest bits.
+fn put_last_signs(out: &mut [i8], from: usize, last: u8)
+    requires { ⌜ from ≤ length (now out) ⌝ }
+    ensures { λ r. ⌜ now (out .exit) ≡ take from (now (out .entry)) ++ map signOf (digits 2 (length (now (out .entry)) - from) last) ⌝ }
+{
+    let mut bits = last;
+    let mut i = from;
+    while i < out.len() {
+        out[i] = sign(bits % 2);
+        bits = bits / 2;
+        i += 1;
+    }
+}
