@@ -1,0 +1,89 @@
+-- `ScalarCodebook` in document 01's terms: what each call answers, refusals included, with each float step rounded once, in the Rust's order.
+-- 'Every codebook call: 1, 17, then its value.' Assumes nothing.
+use Prim.Native.Nat.{ℕ, _-_, _^_, min}
+use mathlib.Core.Bool.{not, cond, _||_}
+use mathlib.Core.List.{[], _∷_}
+use lib.Dec.{leb, ltb}
+use lib.IntN.{pos}
+use lib.Ieee.{Float, binary32, add, sub, mul, div, lt, le, ofInt, ofBits}
+use lib.Ieee.Scale.{finite}
+use Rattle.error.specs.Answer.{Answer, value, Check, check, first}
+use Rattle.float.specs.Rounding.{floorUnsigned}
+use Rattle.codebook.specs.declared.ScalarCodebook.{ScalarCodebook}
+
+-- '1: bits outside 1..16. Place: the bits.'
+abbrev pub wrongBits : ℕ → Check
+wrongBits bits = check (ltb bits 1 || ltb 16 bits) 1 bits
+
+-- '17: a bound not finite, or min above max; for a codebook also min equal to max. Place 0.'
+abbrev pub wrongBounds : Float → Float → Check
+wrongBounds lo hi = check (not (finite lo) || not (finite hi) || le hi lo) 17 0
+
+-- '11: a value is not finite.'
+abbrev pub wrongValue : Float → Check
+wrongValue x = check (not (finite x)) 11 0
+
+-- '15: index at or above 2^bits. Place: its index; for a codebook or a single angle, 0.'
+abbrev pub wrongIndex : ℕ → ℕ → Check
+wrongIndex bits index = check (leb (2 ^ bits) index) 15 0
+
+-- Rust's `f32::clamp`: what is below lo is lo, and then what is above hi is hi
+unfoldable pub clamped : Float → Float → Float → Float
+clamped lo hi x = let y = cond (lt x lo) lo x in cond (lt hi y) hi y
+
+-- how many levels so many bits have, as a float
+abbrev pub levelsFloat : ℕ → Float
+levelsFloat bits = ofInt binary32 (pos (2 ^ bits))
+
+-- the level of a value: ((clipped − min) / (max − min)) × levels, cut to a whole number and at most the last; a NaN gives 0
+unfoldable pub levelOf : ℕ → Float → Float → Float → ℕ
+levelOf bits lo hi x =
+    min
+    (floorUnsigned 32 (mul binary32 (div binary32 (sub binary32 (clamped lo hi x) lo) (sub binary32 hi lo)) (levelsFloat bits)))
+    (2 ^ bits - 1)
+
+-- the middle of a level: min + (index + 0.5) × ((max − min) / levels); 3F000000 is 0.5
+unfoldable pub middleOf : ℕ → Float → Float → ℕ → Float
+middleOf bits lo hi index =
+    add binary32 lo
+    (mul binary32
+    (add binary32 (ofInt binary32 (pos index)) (ofBits binary32 0x3F00_0000))
+    (div binary32 (sub binary32 hi lo) (levelsFloat bits)))
+
+-- what every call asks of its codebook
+unfoldable pub checkOf : ℕ → Float → Float → Answer (Unit {0})
+checkOf bits lo hi = first (wrongBits bits ∷ wrongBounds lo hi ∷ []) (value tt)
+
+unfoldable pub uniformOf : ℕ → Float → Float → Answer ScalarCodebook
+uniformOf bits lo hi =
+    first
+    (wrongBits bits
+    ∷ wrongBounds lo hi
+    ∷ [])
+    (value (record { bits = bits; min = lo; max = hi }))
+
+unfoldable pub levelsOf : ℕ → Float → Float → Answer ℕ
+levelsOf bits lo hi =
+    first
+    (wrongBits bits
+    ∷ wrongBounds lo hi
+    ∷ [])
+    (value (2 ^ bits))
+
+unfoldable pub quantizeOf : ℕ → Float → Float → Float → Answer ℕ
+quantizeOf bits lo hi x =
+    first
+    (wrongBits bits
+    ∷ wrongBounds lo hi
+    ∷ wrongValue x
+    ∷ [])
+    (value (levelOf bits lo hi x))
+
+unfoldable pub midpointOf : ℕ → Float → Float → ℕ → Answer Float
+midpointOf bits lo hi index =
+    first
+    (wrongBits bits
+    ∷ wrongBounds lo hi
+    ∷ wrongIndex bits index
+    ∷ [])
+    (value (middleOf bits lo hi index))

@@ -1,0 +1,2 @@
+pub mod Codebook
+pub mod Says

@@ -1,0 +1,95 @@
+-- What an accepted input has: radii that compress takes, or that decompress reads as F32, are finite, no NaN and not below zero;
+-- the bytes and the radii are then those of the definitions. Assumes nothing.
+use Prim.Native.Nat.{ℕ, zero, suc, _*_, _<_}
+use mathlib.Core.Path.{_≡_, refl}
+use mathlib.Core.Bool.{Bool, true, false}
+use mathlib.Core.List.{List, [], _∷_, map}
+use native.Mathlib.Omega.{arith}
+use borrow.Author.Tests.{ltb-false, eqb-true, not-false}
+use lib.ListN.{length, getD}
+use lib.Ieee.{Float, nan, isNan, lt}
+use lib.Ieee.Scale.{finite}
+use Rattle.error.specs.Answer.{Answer, value, Check, check, first, place}
+use Rattle.error.proofs.Places.{place-le, place-passed}
+use Rattle.float.specs.Bytes.{ofLeBytes}
+use Rattle.radius.specs.Chunks.{chunks}
+use Rattle.radius.specs.Radii.{zeroFloat, badRadius}
+use Rattle.radius.specs.Codec.{widthOf, compressChecks, bytesFor, compressedBytes, decompressChecks, radiiFor, decompressOf}
+use Rattle.radius.proofs.Radii.{radius-finite, radius-not-nan, radius-not-below}
+use Rattle.radius.specs.declared.Range.{Range}
+use Rattle.radius.specs.declared.RadiusCodecProfileV1.{RadiusCodecProfileV1}
+use Rattle.radius.specs.declared.RadiusCodecProfileV1.the-variants.{F32}
+
+abbrev offends : Check → Bool
+offends (check b n p) = b
+
+module _ {A : Type 0} {x : A} where
+  -- where there is a value no check offended
+  no-offence : (cs : List Check) (a : Answer A) → first cs a ≡ value x → (k : ℕ) → offends (getD cs k (check false 0 0)) ≡ false
+  no-offence [] a e k = refl
+  no-offence (check true n p ∷ cs) a e k = let z : _≡_ {A = ℕ} 0 1 = cc in absurd (omega arith)
+  no-offence (check false n p ∷ cs) a e zero = refl
+  no-offence (check false n p ∷ cs) a e (suc k) = no-offence cs a e k
+
+  -- and it is the value that was given
+  value-kept : (cs : List Check) (y : A) → first cs (value y) ≡ value x → x ≡ y
+  value-kept [] y e = cc
+  value-kept (check true n p ∷ cs) y e = let z : _≡_ {A = ℕ} 0 1 = cc in absurd (omega arith)
+  value-kept (check false n p ∷ cs) y e = value-kept cs y e
+
+-- ---- what compress accepts
+
+module _ (radii : List Float) (profile : RadiusCodecProfileV1) (room : ℕ) (bytes : List ℕ) (made : compressedBytes radii profile room ≡ value bytes) where
+  pub compressed-place : place badRadius radii ≡ length radii
+  unfolding compressedBytes
+  compressed-place = let h = ltb-false (place badRadius radii) (length radii) (no-offence (compressChecks radii profile room) (value (bytesFor profile radii)) made 0) in let k = place-le badRadius radii in omega (arith, h, k)
+
+  pub compressed-room : room ≡ widthOf profile * length radii
+  unfolding compressedBytes
+  compressed-room = eqb-true _ _ (not-false _ (no-offence (compressChecks radii profile room) (value (bytesFor profile radii)) made 2))
+
+  pub compressed-is : bytes ≡ bytesFor profile radii
+  unfolding compressedBytes
+  compressed-is = value-kept (compressChecks radii profile room) (bytesFor profile radii) made
+
+  pub compressed-radius : (i : ℕ) → i < length radii → badRadius (getD radii i nan) ≡ false
+  compressed-radius i h = place-passed badRadius radii nan compressed-place i h
+
+  pub compressed-finite : (i : ℕ) → i < length radii → finite (getD radii i nan) ≡ true
+  compressed-finite i h = radius-finite (getD radii i nan) (compressed-radius i h)
+
+  pub compressed-not-nan : (i : ℕ) → i < length radii → isNan (getD radii i nan) ≡ false
+  compressed-not-nan i h = radius-not-nan (getD radii i nan) (compressed-radius i h)
+
+  pub compressed-not-below : (i : ℕ) → i < length radii → lt (getD radii i nan) zeroFloat ≡ false
+  compressed-not-below i h = radius-not-below (getD radii i nan) (compressed-radius i h)
+
+-- ---- what decompress reads as F32
+
+module _ (count : ℕ) (range : Range) (payload : List ℕ) (room : ℕ) (radii : List Float) (read : decompressOf F32 count range payload room ≡ value radii) where
+  pub decompressed-length : length payload ≡ 4 * count
+  unfolding decompressOf
+  decompressed-length = eqb-true _ _ (not-false _ (no-offence (decompressChecks F32 count range payload room) (value (radiiFor F32 count range payload)) read 1))
+
+  pub decompressed-is : radii ≡ map ofLeBytes (chunks 4 count payload)
+  unfolding decompressOf
+  decompressed-is = value-kept (decompressChecks F32 count range payload room) (radiiFor F32 count range payload) read
+
+  pub decompressed-place : place badRadius radii ≡ length radii
+  unfolding decompressOf
+  decompressed-place =
+      let floats = map ofLeBytes (chunks 4 count payload) in
+      let h = ltb-false (place badRadius floats) (length floats) (no-offence (decompressChecks F32 count range payload room) (value (radiiFor F32 count range payload)) read 2) in
+      rw decompressed-is (let k = place-le badRadius (map ofLeBytes (chunks 4 count payload)) in omega (arith, h, k))
+
+  pub decompressed-radius : (i : ℕ) → i < length radii → badRadius (getD radii i nan) ≡ false
+  decompressed-radius i h = place-passed badRadius radii nan decompressed-place i h
+
+  pub decompressed-finite : (i : ℕ) → i < length radii → finite (getD radii i nan) ≡ true
+  decompressed-finite i h = radius-finite (getD radii i nan) (decompressed-radius i h)
+
+  pub decompressed-not-nan : (i : ℕ) → i < length radii → isNan (getD radii i nan) ≡ false
+  decompressed-not-nan i h = radius-not-nan (getD radii i nan) (decompressed-radius i h)
+
+  pub decompressed-not-below : (i : ℕ) → i < length radii → lt (getD radii i nan) zeroFloat ≡ false
+  decompressed-not-below i h = radius-not-below (getD radii i nan) (decompressed-radius i h)

@@ -1,0 +1,8 @@
+pub mod Radii
+pub mod Chunks
+pub mod Stores
+pub mod Fill
+pub mod Refusals
+pub mod Accepted
+pub mod RoundTrip
+pub mod Examples

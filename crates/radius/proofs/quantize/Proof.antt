@@ -1,0 +1,22 @@
+-- `radius::quantize` meets its contract: the definition's steps, one by one. Assumes nothing.
+use mathlib.Core.Path.{ap, _∙_}
+use borrow.Author.Needs.{needs}
+use lib.Ieee.{Float, binary32, mul}
+use Rattle.float.specs.Rounding.{roundUnsigned}
+use Rattle.radius.specs.Radii.{mostFloat}
+use Rattle.radius.specs.Linear.{quantized}
+use Rattle.radius.proofs.quantize.Statement.{statement}
+use Rattle.radius.proofs.quantize.Tie as tie
+
+clamp-requires : tie.Need-clamp-requires
+clamp-requires c κs = search needs
+
+round-u16-requires : tie.Need-round-u16-requires
+round-u16-requires c κs = search needs
+
+returns : tie.Need-returns
+unfolding quantized
+returns c = c .round-u16 .ensures ∙ ap (λ (x : Float). roundUnsigned 16 (mul binary32 x mostFloat)) (c .before .clamp .ensures)
+
+pub quantize-spec : {M : Type 1} → statement M
+quantize-spec = tie.close (tie.spec clamp-requires round-u16-requires returns)

@@ -1,0 +1,103 @@
+-- Radii in bytes and back under a profile, refusals included, in document 01's terms. Assumes nothing.
+use Prim.Native.Nat.{ℕ, _+_, _*_}
+use mathlib.Core.Bool.{Bool, true, false, not}
+use mathlib.Core.List.{List, [], _∷_, map, flatMap}
+use lib.Dec.{eqb}
+use lib.ListN.{length}
+use lib.Ieee.{Float}
+use Rattle.error.specs.Answer.{Answer, value, Check, check, first, each}
+use Rattle.float.specs.Bytes.{ofLeBytes, toLeBytes}
+use Rattle.radius.specs.Chunks.{chunks}
+use Rattle.radius.specs.Radii.{zeroFloat, badRadius, badRange, rangeOf}
+use Rattle.radius.specs.Linear.{linearBytes, linearRadius}
+use Rattle.radius.specs.declared.Range.{Range}
+use Rattle.radius.specs.declared.RadiusCodecProfileV1.{RadiusCodecProfileV1}
+use Rattle.radius.specs.declared.RadiusCodecProfileV1.the-variants.{F32, BlockLinearU16, BlockLogU8}
+
+abbrev pub differs : ℕ → ℕ → Bool
+differs a b = not (eqb a b)
+
+-- '18: profile BlockLogU8. Place 0.'
+abbrev pub isLog : RadiusCodecProfileV1 → Bool
+isLog F32 = false
+isLog BlockLinearU16 = false
+isLog BlockLogU8 = true
+
+-- how many bytes a radius takes
+abbrev pub widthOf : RadiusCodecProfileV1 → ℕ
+widthOf F32 = 4
+widthOf BlockLinearU16 = 2
+widthOf BlockLogU8 = 1
+
+-- '6: an output buffer isn't exactly the needed length. Place: the needed length.'
+abbrev pub wrongRoom : ℕ → ℕ → Check
+wrongRoom room needed = check (differs room needed) 6 needed
+
+-- '13: byte length wrong. Place: the length found.'
+abbrev pub wrongLength : RadiusCodecProfileV1 → ℕ → List ℕ → Check
+wrongLength profile count payload = check (differs (length payload) (widthOf profile * count)) 13 (length payload)
+
+-- ---- compress: 'F32 copies the four little-endian bytes; −0.0 is kept.' 'BlockLinearU16 holds a range of two floats'
+
+-- 'Compress: 16, 18', and 6 after all input checks. `room` is the output's length
+abbrev pub compressChecks : List Float → RadiusCodecProfileV1 → ℕ → List Check
+compressChecks radii profile room =
+    each badRadius 16 radii
+    ∷ check (isLog profile) 18 0
+    ∷ wrongRoom room (widthOf profile * length radii)
+    ∷ []
+
+-- the range that goes with the bytes; F32 has none, and gives 0, 0
+abbrev pub rangeFor : RadiusCodecProfileV1 → List Float → Range
+rangeFor F32 radii = record { min = zeroFloat; max = zeroFloat }
+rangeFor BlockLinearU16 radii = rangeOf radii
+rangeFor BlockLogU8 radii = record { min = zeroFloat; max = zeroFloat }
+
+-- the bytes of all radii, one after the other; BlockLogU8 is refused before
+abbrev pub bytesFor : RadiusCodecProfileV1 → List Float → List ℕ
+bytesFor F32 radii = flatMap toLeBytes radii
+bytesFor BlockLinearU16 radii = flatMap (linearBytes (rangeOf radii)) radii
+bytesFor BlockLogU8 radii = []
+
+unfoldable pub compressedRange : List Float → RadiusCodecProfileV1 → ℕ → Answer Range
+compressedRange radii profile room = first (compressChecks radii profile room) (value (rangeFor profile radii))
+
+unfoldable pub compressedBytes : List Float → RadiusCodecProfileV1 → ℕ → Answer (List ℕ)
+compressedBytes radii profile room = first (compressChecks radii profile room) (value (bytesFor profile radii))
+
+-- ---- decompress
+
+-- the radii that so many parts of a payload stand for
+abbrev pub radiiFor : RadiusCodecProfileV1 → ℕ → Range → List ℕ → List Float
+radiiFor F32 count range payload = map ofLeBytes (chunks 4 count payload)
+radiiFor BlockLinearU16 count range payload = map (linearRadius range) (chunks 2 count payload)
+radiiFor BlockLogU8 count range payload = []
+
+-- 'then 17 for linear only, 16 for F32 only'
+abbrev pub wrongContent : RadiusCodecProfileV1 → ℕ → Range → List ℕ → Check
+wrongContent F32 count range payload = each badRadius 16 (map ofLeBytes (chunks 4 count payload))
+wrongContent BlockLinearU16 count range payload = check (badRange range) 17 0
+wrongContent BlockLogU8 count range payload = check false 18 0
+
+-- 'Decompress: 18, 13 (also where the length passes usize), then 17 for linear only, 16 for F32 only', and 6 after all input checks.
+-- A length here is any natural number. `room` is the output's length
+abbrev pub decompressChecks : RadiusCodecProfileV1 → ℕ → Range → List ℕ → ℕ → List Check
+decompressChecks profile count range payload room =
+    check (isLog profile) 18 0
+    ∷ wrongLength profile count payload
+    ∷ wrongContent profile count range payload
+    ∷ wrongRoom room count
+    ∷ []
+
+unfoldable pub decompressOf : RadiusCodecProfileV1 → ℕ → Range → List ℕ → ℕ → Answer (List Float)
+decompressOf profile count range payload room = first (decompressChecks profile count range payload room) (value (radiiFor profile count range payload))
+
+-- ---- the bytes of a payload with what has to go with it: BlockLinearU16 has two floats more
+
+abbrev pub besides : RadiusCodecProfileV1 → ℕ
+besides F32 = 0
+besides BlockLinearU16 = 8
+besides BlockLogU8 = 8
+
+unfoldable pub encodedBytes : RadiusCodecProfileV1 → List ℕ → Answer ℕ
+encodedBytes profile payload = first (check (isLog profile) 18 0 ∷ []) (value (length payload + besides profile))

@@ -1,0 +1,41 @@
+-- Radii as floats: which are refused, and the range of a list of them, in document 01's terms. Assumes nothing.
+use mathlib.Core.Bool.{Bool, not, cond, _||_}
+use mathlib.Core.List.{List, [], _∷_}
+use lib.Ieee.{Float, binary32, ofBits, lt}
+use lib.Ieee.Scale.{finite}
+use Rattle.radius.specs.declared.Range.{Range}
+
+-- 0.0, 1.0, 65535.0 and 2^−23 by their patterns
+abbrev pub zeroFloat : Float
+zeroFloat = ofBits binary32 0x0000_0000
+
+abbrev pub oneFloat : Float
+oneFloat = ofBits binary32 0x3F80_0000
+
+abbrev pub mostFloat : Float
+mostFloat = ofBits binary32 0x477F_FF00
+
+abbrev pub floorFloat : Float
+floorFloat = ofBits binary32 0x3400_0000
+
+-- '16: a radius is NaN, infinite or below zero.' −0.0 is not below zero
+abbrev pub badRadius : Float → Bool
+badRadius r = not (finite r) || lt r zeroFloat
+
+-- '17: a bound not finite, or min above max'. Negative ranges pass
+abbrev pub badRange : Range → Bool
+badRange range = not (finite (range .min)) || not (finite (range .max)) || lt (range .max) (range .min)
+
+-- 'An equal value doesn't replace the earlier one': the least and the greatest of a value and those after it
+unfoldable pub least : Float → List Float → Float
+least m [] = m
+least m (r ∷ rs) = least (cond (lt r m) r m) rs
+
+unfoldable pub greatest : Float → List Float → Float
+greatest m [] = m
+greatest m (r ∷ rs) = greatest (cond (lt m r) r m) rs
+
+-- 'no radii give 0, 0'
+unfoldable pub rangeOf : List Float → Range
+rangeOf [] = record { min = zeroFloat; max = zeroFloat }
+rangeOf (r ∷ rs) = record { min = least r rs; max = greatest r rs }

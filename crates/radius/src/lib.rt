@@ -1,0 +1,385 @@
+// Radius compression profiles. Ported from turbo-quant/src/radius.rs and changed: payloads are lent, the range travels by value, refusals are numbers.
+use error::MALFORMED_LENGTH;
+use error::MALFORMED_RADIUS;
+use error::MALFORMED_RANGE;
+use error::OUTPUT_LENGTH;
+use error::Outcome;
+use error::UNDEFINED_PROFILE;
+ghost use Prim.Native.Nat.{_+_, _*_, _≤_, _<_};
+ghost use mathlib.Core.Path.{_≡_};
+ghost use mathlib.Core.List.{_++_, map, flatMap};
+ghost use lib.ListN.{length, take, drop};
+ghost use lib.Ieee.{binary32, sub};
+ghost use Rattle.error.specs.Answer.{place, done, after};
+ghost use Rattle.error.specs.Outcomes.{says};
+ghost use Rattle.digits.specs.Digits.{digits, number};
+ghost use Rattle.float.specs.Bytes.{ofLeBytes, toLeBytes};
+ghost use Rattle.radius.specs.Chunks.{chunks};
+ghost use Rattle.radius.specs.Radii.{badRadius, badRange, rangeOf};
+ghost use Rattle.radius.specs.Linear.{clamped, spanOf, quantized, linearBytes, linearRadius};
+ghost use Rattle.radius.specs.Codec.{differs, compressedRange, compressedBytes, decompressOf, encodedBytes};
+ghost use Rattle.radius.specs.Says.{saysRange, saysLength};
+
+// How radii are stored. BlockLogU8 is known and refused.
+pub enum RadiusCodecProfileV1 {
+    F32,
+    BlockLinearU16,
+    BlockLogU8,
+}
+
+// The least and the greatest radius, kept together.
+pub struct Range {
+    pub min: f32,
+    pub max: f32,
+}
+
+// The range that goes with the bytes written, or a refusal.
+pub enum Compressed {
+    Made(Range),
+    Refused { number: u32, place: usize },
+}
+
+// A number of bytes, or a refusal.
+pub enum EncodedLength {
+    Bytes(usize),
+    Refused { number: u32, place: usize },
+}
+
+// Rust's `f32::EPSILON`, 2^-23.
+const EPSILON: f32 = 0.00000011920929;
+// Rust's `u16::MAX as f32`.
+const MOST: f32 = 65535.0;
+
+// Compresses radii into exactly the bytes that they need, and answers their range.
+pub fn compress(radii: &[f32], profile: RadiusCodecProfileV1, out: &mut [u8]) -> Compressed
+    ensures said { λ r. ⌜ saysRange r ≡ compressedRange (now (radii .entry)) profile (length (now (out .entry))) ⌝ }
+    ensures left { λ r. ⌜ now (out .exit) ≡ after (compressedBytes (now (radii .entry)) profile (length (now (out .entry)))) (now (out .entry)) ⌝ }
+{
+    let bad = first_bad(radii);
+    if bad < radii.len() {
+        return Compressed::Refused {
+            number: MALFORMED_RADIUS,
+            place: bad,
+        };
+    }
+    match profile {
+        RadiusCodecProfileV1::F32 => {
+            let need = 4 * radii.len();
+            if out.len() != need {
+                return Compressed::Refused {
+                    number: OUTPUT_LENGTH,
+                    place: need,
+                };
+            }
+            write_floats(radii, out);
+            Compressed::Made(Range { min: 0.0, max: 0.0 })
+        }
+        RadiusCodecProfileV1::BlockLinearU16 => {
+            let need = 2 * radii.len();
+            if out.len() != need {
+                return Compressed::Refused {
+                    number: OUTPUT_LENGTH,
+                    place: need,
+                };
+            }
+            let range = min_max(radii);
+            write_linear(radii, range, out);
+            Compressed::Made(range)
+        }
+        RadiusCodecProfileV1::BlockLogU8 => Compressed::Refused {
+            number: UNDEFINED_PROFILE,
+            place: 0,
+        },
+    }
+}
+
+// Restores `count` radii from a payload and, for BlockLinearU16, its range.
+pub fn decompress(
+    profile: RadiusCodecProfileV1,
+    count: usize,
+    range: Range,
+    payload: &[u8],
+    out: &mut [f32],
+) -> Outcome
+    ensures said { λ r. ⌜ says r ≡ done (decompressOf profile count range (now (payload .entry)) (length (now (out .entry)))) ⌝ }
+    ensures left { λ r. ⌜ now (out .exit) ≡ after (decompressOf profile count range (now (payload .entry)) (length (now (out .entry)))) (now (out .entry)) ⌝ }
+{
+    match profile {
+        RadiusCodecProfileV1::F32 => {
+            if wrong_length(payload.len(), 4, count) {
+                return Outcome::Refused {
+                    number: MALFORMED_LENGTH,
+                    place: payload.len(),
+                };
+            }
+            let bad = first_bad_bytes(payload, count);
+            if bad < count {
+                return Outcome::Refused {
+                    number: MALFORMED_RADIUS,
+                    place: bad,
+                };
+            }
+            if out.len() != count {
+                return Outcome::Refused {
+                    number: OUTPUT_LENGTH,
+                    place: count,
+                };
+            }
+            read_floats(payload, out);
+            Outcome::Done
+        }
+        RadiusCodecProfileV1::BlockLinearU16 => {
+            if wrong_length(payload.len(), 2, count) {
+                return Outcome::Refused {
+                    number: MALFORMED_LENGTH,
+                    place: payload.len(),
+                };
+            }
+            if is_bad_range(range) {
+                return Outcome::Refused {
+                    number: MALFORMED_RANGE,
+                    place: 0,
+                };
+            }
+            if out.len() != count {
+                return Outcome::Refused {
+                    number: OUTPUT_LENGTH,
+                    place: count,
+                };
+            }
+            read_linear(payload, range, out);
+            Outcome::Done
+        }
+        RadiusCodecProfileV1::BlockLogU8 => Outcome::Refused {
+            number: UNDEFINED_PROFILE,
+            place: 0,
+        },
+    }
+}
+
+// How many bytes a payload takes, with its range where the profile has one.
+pub fn encoded_bytes(profile: RadiusCodecProfileV1, payload: &[u8]) -> EncodedLength
+    ensures { λ r. ⌜ saysLength r ≡ encodedBytes profile (now (payload .entry)) ⌝ }
+{
+    let length = payload.len();
+    match profile {
+        RadiusCodecProfileV1::F32 => EncodedLength::Bytes(length),
+        RadiusCodecProfileV1::BlockLinearU16 => {
+            let total = length + 8;
+            EncodedLength::Bytes(total)
+        }
+        RadiusCodecProfileV1::BlockLogU8 => EncodedLength::Refused {
+            number: UNDEFINED_PROFILE,
+            place: 0,
+        },
+    }
+}
+
+// The place of the first radius that is NaN, infinite or below zero, or how many there are.
+fn first_bad(radii: &[f32]) -> usize
+    ensures { λ r. ⌜ r ≡ place badRadius (now (radii .entry)) ⌝ }
+{
+    let mut i = 0;
+    while i < radii.len() {
+        if is_bad(radii[i]) {
+            return i;
+        }
+        i += 1;
+    }
+    i
+}
+
+// Whether a radius is NaN, infinite or below zero.
+fn is_bad(radius: f32) -> bool
+    ensures { λ r. ⌜ r ≡ badRadius radius ⌝ }
+{
+    !float::is_finite(radius) || radius < 0.0
+}
+
+// The least and the greatest radius; an equal one doesn't replace an earlier one.
+fn min_max(radii: &[f32]) -> Range
+    ensures { λ r. ⌜ r ≡ rangeOf (now (radii .entry)) ⌝ }
+{
+    if radii.len() == 0 {
+        return Range { min: 0.0, max: 0.0 };
+    }
+    let mut min = radii[0];
+    let mut max = radii[0];
+    let mut i = 1;
+    while i < radii.len() {
+        let radius = radii[i];
+        if radius < min {
+            min = radius;
+        }
+        if max < radius {
+            max = radius;
+        }
+        i += 1;
+    }
+    Range { min, max }
+}
+
+// Writes radii as floats, four bytes each.
+fn write_floats(radii: &[f32], out: &mut [u8])
+    requires { ⌜ length (now out) ≡ 4 * length (now radii) ⌝ }
+    ensures { λ r. ⌜ now (out .exit) ≡ flatMap toLeBytes (now (radii .entry)) ⌝ }
+{
+    let mut i = 0;
+    let mut at = 0;
+    while i < radii.len() {
+        put_float(out, at, radii[i]);
+        i += 1;
+        at += 4;
+    }
+}
+
+// Writes radii as numbers within a range, two bytes each.
+fn write_linear(radii: &[f32], range: Range, out: &mut [u8])
+    requires { ⌜ length (now out) ≡ 2 * length (now radii) ⌝ }
+    ensures { λ r. ⌜ now (out .exit) ≡ flatMap (linearBytes range) (now (radii .entry)) ⌝ }
+{
+    let min = range.min;
+    let span = span_of(range);
+    let mut i = 0;
+    let mut at = 0;
+    while i < radii.len() {
+        put_number(out, at, quantize(min, span, radii[i]));
+        i += 1;
+        at += 2;
+    }
+}
+
+// The four bytes of a float at `at`, the least significant first.
+fn put_float(out: &mut [u8], at: usize, x: f32)
+    requires { ⌜ at + 4 ≤ length (now out) ⌝ }
+    ensures { λ r. ⌜ now (out .exit) ≡ take at (now (out .entry)) ++ toLeBytes x ++ drop (at + 4) (now (out .entry)) ⌝ }
+{
+    let bytes = float::to_le_bytes(x);
+    out[at] = bytes[0];
+    out[at + 1] = bytes[1];
+    out[at + 2] = bytes[2];
+    out[at + 3] = bytes[3];
+}
+
+// The two bytes of a number at `at`, the least significant first.
+fn put_number(out: &mut [u8], at: usize, n: u16)
+    requires { ⌜ at + 2 ≤ length (now out) ⌝ }
+    ensures { λ r. ⌜ now (out .exit) ≡ take at (now (out .entry)) ++ digits 256 2 n ++ drop (at + 2) (now (out .entry)) ⌝ }
+{
+    out[at] = (n % 256) as u8;
+    out[at + 1] = (n / 256 % 256) as u8;
+}
+
+// The width of a range, but at least 2^-23.
+fn span_of(range: Range) -> f32
+    ensures { λ r. ⌜ r ≡ spanOf range ⌝ }
+{
+    let width = range.max - range.min;
+    if EPSILON < width { width } else { EPSILON }
+}
+
+// The number of a radius, from 0 at `min` to 65,535 a `span` above it.
+fn quantize(min: f32, span: f32, radius: f32) -> u16
+    ensures { λ r. ⌜ r ≡ quantized min span radius ⌝ }
+{
+    let normalized = clamp((radius - min) / span);
+    float::round_u16(normalized * MOST)
+}
+
+// Rust's `f32::clamp(0.0, 1.0)`.
+fn clamp(x: f32) -> f32
+    ensures { λ r. ⌜ r ≡ clamped x ⌝ }
+{
+    let y = if x < 0.0 { 0.0 } else { x };
+    if 1.0 < y { 1.0 } else { y }
+}
+
+// Whether a number of bytes is other than `count` times `width`, however large that is.
+fn wrong_length(found: usize, width: usize, count: usize) -> bool
+    requires { ⌜ 0 < width ⌝ }
+    ensures { λ r. ⌜ r ≡ differs found (width * count) ⌝ }
+{
+    found / width != count || found % width != 0
+}
+
+// Whether a bound is not finite, or min is above max.
+fn is_bad_range(range: Range) -> bool
+    ensures { λ r. ⌜ r ≡ badRange range ⌝ }
+{
+    !float::is_finite(range.min) || !float::is_finite(range.max) || range.max < range.min
+}
+
+// The place of the first four bytes that are no radius, or how many there are.
+fn first_bad_bytes(payload: &[u8], count: usize) -> usize
+    requires { ⌜ length (now payload) ≡ 4 * count ⌝ }
+    ensures { λ r. ⌜ r ≡ place badRadius (map ofLeBytes (chunks 4 count (now (payload .entry)))) ⌝ }
+{
+    let mut i = 0;
+    let mut at = 0;
+    while i < count {
+        if is_bad(get_float(payload, at)) {
+            return i;
+        }
+        i += 1;
+        at += 4;
+    }
+    i
+}
+
+// Reads floats of four bytes each.
+fn read_floats(payload: &[u8], out: &mut [f32])
+    requires { ⌜ length (now payload) ≡ 4 * length (now out) ⌝ }
+    ensures { λ r. ⌜ now (out .exit) ≡ map ofLeBytes (chunks 4 (length (now (out .entry))) (now (payload .entry))) ⌝ }
+{
+    let mut i = 0;
+    let mut at = 0;
+    while i < out.len() {
+        out[i] = get_float(payload, at);
+        i += 1;
+        at += 4;
+    }
+}
+
+// Reads radii of two bytes each within a range.
+fn read_linear(payload: &[u8], range: Range, out: &mut [f32])
+    requires { ⌜ length (now payload) ≡ 2 * length (now out) ⌝ }
+    ensures { λ r. ⌜ now (out .exit) ≡ map (linearRadius range) (chunks 2 (length (now (out .entry))) (now (payload .entry))) ⌝ }
+{
+    let min = range.min;
+    let span = width_of(range);
+    let mut i = 0;
+    let mut at = 0;
+    while i < out.len() {
+        out[i] = min + span * (get_number(payload, at) as f32 / MOST);
+        i += 1;
+        at += 2;
+    }
+}
+
+// The width of a range, however small.
+fn width_of(range: Range) -> f32
+    ensures { λ r. ⌜ r ≡ sub binary32 (range .max) (range .min) ⌝ }
+{
+    range.max - range.min
+}
+
+// The float of the four bytes at `at`.
+fn get_float(payload: &[u8], at: usize) -> f32
+    requires { ⌜ at + 4 ≤ length (now payload) ⌝ }
+    ensures { λ r. ⌜ r ≡ ofLeBytes (take 4 (drop at (now (payload .entry)))) ⌝ }
+{
+    float::from_le_bytes(
+        payload[at],
+        payload[at + 1],
+        payload[at + 2],
+        payload[at + 3],
+    )
+}
+
+// The number of the two bytes at `at`.
+fn get_number(payload: &[u8], at: usize) -> u16
+    requires { ⌜ at + 2 ≤ length (now payload) ⌝ }
+    ensures { λ r. ⌜ r ≡ number 256 (take 2 (drop at (now (payload .entry)))) ⌝ }
+{
+    (payload[at] as u16) + 256 * (payload[at + 1] as u16)
+}
