@@ -1,0 +1,39 @@
+-- The angle that an index stands for, each step rounded, and what a call for it answers. 'An angle: 1, 15.' (document 01) Assumes nothing.
+use Prim.Native.Nat.{ℕ, _^_}
+use mathlib.Core.Bool.{false, _||_}
+use mathlib.Core.List.{[], _∷_}
+use lib.Dec.{leb, ltb}
+use lib.IntN.{pos}
+use lib.Ieee.{Float, fin, binary32, sub, mul, div, ofInt, ofBits}
+use Rattle.error.specs.Answer.{Answer, value, refused, Check, check, first}
+use Rattle.polar.specs.declared.Angle.{Angle}
+use Rattle.polar.specs.declared.Angle.the-variants.{Radians, Refused}
+
+-- '1: bits outside 1..16 .. Place: the bits.'
+abbrev pub wrongBits : ℕ → Check
+wrongBits bits = check (ltb bits 1 || ltb 16 bits) 1 bits
+
+-- '15: index at or above 2^bits. Place: its index; for a codebook or a single angle, 0.'
+abbrev pub wrongIndex : ℕ → ℕ → Check
+wrongIndex bits index = check (leb (2 ^ bits) index) 15 0
+
+-- 'PI is 40490FDB.'
+unfoldable pub pi : Float
+pi = ofBits binary32 0x4049_0FDB
+
+-- 2 PI, the product of 2.0 and PI as an f32
+unfoldable pub twicePi : Float
+twicePi = mul binary32 (fin false 1 (pos 1)) pi
+
+-- 'The angle of index i is (i / levels) × (2 PI) − PI, each step rounded.' The levels are 2^bits.
+unfoldable pub radians : ℕ → ℕ → Float
+radians bits index = sub binary32 (mul binary32 (div binary32 (ofInt binary32 (pos index)) (ofInt binary32 (pos (2 ^ bits)))) twicePi) pi
+
+-- what the call answers
+unfoldable pub angleOf : ℕ → ℕ → Answer Float
+angleOf bits index = first (wrongBits bits ∷ wrongIndex bits index ∷ []) (value (radians bits index))
+
+-- what an `Angle` says
+abbrev pub saysAngle : Angle → Answer Float
+saysAngle (Radians x) = value x
+saysAngle (Refused n p) = refused n p

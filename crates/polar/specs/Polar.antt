@@ -1,0 +1,71 @@
+-- The polar sum and the pairs of a decoded code, each step rounded once, in pair order. Pair i has the entries 2 i and 2 i + 1 of the rotated query,
+-- its radius, and the direction that its index names: the entries 2 j and 2 j + 1 of the table, for index j. A float that is missing counts as +0.0,
+-- and an index that is missing as 0, so that every list has an answer. Assumes nothing.
+use Prim.Native.Nat.{ℕ, _+_, _*_}
+use mathlib.Core.Bool.{not}
+use mathlib.Core.List.{List, [], _∷_, map}
+use lib.Dec.{eqb}
+use lib.ListN.{length, getD}
+use lib.Ieee.{Float, binary32, add, mul}
+use Rattle.error.specs.Answer.{Answer, value, Check, check, first}
+use Rattle.rounding.specs.Butterfly.{from}
+use Rattle.rounding.specs.Sums.{total}
+use Rattle.rounding.specs.Value.{posZero}
+
+-- ---- what a pair has
+-- the float at a place
+abbrev pub at : List Float → ℕ → Float
+at vs i = getD vs i posZero
+
+-- where the direction of pair i stands in the table
+abbrev pub directionAt : List ℕ → ℕ → ℕ
+directionAt indices i = 2 * getD indices i 0
+
+-- 'Direction pair i holds the host's cosine and sine' (document 01): those that pair i has by its index
+abbrev pub cosine : List Float → List ℕ → ℕ → Float
+cosine directions indices i = at directions (directionAt indices i)
+
+abbrev pub sine : List Float → List ℕ → ℕ → Float
+sine directions indices i = at directions (directionAt indices i + 1)
+
+-- the pairs in their order, one for each radius
+abbrev pub pairs : List Float → List ℕ
+pairs radii = from 0 (length radii)
+
+-- ---- the polar sum
+-- 'r × (qa × c + qb × s)' (document 01), of pair i: products and sum are separate roundings
+unfoldable pub term : List Float → List Float → List ℕ → List Float → ℕ → Float
+term rotated directions indices radii i =
+    mul binary32 (at radii i)
+    (add binary32
+    (mul binary32 (at rotated (2 * i)) (cosine directions indices i))
+    (mul binary32 (at rotated (2 * i + 1)) (sine directions indices i)))
+
+-- 'Polar sum: r × (qa × c + qb × s), added in pair order'; 'Sums run in index order from +0.0.'
+unfoldable pub polarSum : List Float → List Float → List ℕ → List Float → Float
+polarSum rotated directions indices radii = total (map (λ i. term rotated directions indices radii i) (pairs radii))
+
+-- ---- the pairs of a decoded code
+-- of each item its first, then its second
+unfoldable pub laid : (ℕ → Float) → (ℕ → Float) → List ℕ → List Float
+laid f g [] = []
+laid f g (i ∷ is) = f i ∷ g i ∷ laid f g is
+
+-- r × c and r × s, of pair i
+abbrev pub along : List Float → List ℕ → List Float → ℕ → Float
+along directions indices radii i = mul binary32 (at radii i) (cosine directions indices i)
+
+abbrev pub across : List Float → List ℕ → List Float → ℕ → Float
+across directions indices radii i = mul binary32 (at radii i) (sine directions indices i)
+
+-- both, of each pair
+unfoldable pub decodedPairs : List Float → List ℕ → List Float → List Float
+decodedPairs directions indices radii = laid (along directions indices radii) (across directions indices radii) (pairs radii)
+
+-- '6: an output buffer isn't exactly the needed length. Place: the needed length.'
+abbrev pub wrongOutput : ℕ → ℕ → Check
+wrongOutput needed found = check (not (eqb found needed)) 6 needed
+
+-- what the call answers, into an output that has so much room
+unfoldable pub pairsOf : List Float → List ℕ → List Float → ℕ → Answer (List Float)
+pairsOf directions indices radii room = first (wrongOutput (2 * length radii) room ∷ []) (value (decodedPairs directions indices radii))

@@ -1,0 +1,74 @@
+-- `worked::show::bytes` ends and stays within the list. Assumes nothing.
+use Prim.Native.Nat.{_≤_, _-_}
+use lib.ListN.{length}
+use borrow.Author.Needs.{needs}
+use Rattle.worked.proofs.show.bytes.Statement.{statement}
+use Rattle.worked.proofs.show.bytes.Tie as tie
+use Rattle.worked.proofs.show.bytes.Reads as reads
+use Rattle.worked.proofs.show.bytes.Lts as lts
+use Rattle.io.proofs.print_hex.Reads as print-hex-reads
+use Rattle.io.proofs.write_all.Reads as write-all-reads
+use Rattle.worked.proofs.show.wide.Reads as wide-reads
+
+abbrev Inv-loop : tie.InvT-loop
+Inv-loop list i₀ t3 i = i ≤ length list
+
+abbrev μ-loop : tie.MeasureT-loop
+μ-loop list i₀ t3 i = length list - i
+
+-- src/show.rt:38:5
+loop-holds : tie.Need-loop-holds Inv-loop μ-loop
+loop-holds c = search needs
+
+-- src/show.rt:40:30
+slice-aggregate-write-all : tie.Need-slice-aggregate-write-all Inv-loop μ-loop
+slice-aggregate-write-all c = search needs
+
+-- src/show.rt:40:13
+write-all-requires : tie.Need-write-all-requires Inv-loop μ-loop
+write-all-requires c κs = search needs
+
+-- src/show.rt:42:31
+shared-slice-read-wide : tie.Need-shared-slice-read-wide Inv-loop μ-loop
+shared-slice-read-wide c = search needs
+
+-- src/show.rt:42:26
+wide-requires : tie.Need-wide-requires Inv-loop μ-loop
+wide-requires c κs = search needs
+
+-- src/show.rt:42:9
+print-hex-requires : tie.Need-print-hex-requires Inv-loop μ-loop
+print-hex-requires c κs = search needs
+
+-- src/show.rt:43:9
+add-i : tie.Need-add-i Inv-loop μ-loop
+add-i c = search needs
+
+-- src/show.rt:38:5
+loop-less : tie.Need-loop-less Inv-loop μ-loop
+loop-less c = search needs
+
+-- src/show.rt:38:5
+loop-again : tie.Need-loop-again Inv-loop μ-loop
+loop-again c = search needs
+
+-- src/show.rt:36:1
+returns : tie.Need-returns Inv-loop μ-loop
+returns c = search needs
+
+pub bytes-spec : {M : Type 1} → statement M
+bytes-spec =
+    tie.close
+    (tie.spec
+    Inv-loop
+    μ-loop
+    loop-holds
+    slice-aggregate-write-all
+    write-all-requires
+    shared-slice-read-wide
+    wide-requires
+    print-hex-requires
+    add-i
+    loop-less
+    loop-again
+    returns)

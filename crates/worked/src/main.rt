@@ -1,0 +1,128 @@
+// Runs document 01's worked examples through the library and prints each beside what is expected of it.
+mod show;
+
+use radius::RadiusCodecProfileV1;
+use radius::Range;
+use show::answer;
+use show::floats;
+use show::pattern;
+use show::title;
+use show::verdict;
+
+fn main() {
+    packing();
+    signs();
+    numbers();
+    radii();
+}
+
+// P1 to P4 and P7, and the lengths.
+fn packing() {
+    let p1 = [1u16, 2, 3];
+    let mut one = [0u8; 1];
+    title(b"P1  indices (1, 2, 3) of 2 bits: ");
+    answer(bitpack::pack_indices(&p1, 2, &mut one), &one);
+    verdict(b"39");
+
+    let p2 = [0x79u8];
+    let mut three = [0u16; 3];
+    title(b"P2  79 as 3 indices of 2 bits: ");
+    answer(bitpack::unpack_indices(&p2, 3, 2, &mut three), &p2);
+    verdict(b"refused 14 at 0");
+
+    let p3 = [5u16, 2];
+    title(b"P3  indices (5, 2) of 3 bits: ");
+    answer(bitpack::pack_indices(&p3, 3, &mut one), &one);
+    verdict(b"15");
+
+    let p4 = [256u16, 1];
+    let mut wide = [0u8; 3];
+    title(b"P4  indices (256, 1) of 9 bits: ");
+    answer(bitpack::pack_indices(&p4, 9, &mut wide), &wide);
+    verdict(b"00 03 00");
+
+    let p7 = [0u16; 0];
+    let mut none = [0u8; 0];
+    title(b"P7  no indices: ");
+    answer(bitpack::pack_indices(&p7, 2, &mut none), &none);
+    verdict(b"no bytes");
+
+    title(b"    length of 2^60 indices of 16 bits: ");
+    show::length(bitpack::packed_len(1152921504606846976, 16));
+    verdict(b"refused 19 at 0");
+
+    title(b"    length of one fewer: ");
+    show::length(bitpack::packed_len(1152921504606846975, 16));
+    verdict(b"2305843009213693950 bytes");
+}
+
+// P5 and P6.
+fn signs() {
+    let p5 = [1i8, -1, 1];
+    let mut one = [0u8; 1];
+    title(b"P5  signs (+, -, +): ");
+    answer(bitpack::pack_signs(&p5, &mut one), &one);
+    verdict(b"05");
+
+    let p6 = [0x0Du8];
+    let mut three = [0i8; 3];
+    title(b"P6  0d as 3 signs: ");
+    answer(bitpack::unpack_signs(&p6, 3, &mut three), &p6);
+    verdict(b"refused 14 at 0");
+}
+
+// P8 to P10.
+fn numbers() {
+    let plus = [1.0f32; 4];
+    let p8 = [1.0f32, 2.0, 3.0, 4.0];
+    let mut rotated = [0.0f32; 4];
+    title(b"P8  (1, 2, 3, 4) rotated, all signs +: ");
+    floats(rotation::apply(4, &plus, &p8, &mut rotated), &rotated);
+    verdict(b"40a00000 bf800000 c0000000 00000000, which is (5, -1, -2, 0)");
+
+    title(b"P9  the root of 2: ");
+    pattern(float::to_bits(float::sqrt(2.0)));
+    verdict(b"3fb504f3");
+
+    title(b"P10 the angle of index 1 of 1 bit: ");
+    show::angle(polar::dequantize_angle(1, 1));
+    verdict(b"00000000, which is 0");
+}
+
+// P11, and a span below 2^-23.
+fn radii() {
+    let p11 = [0.0f32, 0.5, 1.0];
+    let mut six = [0u8; 6];
+    title(b"P11 radii (0, 0.5, 1), linear: ");
+    show::compressed(
+        radius::compress(&p11, RadiusCodecProfileV1::BlockLinearU16, &mut six),
+        &six,
+    );
+    verdict(b"00 00 00 80 ff ff");
+
+    // 2^-24
+    let short = [0.0f32, 0.000000059604645];
+    let mut four = [0u8; 4];
+    let made = radius::compress(&short, RadiusCodecProfileV1::BlockLinearU16, &mut four);
+    title(b"    radii (0, 2^-24), linear: ");
+    show::compressed(made, &four);
+    verdict(b"00 00 00 80, the second is 32,768");
+
+    let range = Range {
+        min: 0.0,
+        max: 0.000000059604645,
+    };
+    let mut back = [0.0f32; 2];
+    title(b"    and back: ");
+    floats(
+        radius::decompress(
+            RadiusCodecProfileV1::BlockLinearU16,
+            2,
+            range,
+            &four,
+            &mut back,
+        ),
+        &back,
+    );
+    verdict(b"00000000 33000080, the second is near 2^-25");
+}
