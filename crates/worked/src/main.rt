@@ -1,13 +1,10 @@
 // Runs document 01's worked examples through the library and prints each beside what is expected of it.
-mod show;
-
+use bitpack::Length;
+use error::Outcome;
+use polar::Angle;
+use radius::Compressed;
 use radius::RadiusCodecProfileV1;
 use radius::Range;
-use show::answer;
-use show::floats;
-use show::pattern;
-use show::title;
-use show::verdict;
 
 fn main() {
     packing();
@@ -48,11 +45,11 @@ fn packing() {
     verdict(b"no bytes");
 
     title(b"    length of 2^60 indices of 16 bits: ");
-    show::length(bitpack::packed_len(1152921504606846976, 16));
+    length(bitpack::packed_len(1152921504606846976, 16));
     verdict(b"refused 19 at 0");
 
     title(b"    length of one fewer: ");
-    show::length(bitpack::packed_len(1152921504606846975, 16));
+    length(bitpack::packed_len(1152921504606846975, 16));
     verdict(b"2305843009213693950 bytes");
 }
 
@@ -85,7 +82,7 @@ fn numbers() {
     verdict(b"3fb504f3");
 
     title(b"P10 the angle of index 1 of 1 bit: ");
-    show::angle(polar::dequantize_angle(1, 1));
+    angle(polar::dequantize_angle(1, 1));
     verdict(b"00000000, which is 0");
 }
 
@@ -94,7 +91,7 @@ fn radii() {
     let p11 = [0.0f32, 0.5, 1.0];
     let mut six = [0u8; 6];
     title(b"P11 radii (0, 0.5, 1), linear: ");
-    show::compressed(
+    compressed(
         radius::compress(&p11, RadiusCodecProfileV1::BlockLinearU16, &mut six),
         &six,
     );
@@ -105,7 +102,7 @@ fn radii() {
     let mut four = [0u8; 4];
     let made = radius::compress(&short, RadiusCodecProfileV1::BlockLinearU16, &mut four);
     title(b"    radii (0, 2^-24), linear: ");
-    show::compressed(made, &four);
+    compressed(made, &four);
     verdict(b"00 00 00 80, the second is 32,768");
 
     let range = Range {
@@ -125,4 +122,96 @@ fn radii() {
         &back,
     );
     verdict(b"00000000 33000080, the second is near 2^-25");
+}
+
+// The text that names an example.
+fn title(text: &[u8]) {
+    io::write_all(1, text);
+}
+
+// What is expected, and the end of the line.
+fn verdict(text: &[u8]) {
+    io::write_all(1, b" (expected: ");
+    io::write_all(1, text);
+    io::write_all(1, b")\n");
+}
+
+// A refusal's number and place.
+fn refusal(number: u32, place: usize) {
+    io::write_all(1, b"refused ");
+    io::print_decimal(1, number as u64);
+    io::write_all(1, b" at ");
+    io::print_decimal(1, place as u64);
+}
+
+// A float's pattern, hexadecimal.
+fn pattern(bits: u32) {
+    io::print_hex(1, bits as u64, 8);
+}
+
+fn wide(byte: u8) -> u64 {
+    byte as u64
+}
+
+// Bytes, hexadecimal, a space between two.
+fn bytes(list: &[u8]) {
+    let mut i = 0;
+    while i < list.len() {
+        if 0 < i {
+            io::write_all(1, b" ");
+        }
+        io::print_hex(1, wide(list[i]), 2);
+        i += 1;
+    }
+}
+
+// The bytes that a call wrote, or its refusal.
+fn answer(outcome: Outcome, written: &[u8]) {
+    match outcome {
+        Outcome::Done => bytes(written),
+        Outcome::Refused { number, place } => refusal(number, place),
+    }
+}
+
+// The floats that a call wrote, as patterns, or its refusal.
+fn floats(outcome: Outcome, written: &[f32]) {
+    if let Outcome::Refused { number, place } = outcome {
+        refusal(number, place);
+        return;
+    }
+    let mut i = 0;
+    while i < written.len() {
+        if 0 < i {
+            io::write_all(1, b" ");
+        }
+        pattern(float::to_bits(written[i]));
+        i += 1;
+    }
+}
+
+// A length, or its refusal.
+fn length(answer: Length) {
+    match answer {
+        Length::Bytes(n) => {
+            io::print_decimal(1, n as u64);
+            io::write_all(1, b" bytes");
+        }
+        Length::Refused { number, place } => refusal(number, place),
+    }
+}
+
+// An angle's pattern, or its refusal.
+fn angle(answer: Angle) {
+    match answer {
+        Angle::Radians(x) => pattern(float::to_bits(x)),
+        Angle::Refused { number, place } => refusal(number, place),
+    }
+}
+
+// The payload that compressing wrote, or its refusal.
+fn compressed(answer: Compressed, written: &[u8]) {
+    match answer {
+        Compressed::Made(_) => bytes(written),
+        Compressed::Refused { number, place } => refusal(number, place),
+    }
 }
