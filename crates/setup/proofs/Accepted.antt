@@ -1,0 +1,72 @@
+-- What follows from a setup whose checks all pass. Assumes nothing.
+use Prim.Native.Nat.{ℕ, _+_, _*_, _^_, _<_}
+use mathlib.Core.Path.{_≡_, sym}
+use mathlib.Core.List.{List}
+use native.Mathlib.Nat.{zero-mul}
+use native.Mathlib.Omega.{arith}
+use borrow.Author.Tests.{eqb-true, not-false}
+use lib.ListN.{length}
+use lib.Ieee.{Float, nan}
+use Rattle.error.specs.Answer.{first, accepted}
+use Rattle.error.proofs.Chains.{first-passes, first-accepts}
+use Rattle.error.proofs.Places.{each-clear}
+use Rattle.rotation.specs.Checks.{badSign}
+use Rattle.setup.specs.declared.Setup.{Setup}
+use Rattle.setup.specs.declared.TurboMode.the-variants.{PolarOnly}
+use Rattle.setup.specs.Setups.{polarBits, countedProjections, directionsNeeded, matrixNeeded}
+use Rattle.setup.specs.Checks.{badDirection, notFinite, scalarChecks, tableChecks, setupChecks, directionChecks}
+use Rattle.setup.specs.Accepted.{Usable, Directions, Accepted}
+use Rattle.setup.proofs.Chains.{append-left, append-right}
+use Rattle.setup.proofs.Rows.{passes-finite, entry-below}
+use Rattle.setup.proofs.Scalars.{scalars-usable}
+
+pub directions-accepted : (s : Setup) (directions : List Float) → first (directionChecks s directions) accepted ≡ accepted → Directions s directions
+directions-accepted s directions e =
+    let k = first-passes (directionChecks s directions) tt e in
+    record {
+      long = eqb-true (length directions) (directionsNeeded s) (not-false _ (k .0));
+      good = each-clear badDirection directions nan (k .1 .0);
+    }
+
+module _ (s : Setup) (signs directions matrix : List Float) where
+  pub tables-accepted : Usable s → first (tableChecks s signs directions matrix) accepted ≡ accepted → Accepted s signs directions matrix
+  tables-accepted usable e =
+      let k = first-passes (tableChecks s signs directions matrix) tt e in
+      record {
+        usable = usable;
+        signs-long = eqb-true (length signs) (s .dim) (not-false _ (k .0));
+        signs-good = each-clear badSign signs nan (k .1 .1 .1 .0);
+        table = record {
+          long = eqb-true (length directions) (directionsNeeded s) (not-false _ (k .1 .0));
+          good = each-clear badDirection directions nan (k .1 .1 .1 .1 .0);
+        };
+        matrix-long = eqb-true (length matrix) (matrixNeeded s) (not-false _ (k .1 .1 .0));
+        matrix-finite = λ i h. passes-finite _ (each-clear notFinite matrix nan (k .1 .1 .1 .1 .1 .0) i h);
+      }
+
+  -- the checks of the scalars alone pass too
+  pub setup-scalars : first (setupChecks s signs directions matrix) accepted ≡ accepted → first (scalarChecks s) accepted ≡ accepted
+  setup-scalars e = append-left (scalarChecks s) (tableChecks s signs directions matrix) accepted e
+
+  pub setup-accepted : first (setupChecks s signs directions matrix) accepted ≡ accepted → Accepted s signs directions matrix
+  setup-accepted e = tables-accepted (scalars-usable s (setup-scalars e)) (append-right (scalarChecks s) (tableChecks s signs directions matrix) accepted e)
+
+  -- and so do those of the directions alone
+  pub setup-directions : first (setupChecks s signs directions matrix) accepted ≡ accepted → first (directionChecks s directions) accepted ≡ accepted
+  setup-directions e =
+      let k = first-passes (tableChecks s signs directions matrix) tt (append-right (scalarChecks s) (tableChecks s signs directions matrix) accepted e) in
+      first-accepts (directionChecks s directions) accepted (k .1 .0, (k .1 .1 .1 .1 .0, tt))
+
+-- ---- what lies within the tables
+
+-- 'In `PolarOnly` m counts as 0 and the matrix is empty.'
+pub matrix-empty : (s : Setup) → s .mode ≡ PolarOnly → matrixNeeded s ≡ 0
+matrix-empty s alone = simp (alone, zero-mul)
+
+-- both entries of a direction pair
+pub pair-below : (s : Setup) (directions : List Float) → Directions s directions → (i : ℕ) → i < 2 ^ polarBits s → 2 * i + 1 < length directions
+pair-below s directions d i h = let long = d .long in omega (arith, long, h)
+
+-- the entry at a row and a column
+pub cell-below : (s : Setup) (signs directions matrix : List Float) → Accepted s signs directions matrix → (row column : ℕ) → row < countedProjections s → column < s .dim → row * s .dim + column < length matrix
+cell-below s signs directions matrix a row column r c = entry-below (countedProjections s) (s .dim) row column (length matrix) (sym (a .matrix-long)) r c

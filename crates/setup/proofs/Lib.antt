@@ -1,0 +1,8 @@
+pub mod Chains
+pub mod Directions
+pub mod Signs
+pub mod Rows
+pub mod Sweep
+pub mod Lengths
+pub mod Scalars
+pub mod Accepted

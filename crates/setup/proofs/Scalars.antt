@@ -1,0 +1,87 @@
+-- What the checks of a setup's scalars say where none offends. Assumes nothing.
+use Prim.Native.Nat.{ℕ, _-_, _%_, _^_, _≤_, _<_}
+use mathlib.Core.Path.{_≡_, refl}
+use mathlib.Core.Bool.{Bool, true, false, not, _||_}
+use native.Mathlib.Omega.{arith}
+use native.Mathlib.Decide.{decLe}
+use borrow.Author.Tests.{ltb-false, eqb-true, eqb-false, not-false}
+use lib.Count.{ones, trailingZeros}
+use lib.Dec.{ltb, eqb}
+use lib.Pow.{pow-mono}
+use Rattle.error.specs.Answer.{first, accepted}
+use Rattle.error.proofs.Chains.{first-passes}
+use Rattle.rotation.proofs.Powers.{one-bit}
+use Rattle.setup.specs.declared.Setup.{Setup}
+use Rattle.setup.specs.declared.TurboMode.{TurboMode}
+use Rattle.setup.specs.declared.TurboMode.the-variants.{PolarOnly, PolarWithQjl}
+use Rattle.setup.specs.Setups.{byMode}
+use Rattle.setup.specs.Checks.{scalarChecks}
+use Rattle.setup.specs.Accepted.{Usable}
+
+-- ---- tests
+
+neither-first : (a b : Bool) → (a || b) ≡ false → a ≡ false
+neither-first true b e = cc
+neither-first false b e = refl
+
+neither-second : (a b : Bool) → (a || b) ≡ false → b ≡ false
+neither-second true b e = cc
+neither-second false b e = e
+
+-- ---- the bits and the projections, by mode
+
+bits-least : (m : TurboMode) (b : ℕ) → ltb b (byMode m 1 2) ≡ false → 1 ≤ byMode m b (b - 1)
+bits-least PolarOnly b e = ltb-false b 1 e
+bits-least PolarWithQjl b e = let l = ltb-false b 2 e in omega (arith, l)
+
+bits-most : (m : TurboMode) (b : ℕ) → ltb 16 b ≡ false → byMode m b (b - 1) ≤ 16
+bits-most PolarOnly b e = ltb-false 16 b e
+bits-most PolarWithQjl b e = let l = ltb-false 16 b e in omega (arith, l)
+
+bits-residual : (m : TurboMode) (b : ℕ) → ltb 16 b ≡ false → m ≡ PolarWithQjl → byMode m b (b - 1) ≤ 15
+bits-residual PolarOnly b e r = let z : _≡_ {A = ℕ} 0 1 = cc in omega (arith, z)
+bits-residual PolarWithQjl b e r = let l = ltb-false 16 b e in omega (arith, l)
+
+projections-most : (m : TurboMode) (p : ℕ) → byMode m false (eqb p 0 || ltb 4096 p) ≡ false → byMode m 0 p ≤ 4096
+projections-most PolarOnly p e = omega arith
+projections-most PolarWithQjl p e = ltb-false 4096 p (neither-second (eqb p 0) (ltb 4096 p) e)
+
+projections-residual : (m : TurboMode) (p : ℕ) → byMode m false (eqb p 0 || ltb 4096 p) ≡ false → m ≡ PolarWithQjl → 0 < byMode m 0 p
+projections-residual PolarOnly p e r = let z : _≡_ {A = ℕ} 0 1 = cc in omega (arith, z)
+projections-residual PolarWithQjl p e r = let l = eqb-false p 0 (neither-first (eqb p 0) (ltb 4096 p) e) in omega (arith, l)
+
+-- ---- the dimension
+
+steps-most : (n k : ℕ) → n ≡ 2 ^ k → n ≤ 4096 → k ≤ 12
+steps-most n k e h = split (decLe k 12)
+  where
+    split : Dec (k ≤ 12) → k ≤ 12
+    split (yes l) = l
+    split (no l) = let above : 13 ≤ k = omega (arith, l) in let p = pow-mono above in omega (arith, p, e, h)
+
+-- ---- all of them
+
+pub scalars-usable : (s : Setup) → first (scalarChecks s) accepted ≡ accepted → Usable s
+scalars-usable s e =
+    let k = first-passes (scalarChecks s) tt e in
+    let nonzero = eqb-false (s .dim) 0 (k .0) in
+    let even = eqb-false (s .dim % 2) 1 (k .1 .0) in
+    let bits = k .1 .1 .0 in
+    let projections = k .1 .1 .1 .0 in
+    let powers = k .1 .1 .1 .1 .0 in
+    let single = eqb-true (ones (s .dim)) 1 (not-false _ (neither-first (not (eqb (ones (s .dim)) 1)) (ltb 4096 (s .dim)) powers)) in
+    let most = ltb-false 4096 (s .dim) (neither-second (not (eqb (ones (s .dim)) 1)) (ltb 4096 (s .dim)) powers) in
+    let power = one-bit 64 (s .dim) (omega (arith, most)) single in
+    record {
+      above = omega (arith, nonzero);
+      most = most;
+      even = omega (arith, even);
+      one-bit = single;
+      power = power;
+      steps = steps-most (s .dim) (trailingZeros 64 (s .dim)) power most;
+      least-bits = bits-least (s .mode) (s .bits) (neither-first (ltb (s .bits) (byMode (s .mode) 1 2)) (ltb 16 (s .bits)) bits);
+      most-bits = bits-most (s .mode) (s .bits) (neither-second (ltb (s .bits) (byMode (s .mode) 1 2)) (ltb 16 (s .bits)) bits);
+      most-projections = projections-most (s .mode) (s .projections) projections;
+      residual-bits = bits-residual (s .mode) (s .bits) (neither-second (ltb (s .bits) (byMode (s .mode) 1 2)) (ltb 16 (s .bits)) bits);
+      residual-projections = projections-residual (s .mode) (s .projections) projections;
+    }

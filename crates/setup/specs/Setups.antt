@@ -1,0 +1,27 @@
+-- What the scalars of a setup come to: its polar bits, the projections that count, and the lengths of the tables lent beside it.
+-- Assumes nothing.
+use Prim.Native.Nat.{ℕ, _-_, _*_, _^_}
+use Rattle.setup.specs.declared.Setup.{Setup}
+use Rattle.setup.specs.declared.TurboMode.{TurboMode}
+use Rattle.setup.specs.declared.TurboMode.the-variants.{PolarOnly, PolarWithQjl}
+
+-- by mode: the first without residual, the second with it
+abbrev pub byMode : {A : Type 0} → TurboMode → A → A → A
+byMode PolarOnly alone residual = alone
+byMode PolarWithQjl alone residual = residual
+
+-- 'Polar bits are total bits, less 1 in residual mode.'
+abbrev pub polarBits : Setup → ℕ
+polarBits s = byMode (s .mode) (s .bits) (s .bits - 1)
+
+-- 'In `PolarOnly` m counts as 0 and the matrix is empty.'
+abbrev pub countedProjections : Setup → ℕ
+countedProjections s = byMode (s .mode) 0 (s .projections)
+
+-- 'the table has 2 × 2^polar bits entries'
+abbrev pub directionsNeeded : Setup → ℕ
+directionsNeeded s = 2 * 2 ^ polarBits s
+
+-- 'The matrix has m × n entries.'
+abbrev pub matrixNeeded : Setup → ℕ
+matrixNeeded s = countedProjections s * s .dim

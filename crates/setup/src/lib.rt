@@ -1,0 +1,361 @@
+// The setup of a quantizer: its scalars, the checks of the tables that the host lends with them, and the seeds of the host's generators.
+// Ported from turbo-quant/src/turbo.rs, with the seeds of rotation.rs and qjl.rs, and changed: signs, directions and matrix are lent and
+// checked, and an error is a number and a place.
+
+use error::DIMENSION_MISMATCH;
+use error::INVALID_BIT_WIDTH;
+use error::INVALID_DIRECTION;
+use error::MALFORMED_SIGN;
+use error::NON_FINITE_MATRIX;
+use error::ODD_DIMENSION;
+use error::Outcome;
+use error::ROTATION_FAILED;
+use error::ZERO_DIMENSION;
+use error::ZERO_PROJECTION_COUNT;
+ghost use mathlib.Core.Path.{_≡_};
+ghost use Prim.Native.Nat.{_*_, _^_, _≤_};
+ghost use lib.ListN.{length};
+ghost use Rattle.error.specs.Answer.{first, place, accepted};
+ghost use Rattle.error.specs.Outcomes.{says};
+ghost use Rattle.setup.specs.Setups.{polarBits, countedProjections};
+ghost use Rattle.setup.specs.Checks.{outsideBits, outsideProjections, badDirection, notFinite, scalarChecks, tableChecks, setupChecks, directionChecks};
+ghost use Rattle.setup.specs.Sweep.{clear};
+ghost use Rattle.setup.specs.Seeds.{hadamardSeed, matrixSeed};
+
+// Whether a residual sketch stands beside the polar code.
+pub enum TurboMode {
+    // No residual sketch.
+    PolarOnly,
+    // A residual sketch of one bit for each projection.
+    PolarWithQjl,
+}
+
+// The scalars of a setup: the dimension, the total bits and the projections.
+pub struct Setup {
+    pub mode: TurboMode,
+    pub dim: usize,
+    pub bits: u8,
+    pub projections: usize,
+}
+
+// The polar bits: the total, less 1 in residual mode.
+pub fn polar_bits(setup: Setup) -> u8
+    ensures { λ r. ⌜ r ≡ polarBits setup ⌝ }
+{
+    let mode = setup.mode;
+    let bits = setup.bits;
+    match mode {
+        TurboMode::PolarOnly => bits,
+        TurboMode::PolarWithQjl => { if bits == 0 { 0 } else { bits - 1 } }
+    }
+}
+
+// The projections that count: none without residual.
+pub fn counted_projections(setup: Setup) -> usize
+    ensures { λ r. ⌜ r ≡ countedProjections setup ⌝ }
+{
+    let mode = setup.mode;
+    match mode {
+        TurboMode::PolarOnly => 0,
+        TurboMode::PolarWithQjl => setup.projections,
+    }
+}
+
+// The checks of a setup's scalars.
+pub fn check_scalars(setup: Setup) -> Outcome
+    ensures { λ r. ⌜ says r ≡ first (scalarChecks setup) accepted ⌝ }
+{
+    let dim = setup.dim;
+    if dim == 0 {
+        return Outcome::Refused {
+            number: ZERO_DIMENSION,
+            place: 0,
+        };
+    }
+    if dim % 2 == 1 {
+        return Outcome::Refused {
+            number: ODD_DIMENSION,
+            place: dim,
+        };
+    }
+    if outside_bits(setup) {
+        return Outcome::Refused {
+            number: INVALID_BIT_WIDTH,
+            place: setup.bits as usize,
+        };
+    }
+    if outside_projections(setup) {
+        return Outcome::Refused {
+            number: ZERO_PROJECTION_COUNT,
+            place: setup.projections,
+        };
+    }
+    if rotation::outside_powers(dim) {
+        return Outcome::Refused {
+            number: ROTATION_FAILED,
+            place: dim,
+        };
+    }
+    Outcome::Done
+}
+
+// The checks of a table of directions under a setup's polar bits.
+pub fn check_directions(setup: Setup, directions: &[f32]) -> Outcome
+    ensures { λ r. ⌜ says r ≡ first (directionChecks setup (now (directions .entry))) accepted ⌝ }
+{
+    let bits = polar_bits(setup);
+    // No slice is as long as that.
+    if 60 < bits {
+        return Outcome::Refused {
+            number: DIMENSION_MISMATCH,
+            place: directions.len(),
+        };
+    }
+    if directions.len() != direction_entries(bits) {
+        return Outcome::Refused {
+            number: DIMENSION_MISMATCH,
+            place: directions.len(),
+        };
+    }
+    let bad = first_bad_direction(directions);
+    if bad < directions.len() {
+        return Outcome::Refused {
+            number: INVALID_DIRECTION,
+            place: bad,
+        };
+    }
+    Outcome::Done
+}
+
+// The checks of a whole setup.
+pub fn check_setup(setup: Setup, signs: &[f32], directions: &[f32], matrix: &[f32]) -> Outcome
+    ensures { λ r. ⌜ says r ≡ first (setupChecks setup (now (signs .entry)) (now (directions .entry)) (now (matrix .entry))) accepted ⌝ }
+{
+    let scalars = check_scalars(setup);
+    match scalars {
+        Outcome::Refused { number, place } => Outcome::Refused { number, place },
+        Outcome::Done => check_tables(setup, signs, directions, matrix),
+    }
+}
+
+// The index of the first direction entry that is not finite or lies outside -1..1, or their number where there is none.
+pub fn first_bad_direction(directions: &[f32]) -> usize
+    ensures { λ r. ⌜ r ≡ place badDirection (now (directions .entry)) ⌝ }
+{
+    if all_directions(directions) {
+        return directions.len();
+    }
+    find_bad_direction(directions)
+}
+
+// The index of the first value that is not finite, or their number where there is none.
+pub fn first_non_finite(values: &[f32]) -> usize
+    ensures { λ r. ⌜ r ≡ place notFinite (now (values .entry)) ⌝ }
+{
+    if all_finite(values) {
+        return values.len();
+    }
+    find_non_finite(values)
+}
+
+// The seed of the host's generator of rotation signs.
+pub fn hadamard_seed(seed: u64) -> u64
+    ensures { λ r. ⌜ r ≡ hadamardSeed seed ⌝ }
+{
+    std::num::wrapping_add_u64(seed, 0xA11C_E55E_D5A5_EED5)
+}
+
+// The seed of the host's generator of matrix entries.
+pub fn matrix_seed(seed: u64) -> u64
+    ensures { λ r. ⌜ r ≡ matrixSeed seed ⌝ }
+{
+    let residual = std::num::wrapping_add_u64(seed, 0xCAFE_BABE_0000_0001);
+    std::num::wrapping_add_u64(residual, 0xDEAD_BEEF_1234_5678)
+}
+
+// Whether the total bits are outside 1..16, or below 2 in residual mode.
+fn outside_bits(setup: Setup) -> bool
+    ensures { λ r. ⌜ r ≡ outsideBits setup ⌝ }
+{
+    let mode = setup.mode;
+    let bits = setup.bits;
+    match mode {
+        TurboMode::PolarOnly => {
+            if bits < 1 {
+                return true;
+            }
+            16 < bits
+        }
+        TurboMode::PolarWithQjl => {
+            if bits < 2 {
+                return true;
+            }
+            16 < bits
+        }
+    }
+}
+
+// Whether, in residual mode, the projections are 0 or above 4,096.
+fn outside_projections(setup: Setup) -> bool
+    ensures { λ r. ⌜ r ≡ outsideProjections setup ⌝ }
+{
+    let mode = setup.mode;
+    let projections = setup.projections;
+    match mode {
+        TurboMode::PolarOnly => false,
+        TurboMode::PolarWithQjl => {
+            if projections == 0 {
+                return true;
+            }
+            4096 < projections
+        }
+    }
+}
+
+// How many entries the table of directions has at so many polar bits.
+fn direction_entries(bits: u8) -> usize
+    requires { ⌜ bits ≤ 60 ⌝ }
+    ensures { λ r. ⌜ r ≡ 2 * 2 ^ bits ⌝ }
+{
+    2 * (1usize << bits)
+}
+
+// The checks of the lent tables, under scalars that pass.
+fn check_tables(setup: Setup, signs: &[f32], directions: &[f32], matrix: &[f32]) -> Outcome
+    requires { ⌜ first (scalarChecks setup) accepted ≡ accepted ⌝ }
+    ensures { λ r. ⌜ says r ≡ first (tableChecks setup (now (signs .entry)) (now (directions .entry)) (now (matrix .entry))) accepted ⌝ }
+{
+    let dim = setup.dim;
+    let rows = counted_projections(setup);
+    if signs.len() != dim {
+        return Outcome::Refused {
+            number: DIMENSION_MISMATCH,
+            place: signs.len(),
+        };
+    }
+    if directions.len() != direction_entries(polar_bits(setup)) {
+        return Outcome::Refused {
+            number: DIMENSION_MISMATCH,
+            place: directions.len(),
+        };
+    }
+    if matrix.len() != rows * dim {
+        return Outcome::Refused {
+            number: DIMENSION_MISMATCH,
+            place: matrix.len(),
+        };
+    }
+    let sign = rotation::first_bad_sign(signs);
+    if sign < signs.len() {
+        return Outcome::Refused {
+            number: MALFORMED_SIGN,
+            place: sign,
+        };
+    }
+    let direction = first_bad_direction(directions);
+    if direction < directions.len() {
+        return Outcome::Refused {
+            number: INVALID_DIRECTION,
+            place: direction,
+        };
+    }
+    if all_finite(matrix) {
+        return Outcome::Done;
+    }
+    Outcome::Refused {
+        number: NON_FINITE_MATRIX,
+        place: first_non_finite_entry(matrix, rows, dim),
+    }
+}
+
+// Whether a direction entry is not finite or lies outside -1..1.
+fn is_bad_direction(entry: f32) -> bool
+    ensures { λ r. ⌜ r ≡ badDirection entry ⌝ }
+{
+    if -1.0f32 <= entry {
+        if entry <= 1.0f32 {
+            return false;
+        }
+    }
+    true
+}
+
+// Whether no direction entry offends. The pass goes to the end, so that it is done for several entries at a time.
+fn all_directions(directions: &[f32]) -> bool
+    ensures { λ r. ⌜ r ≡ clear badDirection (now (directions .entry)) ⌝ }
+{
+    let mut ok = true;
+    let mut i = 0;
+    while i < directions.len() {
+        if is_bad_direction(directions[i]) {
+            ok = false;
+        }
+        i += 1;
+    }
+    ok
+}
+
+// The index of the first direction entry that offends, one by one, or their number where there is none.
+fn find_bad_direction(directions: &[f32]) -> usize
+    ensures { λ r. ⌜ r ≡ place badDirection (now (directions .entry)) ⌝ }
+{
+    let mut i = 0;
+    while i < directions.len() {
+        if is_bad_direction(directions[i]) {
+            return i;
+        }
+        i += 1;
+    }
+    i
+}
+
+// Whether every value is finite. The pass goes to the end, so that it is done for several values at a time.
+fn all_finite(values: &[f32]) -> bool
+    ensures { λ r. ⌜ r ≡ clear notFinite (now (values .entry)) ⌝ }
+{
+    let mut ok = true;
+    let mut i = 0;
+    while i < values.len() {
+        if !float::is_finite(values[i]) {
+            ok = false;
+        }
+        i += 1;
+    }
+    ok
+}
+
+// The index of the first value that is not finite, one by one, or their number where there is none.
+fn find_non_finite(values: &[f32]) -> usize
+    ensures { λ r. ⌜ r ≡ place notFinite (now (values .entry)) ⌝ }
+{
+    let mut i = 0;
+    while i < values.len() {
+        if !float::is_finite(values[i]) {
+            return i;
+        }
+        i += 1;
+    }
+    i
+}
+
+// The index of the first matrix entry that is not finite, row by row, or their number where there is none.
+fn first_non_finite_entry(matrix: &[f32], rows: usize, columns: usize) -> usize
+    requires { ⌜ rows * columns ≡ length (now matrix) ⌝ }
+    ensures { λ r. ⌜ r ≡ place notFinite (now (matrix .entry)) ⌝ }
+{
+    let mut found = matrix.len();
+    let mut row = 0;
+    'rows: while row < rows {
+        let mut column = 0;
+        while column < columns {
+            let index = row * columns + column;
+            if !float::is_finite(matrix[index]) {
+                found = index;
+                break 'rows;
+            }
+            column += 1;
+        }
+        row += 1;
+    }
+    found
+}
