@@ -10,8 +10,9 @@ use borrow.Author.Tests.{lt-ltb, le-ltb, ltb-false, leb-false, eq-eqb, ne-eqb, e
 use Rattle.error.specs.Answer.{Answer, value, refused, place, each, done, after, first}
 use Rattle.error.proofs.Places.{place-le, place-passed}
 use Rattle.digits.specs.Digits.{number, digits}
+use Rattle.error.specs.Checks.{wrongBits, wrongRoom}
 use Rattle.bitpack.specs.Padding.{bytesFor, paddingOf, wrongLength, wrongPadding}
-use Rattle.bitpack.specs.Packing.{packedLen, packOf, unpackOf, tooLarge, wrongWidth, overflow, wrongRoom}
+use Rattle.bitpack.specs.Packing.{packedLen, packOf, unpackOf, tooLarge, overflow}
 use Rattle.bitpack.specs.Asked.{Packable, Unpackable}
 use Rattle.error.proofs.Chains.{append-refused, append-passed, first-value, first-passes, or-false}
 
@@ -27,13 +28,13 @@ pub record Measured (count bits need : ℕ) : Type 0 where
 pub measured : (count bits : ℕ) {need : ℕ} → packedLen count bits ≡ value need → Measured count bits need
 unfolding packedLen
 measured count bits e =
-    let passed = first-passes (wrongWidth bits ∷ overflow count bits ∷ []) (bytesFor (count * bits)) e in
+    let passed = first-passes (wrongBits bits ∷ overflow count bits ∷ []) (bytesFor (count * bits)) e in
     let width = or-false _ _ (passed .0) in
     record {
       wide = ltb-false bits 1 (width .0);
       narrow = ltb-false 16 bits (width .1);
       fits = ltb-false (2 ^ 64 - 1) (count * bits) (passed .1 .0);
-      is = first-value (wrongWidth bits ∷ overflow count bits ∷ []) (bytesFor (count * bits)) e;
+      is = first-value (wrongBits bits ∷ overflow count bits ∷ []) (bytesFor (count * bits)) e;
     }
 
 -- ---- packing
@@ -43,7 +44,7 @@ module _ (indices : List ℕ) (bits room : ℕ) where
   unfolding packedLen packOf
   pack-no-length e =
       append-refused
-      (wrongWidth bits ∷ overflow (length indices) bits ∷ [])
+      (wrongBits bits ∷ overflow (length indices) bits ∷ [])
       (each (tooLarge bits) 15 indices ∷ wrongRoom room (bytesFor (length indices * bits)) ∷ [])
       _ _ e
 
@@ -52,7 +53,7 @@ module _ (indices : List ℕ) (bits room : ℕ) where
     unfolding packedLen packOf
     pack-rest =
         append-passed
-        (wrongWidth bits ∷ overflow (length indices) bits ∷ [])
+        (wrongBits bits ∷ overflow (length indices) bits ∷ [])
         (each (tooLarge bits) 15 indices ∷ wrongRoom room (bytesFor (length indices * bits)) ∷ [])
         _ _ told
         ∙ rw (measured (length indices) bits told .is)
@@ -86,7 +87,7 @@ module _ (packed : List ℕ) (count bits room : ℕ) where
   unfolding packedLen unpackOf
   unpack-no-length e =
       append-refused
-      (wrongWidth bits ∷ overflow count bits ∷ [])
+      (wrongBits bits ∷ overflow count bits ∷ [])
       (wrongLength packed (count * bits) ∷ wrongPadding packed (count * bits) ∷ wrongRoom room count ∷ [])
       _ _ e
 
@@ -95,7 +96,7 @@ module _ (packed : List ℕ) (count bits room : ℕ) where
     unfolding packedLen unpackOf
     unpack-rest =
         append-passed
-        (wrongWidth bits ∷ overflow count bits ∷ [])
+        (wrongBits bits ∷ overflow count bits ∷ [])
         (wrongLength packed (count * bits) ∷ wrongPadding packed (count * bits) ∷ wrongRoom room count ∷ [])
         _ _ told
 

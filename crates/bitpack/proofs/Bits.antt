@@ -14,7 +14,8 @@ use lib.Seq.{length-take-le, getD-take}
 use borrow.Author.Tests.{le-leb, lt-leb, eq-eqb, ne-eqb, ltb-true, ltb-false, eqb-true, eqb-false}
 use Rattle.digits.specs.Digits.{number}
 use Rattle.digits.proofs.Laws.{Below, below-head, below-tail, number-lt}
-use Rattle.bitpack.specs.Padding.{bytesFor, differs, padded}
+use Rattle.error.specs.Checks.{differs}
+use Rattle.bitpack.specs.Padding.{bytesFor, padded}
 use Rattle.bitpack.proofs.Digits.{number-drop, number-end, number-run}
 
 -- digit i of a number

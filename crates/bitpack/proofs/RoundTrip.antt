@@ -14,8 +14,9 @@ use borrow.Author.Tests.{lt-leb, leb-false, ltb-false, eqb-true, eqb-false}
 use Rattle.error.specs.Answer.{value, check, place, each}
 use Rattle.digits.specs.Digits.{number, digits}
 use Rattle.digits.proofs.Laws.{Below, below-head, below-tail, length-digits, digits-below, number-lt, number-digits, digits-number}
+use Rattle.error.specs.Checks.{differs, wrongBits, wrongRoom}
 use Rattle.bitpack.specs.Padding.{bytesFor, padded, wrongLength, wrongPadding}
-use Rattle.bitpack.specs.Packing.{packOf, unpackOf, tooLarge, wrongWidth, overflow, wrongRoom}
+use Rattle.bitpack.specs.Packing.{packOf, unpackOf, tooLarge, overflow}
 use Rattle.bitpack.specs.Signs.{isPlus, notSign, bitOf, signOf, packSignsOf, unpackSignsOf}
 use Rattle.error.proofs.Chains.{Passed, first-passes, first-value, first-accepts, or-false}
 use Rattle.error.proofs.Places.{each-clear, each-none}
@@ -63,14 +64,14 @@ module _ (bits count used : ℕ) (packed : List ℕ) (total : count * bits ≡ u
 -- ---- indices
 
 module _ (indices : List ℕ) (bits room : ℕ) {packed : List ℕ} (told : packOf indices bits room ≡ value packed) where
-  pack-passed : Passed (wrongWidth bits ∷ overflow (length indices) bits ∷ each (tooLarge bits) 15 indices ∷ wrongRoom room (bytesFor (length indices * bits)) ∷ [])
+  pack-passed : Passed (wrongBits bits ∷ overflow (length indices) bits ∷ each (tooLarge bits) 15 indices ∷ wrongRoom room (bytesFor (length indices * bits)) ∷ [])
   unfolding packOf
-  pack-passed = first-passes (wrongWidth bits ∷ overflow (length indices) bits ∷ each (tooLarge bits) 15 indices ∷ wrongRoom room (bytesFor (length indices * bits)) ∷ []) _ told
+  pack-passed = first-passes (wrongBits bits ∷ overflow (length indices) bits ∷ each (tooLarge bits) 15 indices ∷ wrongRoom room (bytesFor (length indices * bits)) ∷ []) _ told
 
   -- the bytes are the number's digits
   pub pack-bytes : digits 256 (bytesFor (length indices * bits)) (number (2 ^ bits) indices) ≡ packed
   unfolding packOf
-  pack-bytes = first-value (wrongWidth bits ∷ overflow (length indices) bits ∷ each (tooLarge bits) 15 indices ∷ wrongRoom room (bytesFor (length indices * bits)) ∷ []) _ told
+  pack-bytes = first-value (wrongBits bits ∷ overflow (length indices) bits ∷ each (tooLarge bits) 15 indices ∷ wrongRoom room (bytesFor (length indices * bits)) ∷ []) _ told
 
   -- every index that was packed fits
   pub pack-below : Below (2 ^ bits) indices
@@ -87,7 +88,7 @@ module _ (indices : List ℕ) (bits room : ℕ) {packed : List ℕ} (told : pack
       let used : ℕ = length indices * bits in
       rw (← pack-bytes)
       (first-accepts
-      (wrongWidth bits
+      (wrongBits bits
       ∷ overflow (length indices) bits
       ∷ wrongLength (digits 256 (bytesFor used) (number (2 ^ bits) indices)) used
       ∷ wrongPadding (digits 256 (bytesFor used) (number (2 ^ bits) indices)) used
@@ -108,14 +109,14 @@ module _ (indices : List ℕ) (bits room : ℕ) {packed : List ℕ} (told : pack
       ∙ number-bit bits indices k wide pack-below)
 
 module _ (packed : List ℕ) (count bits room : ℕ) {indices : List ℕ} (told : unpackOf packed count bits room ≡ value indices) where
-  unpack-passed : Passed (wrongWidth bits ∷ overflow count bits ∷ wrongLength packed (count * bits) ∷ wrongPadding packed (count * bits) ∷ wrongRoom room count ∷ [])
+  unpack-passed : Passed (wrongBits bits ∷ overflow count bits ∷ wrongLength packed (count * bits) ∷ wrongPadding packed (count * bits) ∷ wrongRoom room count ∷ [])
   unfolding unpackOf
-  unpack-passed = first-passes (wrongWidth bits ∷ overflow count bits ∷ wrongLength packed (count * bits) ∷ wrongPadding packed (count * bits) ∷ wrongRoom room count ∷ []) _ told
+  unpack-passed = first-passes (wrongBits bits ∷ overflow count bits ∷ wrongLength packed (count * bits) ∷ wrongPadding packed (count * bits) ∷ wrongRoom room count ∷ []) _ told
 
   -- the indices are the number's digits
   pub unpack-indices : digits (2 ^ bits) count (number 256 packed) ≡ indices
   unfolding unpackOf
-  unpack-indices = first-value (wrongWidth bits ∷ overflow count bits ∷ wrongLength packed (count * bits) ∷ wrongPadding packed (count * bits) ∷ wrongRoom room count ∷ []) _ told
+  unpack-indices = first-value (wrongBits bits ∷ overflow count bits ∷ wrongLength packed (count * bits) ∷ wrongPadding packed (count * bits) ∷ wrongRoom room count ∷ []) _ told
 
   -- as many indices as were asked for, each of which fits
   pub unpack-length : length indices ≡ count
@@ -133,7 +134,7 @@ module _ (packed : List ℕ) (count bits room : ℕ) {indices : List ℕ} (told 
       let sized = differs-same (length packed) (bytesFor (count * bits)) (unpack-passed .1 .1 .0) in
       rw (← unpack-indices, many)
       (first-accepts
-      (wrongWidth bits
+      (wrongBits bits
       ∷ overflow count bits
       ∷ check (ltb (place (tooLarge bits) ds) count) 15 (place (tooLarge bits) ds)
       ∷ wrongRoom (length packed) (bytesFor (count * bits))

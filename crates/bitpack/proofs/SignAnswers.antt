@@ -8,8 +8,8 @@ use lib.ListN.{length}
 use borrow.Author.Tests.{lt-ltb, le-ltb, eq-eqb, ne-eqb, eqb-true, not-false}
 use Rattle.error.specs.Answer.{value, refused, place, first}
 use Rattle.digits.specs.Digits.{number, digits}
+use Rattle.error.specs.Checks.{wrongRoom}
 use Rattle.bitpack.specs.Padding.{bytesFor, paddingOf, wrongLength, wrongPadding}
-use Rattle.bitpack.specs.Packing.{wrongRoom}
 use Rattle.bitpack.specs.Signs.{notSign, bitOf, signOf, packSignsOf, unpackSignsOf}
 use Rattle.error.proofs.Chains.{append-refused, append-passed, first-passes}
 

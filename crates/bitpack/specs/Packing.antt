@@ -2,13 +2,14 @@
 -- 'Index i of b bits occupies bits i×b upward, least significant first; bit k is bit k mod 8 of byte k/8': the indices are the
 -- digits, base 2^b, of one number, and the bytes are its digits, base 256. Assumes nothing.
 use Prim.Native.Nat.{ℕ, _-_, _*_, _^_}
-use mathlib.Core.Bool.{Bool, _||_}
+use mathlib.Core.Bool.{Bool}
 use mathlib.Core.List.{List, [], _∷_}
 use lib.Dec.{leb, ltb}
 use lib.ListN.{length}
 use Rattle.error.specs.Answer.{Answer, value, refused, Check, check, first, each}
+use Rattle.error.specs.Checks.{wrongBits, wrongRoom}
 use Rattle.digits.specs.Digits.{number, digits}
-use Rattle.bitpack.specs.Padding.{bytesFor, differs, wrongLength, wrongPadding}
+use Rattle.bitpack.specs.Padding.{bytesFor, wrongLength, wrongPadding}
 use Rattle.bitpack.specs.declared.Length.{Length}
 use Rattle.bitpack.specs.declared.Length.the-variants.{Bytes, Refused}
 
@@ -16,10 +17,6 @@ use Rattle.bitpack.specs.declared.Length.the-variants.{Bytes, Refused}
 abbrev pub saysLength : Length → Answer ℕ
 saysLength (Bytes n) = value n
 saysLength (Refused n p) = refused n p
-
--- '1: bits outside 1..16 .. Place: the bits.'
-abbrev pub wrongWidth : ℕ → Check
-wrongWidth bits = check (ltb bits 1 || ltb 16 bits) 1 bits
 
 -- '19: count times bits exceeds the largest usize. Place 0.'
 abbrev pub overflow : ℕ → ℕ → Check
@@ -29,15 +26,11 @@ overflow count bits = check (ltb (2 ^ 64 - 1) (count * bits)) 19 0
 abbrev pub tooLarge : ℕ → ℕ → Bool
 tooLarge bits index = leb (2 ^ bits) index
 
--- '6: an output buffer isn't exactly the needed length. Place: the needed length.'
-abbrev pub wrongRoom : ℕ → ℕ → Check
-wrongRoom room needed = check (differs room needed) 6 needed
-
 -- how many bytes so many indices of so many bits take
 unfoldable pub packedLen : ℕ → ℕ → Answer ℕ
 packedLen count bits =
     first
-    (wrongWidth bits
+    (wrongBits bits
     ∷ overflow count bits
     ∷ [])
     (value (bytesFor (count * bits)))
@@ -46,7 +39,7 @@ packedLen count bits =
 unfoldable pub packOf : List ℕ → ℕ → ℕ → Answer (List ℕ)
 packOf indices bits room =
     first
-    (wrongWidth bits
+    (wrongBits bits
     ∷ overflow (length indices) bits
     ∷ each (tooLarge bits) 15 indices
     ∷ wrongRoom room (bytesFor (length indices * bits))
@@ -57,7 +50,7 @@ packOf indices bits room =
 unfoldable pub unpackOf : List ℕ → ℕ → ℕ → ℕ → Answer (List ℕ)
 unpackOf packed count bits room =
     first
-    (wrongWidth bits
+    (wrongBits bits
     ∷ overflow count bits
     ∷ wrongLength packed (count * bits)
     ∷ wrongPadding packed (count * bits)

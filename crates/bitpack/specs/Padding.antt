@@ -2,19 +2,15 @@
 -- 'The length is count × b / 8, rounded up.' '14: padding bits not zero. Place: that byte's index in its payload.'
 -- Assumes nothing.
 use Prim.Native.Nat.{ℕ, _+_, _-_, _/_, _%_, _^_}
-use mathlib.Core.Bool.{Bool, not, _&&_}
+use mathlib.Core.Bool.{Bool, _&&_}
 use mathlib.Core.List.{List, [], _∷_}
-use lib.Dec.{eqb}
 use lib.ListN.{length, getD}
-use Rattle.error.specs.Answer.{Answer, value, Check, check, first}
+use Rattle.error.specs.Answer.{Answer, Check, check, first, accepted}
+use Rattle.error.specs.Checks.{differs}
 
 -- a number of bits, over 8, rounded up
 abbrev pub bytesFor : ℕ → ℕ
 bytesFor bits = (bits + 7) / 8
-
--- whether two numbers are not equal
-abbrev pub differs : ℕ → ℕ → Bool
-differs a b = not (eqb a b)
 
 -- whether the last byte has a bit that is not zero from bit `used` mod 8 up; a byte that is used whole has no padding
 unfoldable pub padded : List ℕ → ℕ → Bool
@@ -36,4 +32,4 @@ paddingOf packed used =
     (wrongLength packed used
     ∷ wrongPadding packed used
     ∷ [])
-    (value tt)
+    accepted

@@ -8,7 +8,7 @@ use lib.ListN.{length}
 use Rattle.error.specs.Answer.{Answer, value, first, each}
 use Rattle.digits.specs.Digits.{number, digits}
 use Rattle.bitpack.specs.Padding.{bytesFor, wrongLength, wrongPadding}
-use Rattle.bitpack.specs.Packing.{wrongRoom}
+use Rattle.error.specs.Checks.{wrongRoom}
 
 abbrev pub isPlus : ℤ → Bool
 isPlus (pos n) = eqb n 1

@@ -9,7 +9,8 @@ use borrow.Author.Tests.{ltb-false}
 use lib.Dec.{ltb}
 use lib.Ieee.{Float}
 use Rattle.error.specs.Answer.{Answer, value, refused, Check, check, first}
-use Rattle.codebook.specs.Codebook.{checkOf, wrongBits, wrongBounds}
+use Rattle.codebook.specs.Codebook.{checkOf, wrongBounds}
+use Rattle.error.specs.Checks.{wrongBits}
 
 -- not both a value and a refusal
 pub value-not-refused {ℓ} : {A : Type 0} {X : Type ℓ} {x : A} {n p : ℕ} → value x ≡ refused n p → X

@@ -8,12 +8,9 @@ use lib.IntN.{pos}
 use lib.Ieee.{Float, binary32, add, sub, mul, div, lt, le, ofInt, ofBits}
 use lib.Ieee.Scale.{finite}
 use Rattle.error.specs.Answer.{Answer, value, Check, check, first}
+use Rattle.error.specs.Checks.{wrongBits, wrongIndex}
 use Rattle.float.specs.Rounding.{floorUnsigned}
 use Rattle.codebook.specs.declared.ScalarCodebook.{ScalarCodebook}
-
--- '1: bits outside 1..16. Place: the bits.'
-abbrev pub wrongBits : ℕ → Check
-wrongBits bits = check (ltb bits 1 || ltb 16 bits) 1 bits
 
 -- '17: a bound not finite, or min above max; for a codebook also min equal to max. Place 0.'
 abbrev pub wrongBounds : Float → Float → Check
@@ -22,10 +19,6 @@ wrongBounds lo hi = check (not (finite lo) || not (finite hi) || le hi lo) 17 0
 -- '11: a value is not finite.'
 abbrev pub wrongValue : Float → Check
 wrongValue x = check (not (finite x)) 11 0
-
--- '15: index at or above 2^bits. Place: its index; for a codebook or a single angle, 0.'
-abbrev pub wrongIndex : ℕ → ℕ → Check
-wrongIndex bits index = check (leb (2 ^ bits) index) 15 0
 
 -- Rust's `f32::clamp`: what is below lo is lo, and then what is above hi is hi
 unfoldable pub clamped : Float → Float → Float → Float

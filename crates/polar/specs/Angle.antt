@@ -1,21 +1,13 @@
 -- The angle that an index stands for, each step rounded, and what a call for it answers. 'An angle: 1, 15.' (document 01) Assumes nothing.
 use Prim.Native.Nat.{ℕ, _^_}
-use mathlib.Core.Bool.{false, _||_}
+use mathlib.Core.Bool.{false}
 use mathlib.Core.List.{[], _∷_}
-use lib.Dec.{leb, ltb}
 use lib.IntN.{pos}
 use lib.Ieee.{Float, fin, binary32, sub, mul, div, ofInt, ofBits}
-use Rattle.error.specs.Answer.{Answer, value, refused, Check, check, first}
+use Rattle.error.specs.Answer.{Answer, value, refused, first}
+use Rattle.error.specs.Checks.{wrongBits, wrongIndex}
 use Rattle.polar.specs.declared.Angle.{Angle}
 use Rattle.polar.specs.declared.Angle.the-variants.{Radians, Refused}
-
--- '1: bits outside 1..16 .. Place: the bits.'
-abbrev pub wrongBits : ℕ → Check
-wrongBits bits = check (ltb bits 1 || ltb 16 bits) 1 bits
-
--- '15: index at or above 2^bits. Place: its index; for a codebook or a single angle, 0.'
-abbrev pub wrongIndex : ℕ → ℕ → Check
-wrongIndex bits index = check (leb (2 ^ bits) index) 15 0
 
 -- 'PI is 40490FDB.'
 unfoldable pub pi : Float

@@ -2,12 +2,11 @@
 -- its radius, and the direction that its index names: the entries 2 j and 2 j + 1 of the table, for index j. A float that is missing counts as +0.0,
 -- and an index that is missing as 0, so that every list has an answer. Assumes nothing.
 use Prim.Native.Nat.{ℕ, _+_, _*_}
-use mathlib.Core.Bool.{not}
 use mathlib.Core.List.{List, [], _∷_, map}
-use lib.Dec.{eqb}
 use lib.ListN.{length, getD}
 use lib.Ieee.{Float, binary32, add, mul}
-use Rattle.error.specs.Answer.{Answer, value, Check, check, first}
+use Rattle.error.specs.Answer.{Answer, value, first}
+use Rattle.error.specs.Checks.{wrongRoom}
 use Rattle.rounding.specs.Butterfly.{from}
 use Rattle.rounding.specs.Sums.{total}
 use Rattle.rounding.specs.Value.{posZero}
@@ -62,10 +61,6 @@ across directions indices radii i = mul binary32 (at radii i) (sine directions i
 unfoldable pub decodedPairs : List Float → List ℕ → List Float → List Float
 decodedPairs directions indices radii = laid (along directions indices radii) (across directions indices radii) (pairs radii)
 
--- '6: an output buffer isn't exactly the needed length. Place: the needed length.'
-abbrev pub wrongOutput : ℕ → ℕ → Check
-wrongOutput needed found = check (not (eqb found needed)) 6 needed
-
 -- what the call answers, into an output that has so much room
 unfoldable pub pairsOf : List Float → List ℕ → List Float → ℕ → Answer (List Float)
-pairsOf directions indices radii room = first (wrongOutput (2 * length radii) room ∷ []) (value (decodedPairs directions indices radii))
+pairsOf directions indices radii room = first (wrongRoom room (2 * length radii) ∷ []) (value (decodedPairs directions indices radii))

@@ -11,7 +11,8 @@ use Rattle.error.specs.Answer.{value, refused, place, first}
 use Rattle.float.specs.Bytes.{ofLeBytes}
 use Rattle.radius.specs.Chunks.{chunks}
 use Rattle.radius.specs.Radii.{badRadius, badRange}
-use Rattle.radius.specs.Codec.{differs, isLog, widthOf, compressChecks, radiiFor, decompressOf}
+use Rattle.error.specs.Checks.{differs}
+use Rattle.radius.specs.Codec.{isLog, widthOf, compressChecks, radiiFor, decompressOf}
 use Rattle.radius.proofs.Chunks.{chunks-length}
 use Rattle.radius.specs.declared.Range.{Range}
 use Rattle.radius.specs.declared.RadiusCodecProfileV1.{RadiusCodecProfileV1}

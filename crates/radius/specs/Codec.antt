@@ -1,11 +1,11 @@
 -- Radii in bytes and back under a profile, refusals included, in document 01's terms. Assumes nothing.
 use Prim.Native.Nat.{ℕ, _+_, _*_}
-use mathlib.Core.Bool.{Bool, true, false, not}
+use mathlib.Core.Bool.{Bool, true, false}
 use mathlib.Core.List.{List, [], _∷_, map, flatMap}
-use lib.Dec.{eqb}
 use lib.ListN.{length}
 use lib.Ieee.{Float}
 use Rattle.error.specs.Answer.{Answer, value, Check, check, first, each}
+use Rattle.error.specs.Checks.{differs, wrongRoom}
 use Rattle.float.specs.Bytes.{ofLeBytes, toLeBytes}
 use Rattle.radius.specs.Chunks.{chunks}
 use Rattle.radius.specs.Radii.{zeroFloat, badRadius, badRange, rangeOf}
@@ -13,9 +13,6 @@ use Rattle.radius.specs.Linear.{linearBytes, linearRadius}
 use Rattle.radius.specs.declared.Range.{Range}
 use Rattle.radius.specs.declared.RadiusCodecProfileV1.{RadiusCodecProfileV1}
 use Rattle.radius.specs.declared.RadiusCodecProfileV1.the-variants.{F32, BlockLinearU16, BlockLogU8}
-
-abbrev pub differs : ℕ → ℕ → Bool
-differs a b = not (eqb a b)
 
 -- '18: profile BlockLogU8. Place 0.'
 abbrev pub isLog : RadiusCodecProfileV1 → Bool
@@ -28,10 +25,6 @@ abbrev pub widthOf : RadiusCodecProfileV1 → ℕ
 widthOf F32 = 4
 widthOf BlockLinearU16 = 2
 widthOf BlockLogU8 = 1
-
--- '6: an output buffer isn't exactly the needed length. Place: the needed length.'
-abbrev pub wrongRoom : ℕ → ℕ → Check
-wrongRoom room needed = check (differs room needed) 6 needed
 
 -- '13: byte length wrong. Place: the length found.'
 abbrev pub wrongLength : RadiusCodecProfileV1 → ℕ → List ℕ → Check

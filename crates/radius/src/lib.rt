@@ -17,7 +17,8 @@ ghost use Rattle.float.specs.Bytes.{ofLeBytes, toLeBytes};
 ghost use Rattle.radius.specs.Chunks.{chunks};
 ghost use Rattle.radius.specs.Radii.{badRadius, badRange, rangeOf};
 ghost use Rattle.radius.specs.Linear.{clamped, spanOf, quantized, linearBytes, linearRadius};
-ghost use Rattle.radius.specs.Codec.{differs, compressedRange, compressedBytes, decompressOf, encodedBytes};
+ghost use Rattle.error.specs.Checks.{differs};
+ghost use Rattle.radius.specs.Codec.{compressedRange, compressedBytes, decompressOf, encodedBytes};
 ghost use Rattle.radius.specs.Says.{saysRange, saysLength};
 
 // How radii are stored. BlockLogU8 is known and refused.

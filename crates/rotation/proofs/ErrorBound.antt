@@ -22,7 +22,7 @@ use Rattle.rounding.proofs.Blocks.{close-transform}
 use Rattle.rotation.specs.Rotation.{inverseRoot, scaled, hadamardOf, rotated}
 use Rattle.rotation.specs.Exact.{negative, exactRotated, absoluteSum}
 use Rattle.rotation.proofs.Accepted.{Rotatable, power-steps, power-few}
-use Rattle.rotation.proofs.Lists.{length-products}
+use Rattle.rounding.proofs.Lists.{length-products}
 use Rattle.rotation.proofs.SignValues.{signs-are-ones}
 
 pub inverse-root-fits : (n : ℕ) → T (fits binary32 (inverseRoot n))

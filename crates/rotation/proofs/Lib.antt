@@ -1,4 +1,3 @@
-pub mod Lists
 pub mod InPlace
 pub mod Stores
 pub mod Blocks

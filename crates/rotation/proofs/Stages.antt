@@ -15,7 +15,7 @@ use Rattle.rotation.specs.Block.{at, Partly, Stepped}
 use Rattle.rounding.specs.Value.{posZero}
 use Rattle.rounding.specs.Butterfly.{entry, stage}
 use Rattle.rounding.proofs.Butterflies.{stage-length, stage-at}
-use Rattle.rotation.proofs.Lists.{getD-any}
+use Rattle.rounding.proofs.Lists.{getD-any}
 
 -- ---- the two halves of a block
 

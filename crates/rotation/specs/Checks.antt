@@ -8,6 +8,7 @@ use lib.IntN.{pos}
 use lib.ListN.{length}
 use lib.Ieee.{Float, fin, ne}
 use Rattle.error.specs.Answer.{Check, check, each}
+use Rattle.error.specs.Checks.{wrongInput, wrongRoom}
 
 -- '2: dimension 0. Place 0.'
 abbrev pub zeroDimension : ℕ → Check
@@ -25,14 +26,6 @@ outsidePowers n = not (eqb (ones n) 1) || ltb 4096 n
 abbrev pub noPower : ℕ → Check
 noPower n = check (outsidePowers n) 4 n
 
--- '5: a lent input's length .. differs from the setup's. Place: the length .. found.'
-abbrev pub wrongLength : ℕ → ℕ → Check
-wrongLength needed found = check (not (eqb found needed)) 5 found
-
--- '6: an output buffer isn't exactly the needed length. Place: the needed length.'
-abbrev pub wrongOutput : ℕ → ℕ → Check
-wrongOutput needed found = check (not (eqb found needed)) 6 needed
-
 -- '10: a sign is neither −1 nor 1. Place: its index.'
 abbrev pub badSign : Float → Bool
 badSign s = ne s (fin true 1 (pos 0)) && ne s (fin false 1 (pos 0))
@@ -43,8 +36,8 @@ rotationChecks n signs long room =
     zeroDimension n
     ∷ oddDimension n
     ∷ noPower n
-    ∷ wrongLength n (length signs)
+    ∷ wrongInput n (length signs)
     ∷ each badSign 10 signs
-    ∷ wrongLength n long
-    ∷ wrongOutput n room
+    ∷ wrongInput n long
+    ∷ wrongRoom room n
     ∷ []

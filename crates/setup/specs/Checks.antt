@@ -8,7 +8,8 @@ use lib.ListN.{length}
 use lib.Ieee.{Float, fin, lt}
 use lib.Ieee.Scale.{finite}
 use Rattle.error.specs.Answer.{Check, check, each}
-use Rattle.rotation.specs.Checks.{zeroDimension, oddDimension, noPower, wrongLength, badSign}
+use Rattle.rotation.specs.Checks.{zeroDimension, oddDimension, noPower, badSign}
+use Rattle.error.specs.Checks.{wrongInput}
 use Rattle.setup.specs.declared.Setup.{Setup}
 use Rattle.setup.specs.Setups.{byMode, directionsNeeded, matrixNeeded}
 
@@ -50,9 +51,9 @@ scalarChecks s =
 -- the matrix is lent row by row, so the entry at row r and column c has index r × n + c
 abbrev pub tableChecks : Setup → List Float → List Float → List Float → List Check
 tableChecks s signs directions matrix =
-    wrongLength (s .dim) (length signs)
-    ∷ wrongLength (directionsNeeded s) (length directions)
-    ∷ wrongLength (matrixNeeded s) (length matrix)
+    wrongInput (s .dim) (length signs)
+    ∷ wrongInput (directionsNeeded s) (length directions)
+    ∷ wrongInput (matrixNeeded s) (length matrix)
     ∷ each badSign 10 signs
     ∷ each badDirection 7 directions
     ∷ each notFinite 9 matrix
@@ -63,4 +64,4 @@ setupChecks s signs directions matrix = scalarChecks s ++ tableChecks s signs di
 
 -- of the table of directions alone, where no signs and no matrix are lent
 abbrev pub directionChecks : Setup → List Float → List Check
-directionChecks s directions = wrongLength (directionsNeeded s) (length directions) ∷ each badDirection 7 directions ∷ []
+directionChecks s directions = wrongInput (directionsNeeded s) (length directions) ∷ each badDirection 7 directions ∷ []

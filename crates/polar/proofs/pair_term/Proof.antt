@@ -3,7 +3,7 @@ use borrow.Author.Needs.{needs}
 use lib.Ieee.{nan}
 use Rattle.rounding.specs.Value.{posZero}
 use Rattle.polar.specs.Polar.{term}
-use Rattle.polar.proofs.Entries.{getD-any}
+use Rattle.rounding.proofs.Lists.{getD-any}
 use Rattle.polar.proofs.pair_term.Statement.{statement}
 use Rattle.polar.proofs.pair_term.Tie as tie
 

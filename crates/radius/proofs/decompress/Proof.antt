@@ -11,7 +11,7 @@ use Rattle.float.specs.Bytes.{ofLeBytes}
 use Rattle.radius.specs.Chunks.{chunks}
 use Rattle.radius.specs.Radii.{badRange}
 use Rattle.radius.specs.Linear.{linearRadius}
-use Rattle.radius.specs.Codec.{differs}
+use Rattle.error.specs.Checks.{differs}
 use Rattle.radius.proofs.Refusals.{decompress-log, decompress-length, decompress-radius, decompress-float-room, decompress-floats, decompress-range, decompress-linear-room, decompress-linear}
 use Rattle.radius.specs.declared.RadiusCodecProfileV1.the-variants.{F32, BlockLinearU16}
 use borrow.Author.Needs.{needs}

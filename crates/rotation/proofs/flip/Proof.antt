@@ -6,7 +6,7 @@ use lib.ListN.{length, getD}
 use lib.Ieee.{nan, binary32, mul}
 use Rattle.rounding.specs.Sums.{products}
 use Rattle.rotation.proofs.InPlace.{Made, made-start, made-more, made-all}
-use Rattle.rotation.proofs.Lists.{length-products, getD-products}
+use Rattle.rounding.proofs.Lists.{length-products, getD-products}
 use Rattle.rotation.proofs.flip.Statement.{statement}
 use Rattle.rotation.proofs.flip.Tie as tie
 use Rattle.rotation.proofs.flip.Reads as reads
