@@ -9,7 +9,7 @@ use native.Mathlib.Omega.{arith}
 use lib.ListN.{length, getD, take, drop, set, drop-of-length-le, take-append-drop, length-drop}
 use lib.Seq.{drop-cons, take-all, length-take-le, drop-drop}
 use Rattle.digits.specs.Digits.{number, digits}
-use Rattle.bitpack.proofs.Stores.{store-next}
+use Rattle.digits.proofs.Runs.{store-next}
 use Rattle.digits.proofs.Laws.{number-nil, number-cons, number-append, digits-none, digits-more}
 
 -- the lowest n digits do not see what stands above them

@@ -1,7 +1,6 @@
 pub mod Lengths
 pub mod Differs
 pub mod Padding
-pub mod Stores
 pub mod Digits
 pub mod Windows
 pub mod Packing

@@ -10,7 +10,7 @@ use lib.Seq.{take-all}
 use Rattle.digits.specs.Digits.{number, digits}
 use Rattle.digits.proofs.Laws.{digits-none, digits-append, length-digits}
 use Rattle.bitpack.specs.Signs.{signOf}
-use Rattle.bitpack.proofs.Stores.{store-next, length-store, take-store}
+use Rattle.digits.proofs.Runs.{store-next, length-store, take-store}
 use Rattle.bitpack.proofs.Digits.{digits-low, digits-next, number-drop}
 use Rattle.bitpack.proofs.Windows.{above}
 

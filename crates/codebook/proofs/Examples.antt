@@ -5,7 +5,8 @@ use mathlib.Core.Path.{_≡_, refl}
 use mathlib.Core.Bool.{false}
 use lib.Ieee.{Float, nan, inf, binary32, ofBits, sub, div, mul, add, lt, le, ofInt, toUnsigned}
 use Rattle.error.specs.Answer.{value, refused}
-use Rattle.codebook.specs.Codebook.{quantizeOf, midpointOf, levelsOf, levelOf, middleOf, clamped}
+use Rattle.float.specs.Rounding.{clamped}
+use Rattle.codebook.specs.Codebook.{quantizeOf, midpointOf, levelsOf, levelOf, middleOf}
 
 abbrev float : ℕ → Float
 float bits = ofBits binary32 bits

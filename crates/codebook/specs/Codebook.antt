@@ -9,7 +9,7 @@ use lib.Ieee.{Float, binary32, add, sub, mul, div, lt, le, ofInt, ofBits}
 use lib.Ieee.Scale.{finite}
 use Rattle.error.specs.Answer.{Answer, value, Check, check, first}
 use Rattle.error.specs.Checks.{wrongBits, wrongIndex}
-use Rattle.float.specs.Rounding.{floorUnsigned}
+use Rattle.float.specs.Rounding.{floorUnsigned, clamped}
 use Rattle.codebook.specs.declared.ScalarCodebook.{ScalarCodebook}
 
 -- '17: a bound not finite, or min above max; for a codebook also min equal to max. Place 0.'
@@ -19,10 +19,6 @@ wrongBounds lo hi = check (not (finite lo) || not (finite hi) || le hi lo) 17 0
 -- '11: a value is not finite.'
 abbrev pub wrongValue : Float → Check
 wrongValue x = check (not (finite x)) 11 0
-
--- Rust's `f32::clamp`: what is below lo is lo, and then what is above hi is hi
-unfoldable pub clamped : Float → Float → Float → Float
-clamped lo hi x = let y = cond (lt x lo) lo x in cond (lt hi y) hi y
 
 -- how many levels so many bits have, as a float
 abbrev pub levelsFloat : ℕ → Float

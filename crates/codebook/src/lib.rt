@@ -7,7 +7,7 @@ use error::Outcome;
 ghost use Prim.Native.Nat.{_≤_, _^_};
 ghost use mathlib.Core.Path.{_≡_};
 ghost use Rattle.error.specs.Outcomes.{says};
-ghost use Rattle.codebook.specs.Codebook.{clamped, checkOf, uniformOf, levelsOf, quantizeOf, midpointOf};
+ghost use Rattle.codebook.specs.Codebook.{checkOf, uniformOf, levelsOf, quantizeOf, midpointOf};
 ghost use Rattle.codebook.specs.Says.{saysMade, saysCount, saysIndex, saysPoint};
 
 // A deterministic uniform scalar codebook over a closed interval.
@@ -76,7 +76,7 @@ impl ScalarCodebook {
             };
         }
         let levels = level_count(self.bits);
-        let clipped = clamp(value, self.min, self.max);
+        let clipped = float::clamp(value, self.min, self.max);
         let normalized = (clipped - self.min) / (self.max - self.min);
         let index = float::floor_u32(normalized * levels as f32);
         let last = levels - 1;
@@ -131,12 +131,4 @@ fn level_count(bits: u8) -> u32
     ensures { λ r. ⌜ r ≡ 2 ^ bits ⌝ }
 {
     1u32 << bits
-}
-
-// Rust's `f32::clamp`.
-fn clamp(x: f32, min: f32, max: f32) -> f32
-    ensures { λ r. ⌜ r ≡ clamped min max x ⌝ }
-{
-    let y = if x < min { min } else { x };
-    if max < y { max } else { y }
 }

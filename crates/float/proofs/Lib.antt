@@ -7,3 +7,4 @@ pub mod RootCases
 pub mod RootPattern
 pub mod Round
 pub mod SquareRoot
+pub mod Levels

@@ -8,7 +8,7 @@ ghost use lib.Dec.{T};
 ghost use lib.Ieee.{binary32, ofBits, toBits};
 ghost use lib.Ieee.Scale.{finite};
 ghost use Rattle.float.specs.Bytes.{ofLeBytes, toLeBytes};
-ghost use Rattle.float.specs.Rounding.{floorUnsigned, roundUnsigned};
+ghost use Rattle.float.specs.Rounding.{floorUnsigned, roundUnsigned, clamped};
 ghost use Rattle.float.specs.SquareRoot.{NearestRoot, squareRoot, rootPattern, nearestRoot, rootBits};
 ghost use Rattle.float.specs.Units.{nonNegative, units, significandOf, shiftOf};
 
@@ -58,6 +58,14 @@ pub fn to_le_bytes(x: f32) -> [u8; 4]
     let c = (n / 256 / 256 % 256) as u8;
     let d = (n / 256 / 256 / 256 % 256) as u8;
     [a, b, c, d]
+}
+
+// Rust's `x.clamp(min, max)`, and where that panics too: what is below min is min, and then what is above max is max.
+pub fn clamp(x: f32, min: f32, max: f32) -> f32
+    ensures { λ r. ⌜ r ≡ clamped min max x ⌝ }
+{
+    let y = if x < min { min } else { x };
+    if max < y { max } else { y }
 }
 
 // Rust's `x.floor() as u32`: NaN and what is below 1 give 0, and from 2^32 on it is the largest `u32`.

@@ -1,6 +1,5 @@
 pub mod Answers
 pub mod Entries
-pub mod Levels
 pub mod Loops
 pub mod Tables
 pub mod Errors

@@ -8,10 +8,10 @@ use lib.Ieee.{Float, nan, inf, binary32, ofBits, toBits, add, sub, mul, div, lt,
 use Rattle.error.specs.Answer.{value, refused, place}
 use Rattle.digits.specs.Digits.{number, digits}
 use Rattle.float.specs.Bytes.{ofLeBytes, toLeBytes}
-use Rattle.float.specs.Rounding.{roundUnsigned}
+use Rattle.float.specs.Rounding.{clamped, roundUnsigned}
 use Rattle.radius.specs.Chunks.{chunks}
 use Rattle.radius.specs.Radii.{least, greatest, rangeOf}
-use Rattle.radius.specs.Linear.{clamped, spanOf, quantized, linearBytes, restored, linearRadius}
+use Rattle.radius.specs.Linear.{spanOf, quantized, linearBytes, restored, linearRadius}
 use Rattle.radius.specs.Codec.{compressedRange, compressedBytes, decompressOf, encodedBytes}
 use Rattle.radius.specs.declared.Range.{Range}
 use Rattle.radius.specs.declared.RadiusCodecProfileV1.the-variants.{F32, BlockLinearU16, BlockLogU8}

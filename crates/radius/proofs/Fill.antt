@@ -10,7 +10,7 @@ use lib.ListN.{length, getD, take, drop, set, length-set}
 use lib.Seq.{take-all}
 use Rattle.radius.specs.Chunks.{chunks}
 use Rattle.radius.proofs.Chunks.{chunks-more, chunks-none, joined-more, joined-none}
-use Rattle.radius.proofs.Stores.{length-store, take-store, take-set-next}
+use Rattle.digits.proofs.Runs.{length-store, take-store, take-set-next}
 
 -- the next place is w further
 next-place : (w i at : ℕ) → at ≡ w * i → at + w ≡ w * (i + 1)

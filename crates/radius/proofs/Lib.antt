@@ -1,6 +1,5 @@
 pub mod Radii
 pub mod Chunks
-pub mod Stores
 pub mod Fill
 pub mod Refusals
 pub mod Accepted

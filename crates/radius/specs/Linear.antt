@@ -5,13 +5,9 @@ use mathlib.Core.List.{List}
 use lib.IntN.{pos}
 use lib.Ieee.{Float, binary32, add, sub, mul, div, lt, ofInt}
 use Rattle.digits.specs.Digits.{number, digits}
-use Rattle.float.specs.Rounding.{roundUnsigned}
+use Rattle.float.specs.Rounding.{roundUnsigned, clamped}
 use Rattle.radius.specs.Radii.{zeroFloat, oneFloat, mostFloat, floorFloat}
 use Rattle.radius.specs.declared.Range.{Range}
-
--- Rust's `f32::clamp(0.0, 1.0)`: what is below 0 is 0, and then what is above 1 is 1
-unfoldable pub clamped : Float → Float
-clamped x = let y = cond (lt x zeroFloat) zeroFloat x in cond (lt oneFloat y) oneFloat y
 
 -- 'Compress divides by max − min, but at least 2^−23'
 unfoldable pub spanOf : Range → Float
@@ -19,7 +15,7 @@ spanOf range = let width = sub binary32 (range .max) (range .min) in cond (lt fl
 
 -- 'the product with 65,535 is rounded half away from zero'
 unfoldable pub quantized : Float → Float → Float → ℕ
-quantized lo span r = roundUnsigned 16 (mul binary32 (clamped (div binary32 (sub binary32 r lo) span)) mostFloat)
+quantized lo span r = roundUnsigned 16 (mul binary32 (clamped zeroFloat oneFloat (div binary32 (sub binary32 r lo) span)) mostFloat)
 
 -- its two bytes, the least significant first
 unfoldable pub linearBytes : Range → Float → List ℕ

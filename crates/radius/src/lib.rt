@@ -16,7 +16,7 @@ ghost use Rattle.digits.specs.Digits.{digits, number};
 ghost use Rattle.float.specs.Bytes.{ofLeBytes, toLeBytes};
 ghost use Rattle.radius.specs.Chunks.{chunks};
 ghost use Rattle.radius.specs.Radii.{badRadius, badRange, rangeOf};
-ghost use Rattle.radius.specs.Linear.{clamped, spanOf, quantized, linearBytes, linearRadius};
+ghost use Rattle.radius.specs.Linear.{spanOf, quantized, linearBytes, linearRadius};
 ghost use Rattle.error.specs.Checks.{differs};
 ghost use Rattle.radius.specs.Codec.{compressedRange, compressedBytes, decompressOf, encodedBytes};
 ghost use Rattle.radius.specs.Says.{saysRange, saysLength};
@@ -283,16 +283,8 @@ fn span_of(range: Range) -> f32
 fn quantize(min: f32, span: f32, radius: f32) -> u16
     ensures { λ r. ⌜ r ≡ quantized min span radius ⌝ }
 {
-    let normalized = clamp((radius - min) / span);
+    let normalized = float::clamp((radius - min) / span, 0.0, 1.0);
     float::round_u16(normalized * MOST)
-}
-
-// Rust's `f32::clamp(0.0, 1.0)`.
-fn clamp(x: f32) -> f32
-    ensures { λ r. ⌜ r ≡ clamped x ⌝ }
-{
-    let y = if x < 0.0 { 0.0 } else { x };
-    if 1.0 < y { 1.0 } else { y }
 }
 
 // Whether a number of bytes is other than `count` times `width`, however large that is.

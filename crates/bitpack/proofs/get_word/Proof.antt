@@ -2,7 +2,7 @@
 use Prim.Native.Nat.{ℕ, _+_}
 use native.Mathlib.Omega.{arith}
 use Rattle.digits.specs.Digits.{number}
-use Rattle.bitpack.proofs.Stores.{run-four}
+use Rattle.digits.proofs.Runs.{run-four}
 use borrow.Author.Needs.{needs}
 use Rattle.bitpack.proofs.get_word.Statement.{statement}
 use Rattle.bitpack.proofs.get_word.Tie as tie

@@ -2,7 +2,7 @@
 use native.Mathlib.Omega.{arith}
 use lib.ListN.{length-set}
 use Rattle.digits.specs.Digits.{digits}
-use Rattle.bitpack.proofs.Stores.{store-four}
+use Rattle.digits.proofs.Runs.{store-four}
 use borrow.Author.Needs.{needs}
 use Rattle.bitpack.proofs.put_word.Statement.{statement}
 use Rattle.bitpack.proofs.put_word.Tie as tie

@@ -1,6 +1,6 @@
 -- `codebook::level_count` meets its contract: the shift loses no bit. Assumes nothing.
 use borrow.Author.Needs.{needs}
-use Rattle.codebook.proofs.Levels.{levels-shifted}
+use Rattle.float.proofs.Levels.{levels-shifted}
 use Rattle.codebook.proofs.level_count.Statement.{statement}
 use Rattle.codebook.proofs.level_count.Tie as tie
 

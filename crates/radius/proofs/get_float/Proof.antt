@@ -2,7 +2,7 @@
 use Prim.Native.Nat.{ℕ}
 use mathlib.Core.Path.{sym, ap, _∙_}
 use Rattle.float.specs.Bytes.{ofLeBytes}
-use Rattle.radius.proofs.Stores.{run-four}
+use Rattle.digits.proofs.Runs.{run-four}
 use borrow.Author.Needs.{needs}
 use Rattle.radius.proofs.get_float.Statement.{statement}
 use Rattle.radius.proofs.get_float.Tie as tie

@@ -2,7 +2,7 @@
 use Prim.Native.Nat.{ℕ, _+_}
 use native.Mathlib.Omega.{arith}
 use Rattle.digits.specs.Digits.{number}
-use Rattle.radius.proofs.Stores.{run-two}
+use Rattle.digits.proofs.Runs.{run-two}
 use borrow.Author.Needs.{needs}
 use Rattle.radius.proofs.get_number.Statement.{statement}
 use Rattle.radius.proofs.get_number.Tie as tie

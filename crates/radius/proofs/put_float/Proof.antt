@@ -8,7 +8,7 @@ use lib.ListN.{getD, take, drop, length-set}
 use lib.Ieee.{Float}
 use Rattle.digits.specs.Digits.{digits}
 use Rattle.float.specs.Bytes.{toLeBytes}
-use Rattle.radius.proofs.Stores.{store-four}
+use Rattle.digits.proofs.Runs.{store-four}
 use borrow.Author.Needs.{needs}
 use Rattle.radius.proofs.put_float.Statement.{statement}
 use Rattle.radius.proofs.put_float.Tie as tie

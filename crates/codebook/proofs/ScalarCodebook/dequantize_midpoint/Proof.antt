@@ -9,7 +9,7 @@ use Rattle.error.specs.Outcomes.{says}
 use Rattle.codebook.specs.Codebook.{checkOf, middleOf, midpointOf}
 use Rattle.error.specs.Checks.{wrongIndex}
 use Rattle.codebook.proofs.Checks.{check-refused, check-passed, check-narrow}
-use Rattle.codebook.proofs.Levels.{levels-most, levels-inFloat}
+use Rattle.float.proofs.Levels.{levels-most, levels-inFloat}
 use Rattle.codebook.proofs.ScalarCodebook.dequantize_midpoint.Statement.{statement}
 use Rattle.codebook.proofs.ScalarCodebook.dequantize_midpoint.Tie as tie
 

@@ -9,7 +9,7 @@ use Rattle.error.specs.Answer.{value, first}
 use Rattle.error.specs.Outcomes.{says}
 use Rattle.codebook.specs.Codebook.{checkOf, wrongValue, levelOf, quantizeOf}
 use Rattle.codebook.proofs.Checks.{check-refused, check-passed, check-narrow}
-use Rattle.codebook.proofs.Levels.{levels-most, levels-inFloat}
+use Rattle.float.proofs.Levels.{levels-most, levels-inFloat}
 use Rattle.codebook.proofs.ScalarCodebook.quantize.Statement.{statement}
 use Rattle.codebook.proofs.ScalarCodebook.quantize.Tie as tie
 

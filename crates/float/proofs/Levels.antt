@@ -1,4 +1,5 @@
--- How many levels an angle of at most 16 bits has: a power of two that an f32 counts exactly and a shifted u32 holds. Assumes nothing.
+-- How many levels a code of at most 16 bits has: a power of two that an f32 counts exactly and a shifted u32 holds.
+-- Assumes nothing.
 use Prim.Native.Nat.{ℕ, _*_, _%_, _^_, _≤_}
 use mathlib.Core.Path.{_≡_}
 use native.Mathlib.Nat.{one-mul, mod-eq-of-lt, le-trans}

@@ -1,11 +1,11 @@
--- `codebook::clamp` meets its contract: the two tests in the definition's order. Assumes nothing.
+-- `float::clamp` meets its contract: the two tests in the definition's order. Assumes nothing.
 use mathlib.Core.Path.{_≡_, sym, ap, _∙_}
 use mathlib.Core.Bool.{Bool, true, false, cond}
 use mathlib.Core.Logic.{⊎-elim}
 use lib.Ieee.{Float, lt}
-use Rattle.codebook.specs.Codebook.{clamped}
-use Rattle.codebook.proofs.clamp.Statement.{statement}
-use Rattle.codebook.proofs.clamp.Tie as tie
+use Rattle.float.specs.Rounding.{clamped}
+use Rattle.float.proofs.clamp.Statement.{statement}
+use Rattle.float.proofs.clamp.Tie as tie
 
 -- where the first test's arms meet
 raised : (c : tie.Joined1) → let a = c .before .args in c .if1 .y ≡ cond (lt (a .x) (a .min)) (a .min) (a .x)
