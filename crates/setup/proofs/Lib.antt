@@ -1,6 +1,5 @@
 pub mod Chains
 pub mod Directions
-pub mod Signs
 pub mod Rows
 pub mod Sweep
 pub mod Lengths

@@ -1,0 +1,142 @@
+//! The inputs of the benchmark, made from a seed, in the forms that both sides take.
+
+// The port's forms are unused while it is not there.
+#![cfg_attr(not(feature = "capi"), allow(dead_code))]
+
+use cases::{record, rng::Rng};
+use oracle::{
+    packed::PackedTurboCode,
+    qjl::QjlQuantizer,
+    radius::{CompressedRadiiV1, RadiusCodecProfileV1},
+    rotation::FastHadamardRotation,
+    thin,
+    turbo::{TurboCode, TurboMode, TurboProjectedQuery, TurboQuantizer},
+};
+
+pub struct Indices {
+    pub bits: u8,
+    pub items: Vec<u16>,
+    pub packed: Vec<u8>,
+}
+
+pub struct Turn {
+    pub rotation: FastHadamardRotation,
+    pub signs: Vec<f32>,
+    pub input: Vec<f32>,
+}
+
+/// A matrix with a vector for it. The port's sketch takes a whole setup, so signs and
+/// a direction table of 2 total bits stand beside.
+pub struct Sketch {
+    pub qjl: QjlQuantizer,
+    pub dim: usize,
+    pub projections: usize,
+    pub signs: Vec<f32>,
+    pub directions: Vec<f32>,
+    pub matrix: Vec<f32>,
+    pub vector: Vec<f32>,
+}
+
+/// One setup with a query and a code: dimension 256, 8 bits, 64 projections.
+pub struct Turbo {
+    pub quantizer: TurboQuantizer,
+    pub signs: Vec<f32>,
+    pub directions: Vec<f32>,
+    pub matrix: Vec<f32>,
+    pub query: Vec<f32>,
+    pub rotated: Vec<f32>,
+    pub projected: Vec<f32>,
+    pub prepared: TurboProjectedQuery,
+    pub code: TurboCode,
+    pub packed: PackedTurboCode,
+    pub record: Vec<u8>,
+}
+
+pub struct Inputs {
+    pub indices: Vec<Indices>,
+    pub signs: Vec<i8>,
+    pub packed_signs: Vec<u8>,
+    pub radii: Vec<f32>,
+    pub compressed: CompressedRadiiV1,
+    pub rotations: Vec<Turn>,
+    pub sketches: Vec<Sketch>,
+    pub turbo: Turbo,
+}
+
+fn vector(rng: &mut Rng, count: usize) -> Vec<f32> {
+    (0..count).map(|_| rng.unit()).collect()
+}
+
+impl Inputs {
+    pub fn new(seed: u64) -> Self {
+        let mut rng = Rng(seed);
+        let indices = [3u8, 8, 12].map(|bits| {
+            let items: Vec<u16> = (0..4096).map(|_| rng.below(1 << bits) as u16).collect();
+            let packed = thin::pack_indices(&items, bits).unwrap();
+            Indices { bits, items, packed }
+        });
+        let signs: Vec<i8> = (0..4096).map(|_| rng.sign()).collect();
+        let packed_signs = thin::pack_signs(&signs).unwrap();
+        let radii: Vec<f32> = (0..2048).map(|_| rng.unit().abs() * 4.0).collect();
+        let linear = RadiusCodecProfileV1::BlockLinearU16;
+        let compressed = thin::compress(&radii, linear).unwrap();
+        let rotations = [256, 4096].map(|dim| {
+            let signs = thin::drawn_signs(dim, seed).unwrap();
+            let rotation = thin::rotation(dim, &signs).unwrap();
+            Turn { rotation, signs, input: vector(&mut rng, dim) }
+        });
+        let sketches = [(256, 64), (1024, 256)].map(|(dim, projections)| {
+            let matrix = vector(&mut rng, dim * projections);
+            let qjl = thin::qjl(dim, projections, &matrix).unwrap();
+            let vector = vector(&mut rng, dim);
+            let signs = thin::drawn_signs(dim, seed).unwrap();
+            let directions = thin::directions(1);
+            Sketch { qjl, dim, projections, signs, directions, matrix, vector }
+        });
+        Self {
+            indices: indices.into(),
+            signs,
+            packed_signs,
+            radii,
+            compressed,
+            rotations: rotations.into(),
+            sketches: sketches.into(),
+            turbo: turbo(&mut rng, seed),
+        }
+    }
+}
+
+fn turbo(rng: &mut Rng, seed: u64) -> Turbo {
+    let (dim, bits, projections) = (256, 8, 64);
+    let mode = TurboMode::PolarWithQjl;
+    let quantizer = thin::turbo(mode, dim, bits, projections, seed).unwrap();
+    let query = vector(rng, dim);
+    let code = thin::encode(&quantizer, &vector(rng, dim)).unwrap();
+    let packed = PackedTurboCode::from_turbo(&code, RadiusCodecProfileV1::F32).unwrap();
+    let (rotated, projected) = thin::prepare_query(&quantizer, &query).unwrap();
+    let record = record::Parts {
+        map: record::SIGNS,
+        dim: dim as u32,
+        bits: bits - 1,
+        min: 0.0,
+        max: 0.0,
+        projections: projections as u32,
+        radii: packed.polar_code.radii.payload.clone(),
+        indices: packed.polar_code.packed_angle_indices.clone(),
+        signs: packed.residual_sketch.packed_signs.clone(),
+    }
+    .bytes();
+    Turbo {
+        signs: thin::turbo_signs(&quantizer).unwrap(),
+        directions: thin::directions(bits - 1),
+        matrix: thin::turbo_matrix(&quantizer),
+        prepared: thin::prepared(&quantizer, &query).unwrap(),
+        quantizer,
+        query,
+        rotated,
+        projected,
+        code,
+        packed,
+        record,
+    }
+}

@@ -1,0 +1,243 @@
+//! Nanoseconds of processor time a call, the Rust's and (with the feature `capi`) the
+//! port's, in one run on the same inputs: the median and the least of several rounds,
+//! each some milliseconds long, the two sides by turns.
+//! `bench [ROUNDS] [MILLISECONDS]`; 21 and 10 if not given.
+
+mod clock;
+mod inputs;
+#[cfg(feature = "capi")]
+mod port;
+
+use std::{hint::black_box, time::Duration};
+
+use inputs::Inputs;
+use oracle::rotation::Rotation;
+
+/// A call to be timed, again and again.
+pub type Call<'a> = Box<dyn FnMut() + 'a>;
+
+struct Row<'a> {
+    name: &'static str,
+    rust: Call<'a>,
+    port: Option<Call<'a>>,
+}
+
+/// The names of the rows; the port's side is asked for by the same names.
+fn rows<'a>(inputs: &'a Inputs) -> Vec<Row<'a>> {
+    let mut rows: Vec<Row<'a>> = Vec::new();
+    let mut add = |name: &'static str, rust: Call<'a>| {
+        #[cfg(feature = "capi")]
+        let port = port::call(name, inputs);
+        #[cfg(not(feature = "capi"))]
+        let port = None;
+        rows.push(Row { name, rust, port });
+    };
+
+    const PACK: [&str; 3] = ["pack 4096 x 3 bits", "pack 4096 x 8 bits", "pack 4096 x 12 bits"];
+    const UNPACK: [&str; 3] =
+        ["unpack 4096 x 3 bits", "unpack 4096 x 8 bits", "unpack 4096 x 12 bits"];
+    for (i, wide) in inputs.indices.iter().enumerate() {
+        add(
+            PACK[i],
+            Box::new(move || {
+                let packed = oracle::bitpack::pack_indices(black_box(&wide.items), wide.bits);
+                black_box(packed.unwrap());
+            }),
+        );
+    }
+    for (i, wide) in inputs.indices.iter().enumerate() {
+        add(
+            UNPACK[i],
+            Box::new(move || {
+                let (bytes, count) = (black_box(&wide.packed), wide.items.len());
+                black_box(oracle::bitpack::unpack_indices(bytes, count, wide.bits).unwrap());
+            }),
+        );
+    }
+    add(
+        "pack signs 4096",
+        Box::new(|| {
+            black_box(oracle::bitpack::pack_signs(black_box(&inputs.signs)).unwrap());
+        }),
+    );
+    add(
+        "unpack signs 4096",
+        Box::new(|| {
+            let bytes = black_box(&inputs.packed_signs);
+            black_box(oracle::bitpack::unpack_signs(bytes, inputs.signs.len()).unwrap());
+        }),
+    );
+    add(
+        "compress linear 2048",
+        Box::new(|| {
+            let linear = oracle::radius::RadiusCodecProfileV1::BlockLinearU16;
+            let radii = black_box(&inputs.radii);
+            black_box(oracle::radius::CompressedRadiiV1::compress(radii, linear).unwrap());
+        }),
+    );
+    add(
+        "decompress linear 2048",
+        Box::new(|| {
+            black_box(black_box(&inputs.compressed).decompress().unwrap());
+        }),
+    );
+
+    const APPLY: [&str; 2] = ["apply 256", "apply 4096"];
+    for (i, turn) in inputs.rotations.iter().enumerate() {
+        let mut output = vec![0.0f32; turn.input.len()];
+        add(
+            APPLY[i],
+            Box::new(move || {
+                turn.rotation.apply(black_box(&turn.input), &mut output).unwrap();
+                black_box(&output);
+            }),
+        );
+    }
+    const SKETCH: [&str; 2] = ["sketch 256 x 64", "sketch 1024 x 256"];
+    const PROJECT: [&str; 2] = ["project 256 x 64", "project 1024 x 256"];
+    for (i, wide) in inputs.sketches.iter().enumerate() {
+        add(
+            SKETCH[i],
+            Box::new(move || {
+                black_box(wide.qjl.sketch(black_box(&wide.vector)).unwrap());
+            }),
+        );
+    }
+    for (i, wide) in inputs.sketches.iter().enumerate() {
+        add(
+            PROJECT[i],
+            Box::new(move || {
+                black_box(wide.qjl.project_query(black_box(&wide.vector)).unwrap());
+            }),
+        );
+    }
+
+    let turbo = &inputs.turbo;
+    add(
+        "prepare query",
+        Box::new(move || {
+            black_box(turbo.quantizer.prepare_query(black_box(&turbo.query)).unwrap());
+        }),
+    );
+    add(
+        "score",
+        Box::new(move || {
+            let (code, query) = (black_box(&turbo.code), black_box(&turbo.query));
+            black_box(turbo.quantizer.inner_product_estimate(code, query).unwrap());
+        }),
+    );
+    add(
+        "prepared score",
+        Box::new(move || {
+            let (code, query) = (black_box(&turbo.code), black_box(&turbo.prepared));
+            black_box(turbo.quantizer.inner_product_estimate_prepared(code, query).unwrap());
+        }),
+    );
+    add(
+        "distance",
+        Box::new(move || {
+            let (code, query) = (black_box(&turbo.code), black_box(&turbo.query));
+            black_box(turbo.quantizer.l2_distance_estimate(code, query).unwrap());
+        }),
+    );
+    add(
+        "decode",
+        Box::new(move || {
+            black_box(turbo.quantizer.decode_approximate(black_box(&turbo.code)).unwrap());
+        }),
+    );
+
+    // The port scores from a record's bytes; the Rust's nearest form is a packed code.
+    add(
+        "score, packed",
+        Box::new(move || {
+            let code = black_box(&turbo.packed).unpack().unwrap();
+            let query = black_box(&turbo.query);
+            black_box(turbo.quantizer.inner_product_estimate(&code, query).unwrap());
+        }),
+    );
+    add(
+        "prepared score, packed",
+        Box::new(move || {
+            let code = black_box(&turbo.packed).unpack().unwrap();
+            let query = black_box(&turbo.prepared);
+            black_box(turbo.quantizer.inner_product_estimate_prepared(&code, query).unwrap());
+        }),
+    );
+    add(
+        "distance, packed",
+        Box::new(move || {
+            let code = black_box(&turbo.packed).unpack().unwrap();
+            let query = black_box(&turbo.query);
+            black_box(turbo.quantizer.l2_distance_estimate(&code, query).unwrap());
+        }),
+    );
+    add(
+        "decode, packed",
+        Box::new(move || {
+            let code = black_box(&turbo.packed).unpack().unwrap();
+            black_box(turbo.quantizer.decode_approximate(&code).unwrap());
+        }),
+    );
+    rows
+}
+
+/// How many calls take about this long.
+fn calls_in(call: &mut Call, long: Duration) -> u32 {
+    let mut calls = 1u32;
+    loop {
+        let start = clock::now();
+        (0..calls).for_each(|_| call());
+        let spent = clock::now() - start;
+        if spent >= long / 4 || calls > 1 << 24 {
+            let each = spent.as_nanos().max(1) / u128::from(calls);
+            return (long.as_nanos() / each.max(1)).clamp(1, 1 << 26) as u32;
+        }
+        calls *= 2;
+    }
+}
+
+fn round(call: &mut Call, calls: u32) -> f64 {
+    let start = clock::now();
+    (0..calls).for_each(|_| call());
+    (clock::now() - start).as_nanos() as f64 / f64::from(calls)
+}
+
+/// The median, the least, and the width of the middle half in percent of the median.
+fn summary(times: &mut [f64]) -> (f64, f64, f64) {
+    times.sort_by(f64::total_cmp);
+    let n = times.len();
+    let median = times[n / 2];
+    (median, times[0], 100.0 * (times[n * 3 / 4] - times[n / 4]) / median)
+}
+
+fn main() {
+    let mut args = std::env::args().skip(1).map(|arg| arg.parse::<u64>().expect("a number"));
+    let rounds = args.next().unwrap_or(21).max(1);
+    let long = Duration::from_millis(args.next().unwrap_or(10));
+    let inputs = Inputs::new(7);
+    println!("seed 7, {rounds} rounds of {long:?} of processor time; ns a call");
+    println!("+- is the width of the middle half of the rounds; ratio is of the medians");
+    let head = ["Rust", "least", "+-", "port", "least", "+-", "ratio"];
+    let [a, b, c, d, e, f, g] = head;
+    println!("{:<24}{a:>12}{b:>11}{c:>8}{d:>12}{e:>11}{f:>8}{g:>8}", "");
+    for mut row in rows(&inputs) {
+        let rust_calls = calls_in(&mut row.rust, long);
+        let port_calls = row.port.as_mut().map(|port| calls_in(port, long));
+        let (mut rust, mut port) = (Vec::new(), Vec::new());
+        for _ in 0..rounds {
+            rust.push(round(&mut row.rust, rust_calls));
+            if let (Some(call), Some(calls)) = (row.port.as_mut(), port_calls) {
+                port.push(round(call, calls));
+            }
+        }
+        let (rust, least, wide) = summary(&mut rust);
+        print!("{:<24}{rust:>12.1}{least:>11.1}{wide:>7.1}%", row.name);
+        if port.is_empty() {
+            println!("{:>12}{:>11}{:>8}{:>8}", "-", "-", "-", "-");
+        } else {
+            let (port, least, wide) = summary(&mut port);
+            println!("{port:>12.1}{least:>11.1}{wide:>7.1}%{:>8.2}", rust / port);
+        }
+    }
+}

@@ -1,0 +1,101 @@
+//! What the port must answer to a case: document 01's refusal, or the Rust's value, or
+//! the plain sums' value where the Rust has none.
+
+use crate::{
+    ask::ask,
+    case::{same, same_float, strictly_same, Answer, Case, Profile, Value},
+    paper::{refusal, Refusal},
+    plain, record,
+};
+
+/// What is expected of the port.
+#[derive(Debug, Clone, PartialEq)]
+pub enum Expected {
+    Refused(Refusal),
+    Value {
+        value: Value,
+        by_rust: bool,
+        /// The same value with the signs of its zeros as document 01 gives them (sums
+        /// from +0.0, ranges by their first zero), where the Rust's may be others.
+        exact: Option<Value>,
+    },
+    /// Nothing to hold it against, or the Rust and the plain sums differ. None of the
+    /// calls should come to this.
+    Open,
+}
+
+pub fn expected(case: &Case) -> Expected {
+    let answer = ask(case);
+    if let Some(refused) = refusal(case, &answer) {
+        return Expected::Refused(refused);
+    }
+    let exact = plain::value(case);
+    match (answer, exact) {
+        (Answer::Value(value), None) => {
+            let value = ruled(case, value);
+            Expected::Value { value, by_rust: true, exact: None }
+        }
+        (Answer::Value(value), Some(exact)) if same(&value, &exact) => {
+            Expected::Value { value, by_rust: true, exact: Some(exact) }
+        }
+        (Answer::Absent, Some(value)) => {
+            Expected::Value { value: value.clone(), by_rust: false, exact: Some(value) }
+        }
+        _ => Expected::Open,
+    }
+}
+
+/// A linear range's zeros by document 01's rule, which the Rust leaves open.
+fn ruled(case: &Case, value: Value) -> Value {
+    match (case, value) {
+        (
+            Case::Compress { radii, profile: Profile::BlockLinearU16, .. },
+            Value::Radii { min, max, payload },
+        ) => {
+            let (min, max) = ruled_range(radii, min, max);
+            Value::Radii { min, max, payload }
+        }
+        (
+            Case::WriteRecord { radii, profile: Profile::BlockLinearU16, .. },
+            Value::Bytes(bytes),
+        ) => {
+            let mut parts = record::split(&bytes).unwrap();
+            (parts.min, parts.max) = ruled_range(radii, parts.min, parts.max);
+            Value::Bytes(parts.bytes())
+        }
+        (_, value) => value,
+    }
+}
+
+fn ruled_range(radii: &[f32], min: f32, max: f32) -> (f32, f32) {
+    let (low, high) = plain::range(radii);
+    (if same_float(low, min) { low } else { min }, if same_float(high, max) { high } else { max })
+}
+
+/// What the port gave: its refusal or its value, and whether a refusal left every lent
+/// output as it was.
+#[derive(Debug, Clone, PartialEq)]
+pub struct Given {
+    pub answer: Result<Value, Refusal>,
+    pub untouched: bool,
+}
+
+impl Given {
+    /// Agreement by document 01's rule for zeros and NaNs.
+    pub fn agrees(&self, wanted: &Expected) -> bool {
+        match (&self.answer, wanted) {
+            (Err(given), Expected::Refused(wanted)) => given == wanted && self.untouched,
+            (Ok(given), Expected::Value { value, .. }) => same(given, value),
+            _ => false,
+        }
+    }
+
+    /// Agreement in the signs of zeros too.
+    pub fn agrees_in_zeros(&self, wanted: &Expected) -> bool {
+        match (&self.answer, wanted) {
+            (Ok(given), Expected::Value { exact: Some(exact), .. }) => strictly_same(given, exact),
+            (Ok(given), Expected::Value { value, exact: None, .. }) => strictly_same(given, value),
+            _ => true,
+        }
+    }
+}

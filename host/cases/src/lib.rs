@@ -1,0 +1,16 @@
+//! Cases for a comparison of the port with the Rust: made from a seed, answered by the
+//! oracle, and judged by document 01's lists of refusals.
+
+pub mod ask;
+pub mod case;
+pub mod expect;
+pub mod make;
+pub mod paper;
+pub mod plain;
+pub mod record;
+pub mod rng;
+mod setups;
+
+/// Calls of the port through its C functions. Empty until `libcapi.a` is at hand.
+#[cfg(feature = "capi")]
+pub mod port;

@@ -1,0 +1,441 @@
+//! Makes the setups, queries and records of cases.
+
+use std::rc::Rc;
+
+use oracle::thin;
+
+use crate::{
+    case::{rust_setup, Case, Mode, Profile, Setup},
+    make::{Maker, Size},
+    record::{self, Parts},
+};
+
+impl Maker {
+    fn table(&mut self, bits: u8) -> Rc<Vec<f32>> {
+        self.tables.entry(bits).or_insert_with(|| Rc::new(thin::directions(bits))).clone()
+    }
+
+    /// An entry of a table: within −1..1, at its edges or of any class inside them.
+    fn direction(&mut self, edge: bool) -> f32 {
+        if !edge {
+            return self.rng.unit();
+        }
+        let tiny = f32::from_bits(self.rng.next() as u32 & 0x807F_FFFF);
+        let unit = self.rng.unit();
+        self.rng.pick(&[1.0, -1.0, 0.0, -0.0, tiny, unit, 0.99999994])
+    }
+
+    /// The kept setup, or a new one from time to time; a few are damaged.
+    pub(crate) fn setup(&mut self) -> Rc<Setup> {
+        if self.uses == 0 {
+            self.uses = if self.size == Size::Small { 3 } else { 24 };
+            self.kept = Some(self.fresh_setup(0));
+        }
+        self.uses -= 1;
+        if self.rng.chance(4) {
+            return self.fresh_setup(100);
+        }
+        self.kept.clone().unwrap()
+    }
+
+    fn projections(&mut self, dim: usize) -> usize {
+        if self.size == Size::Small {
+            return 1 + self.rng.below(9);
+        }
+        let most = (1 << 18) / dim.max(1);
+        let some = 1 + self.rng.below(64);
+        let m = match self.rng.below(60) {
+            0 => 4096,
+            1 => 1000,
+            2..=4 => 256,
+            _ => self.rng.pick(&[1, 2, 3, 7, 8, 9, 15, 16, 17, 64, some]),
+        };
+        m.min(most).min(4096)
+    }
+
+    pub(crate) fn fresh_setup(&mut self, damaged: usize) -> Rc<Setup> {
+        let damaged = self.rng.chance(damaged);
+        let mode = self.rng.pick(&[Mode::PolarOnly, Mode::PolarWithQjl, Mode::PolarWithQjl]);
+        let residual = mode == Mode::PolarWithQjl;
+        let mut dim = self.good_dim();
+        let least = if residual { 2 } else { 1 };
+        let most = if self.size == Size::Small { 4 } else { 16 };
+        let mut bits = (least + self.rng.below(most + 1 - least)) as u8;
+        let mut projections = self.projections(dim);
+        if !residual {
+            let some = self.rng.below(9);
+            projections = self.rng.pick(&[0, 0, some, usize::MAX]);
+        }
+        let good = (dim, bits, projections);
+        if damaged && self.rng.chance(40) {
+            match self.rng.below(3) {
+                0 => dim = self.odd_dim(),
+                1 => bits = self.rng.pick(&[0, 1, 17, 255]),
+                _ => projections = self.rng.pick(&[0, 4097, usize::MAX]),
+            }
+        }
+        // Parts that fit the good scalars, so that only the change offends.
+        let seed = self.rng.next();
+        let counted = if residual { good.2 } else { 0 };
+        let (mut signs, mut matrix) = self.parts(good.0, good.1, counted, mode, seed);
+        let mut directions = self.table(good.1 - residual as u8);
+        // Now and then another table that is allowed; the Rust knows only the host's.
+        let mut own_table = true;
+        if self.rng.chance(10) {
+            own_table = false;
+            let edge = self.rng.chance(50);
+            let count = directions.len();
+            directions = Rc::new((0..count).map(|_| self.direction(edge)).collect());
+        }
+        if damaged && (dim, bits, projections) == good {
+            let before = directions.clone();
+            self.damage(&mut signs, &mut directions, &mut matrix);
+            own_table = own_table && Rc::ptr_eq(&before, &directions);
+        }
+        // In `PolarOnly` the Rust keeps the count and never looks at it.
+        let asked = if residual { projections } else { projections.min(64) };
+        let rust = rust_setup(mode, dim, bits, asked, &signs, &matrix);
+        let qjl = match &rust {
+            Some(Ok(_)) if residual => thin::qjl(dim, projections, &matrix).ok(),
+            _ => None,
+        };
+        Rc::new(Setup {
+            mode,
+            dim,
+            bits,
+            projections,
+            signs,
+            directions,
+            matrix,
+            own_table,
+            rust,
+            qjl,
+        })
+    }
+
+    /// The largest setup, 4,096 × 4,096 at 16 bits, in every call that takes one.
+    pub fn largest(&mut self) -> Vec<Case> {
+        let (mode, dim, bits, projections) = (Mode::PolarWithQjl, 4096, 16, 4096);
+        let turbo = thin::turbo(mode, dim, bits, projections, self.rng.next()).unwrap();
+        let signs = thin::turbo_signs(&turbo).unwrap();
+        let matrix = thin::turbo_matrix(&turbo);
+        let qjl = thin::qjl(dim, projections, &matrix).ok();
+        let directions = self.table(15);
+        let rust = Some(Ok(turbo));
+        let own_table = true;
+        let setup = Rc::new(Setup {
+            mode,
+            dim,
+            bits,
+            projections,
+            signs,
+            directions,
+            matrix,
+            own_table,
+            rust,
+            qjl,
+        });
+        let query: Vec<f32> = (0..dim).map(|_| self.rng.unit()).collect();
+        let record = self.good_parts(dim, bits - 1, projections, true).bytes();
+        let signs = self.signs(projections, 0);
+        let (again, vector) = (setup.clone(), query.clone());
+        let mut cases = vec![
+            Case::SetupCheck { setup: setup.clone() },
+            Case::Sketch { setup: again, vector, out: projections },
+            Case::SketchScore { setup: setup.clone(), query: query.clone(), signs },
+            Case::Decode { setup: setup.clone(), record: record.clone(), out: dim },
+        ];
+        if let Some(Ok(turbo)) = &setup.rust {
+            let (rotated, projected) = thin::prepare_query(turbo, &query).unwrap();
+            let (setup, query, record) = (setup.clone(), Some(query.clone()), record.clone());
+            cases.push(Case::ScorePrepared { setup, query, rotated, projected, record });
+        }
+        let (rotated, projected) = (dim, projections);
+        let (again, asked) = (setup.clone(), query.clone());
+        cases.push(Case::Prepare { setup: again, query: asked, rotated, projected });
+        let (again, asked, read) = (setup.clone(), query.clone(), record.clone());
+        cases.push(Case::Distance { setup: again, query: asked, record: read });
+        cases.push(Case::Score { setup, query, record });
+        cases
+    }
+
+    /// Signs and matrix: the Rust's own, from its serialised form, or others.
+    fn parts(
+        &mut self,
+        dim: usize,
+        bits: u8,
+        counted: usize,
+        mode: Mode,
+        seed: u64,
+    ) -> (Vec<f32>, Vec<f32>) {
+        if self.rng.chance(60) {
+            let turbo = thin::turbo(mode, dim, bits, counted, seed).unwrap();
+            return (thin::turbo_signs(&turbo).unwrap(), thin::turbo_matrix(&turbo));
+        }
+        let plus = self.rng.chance(30);
+        let mut signs = self.turns(dim, 0);
+        if plus {
+            signs.fill(1.0);
+        }
+        (signs, self.rng.vector(counted * dim))
+    }
+
+    fn damage(&mut self, signs: &mut Vec<f32>, table: &mut Rc<Vec<f32>>, matrix: &mut Vec<f32>) {
+        let some = self.rng.not_finite();
+        match self.rng.below(6) {
+            0 => *signs = self.turns(signs.len(), 100),
+            1 => signs.resize(self.rng.length(signs.len(), 100), 1.0),
+            2 => {
+                let mut list = table.to_vec();
+                let at = self.rng.below(list.len());
+                list[at] = self.rng.pick(&[some, 1.0000001, -1.0000001, 2.0, -1.0, 1.0, -0.0]);
+                *table = Rc::new(list);
+            }
+            3 => {
+                let mut list = table.to_vec();
+                list.resize(self.rng.length(list.len(), 100), 0.5);
+                *table = Rc::new(list);
+            }
+            4 if !matrix.is_empty() => {
+                let at = self.rng.below(matrix.len());
+                matrix[at] = some;
+            }
+            _ => matrix.resize(self.rng.length(matrix.len(), 100), 0.5),
+        }
+    }
+
+    // Queries and records.
+
+    fn query(&mut self, dim: usize) -> Vec<f32> {
+        let count = self.rng.length(dim, 4);
+        self.rng.vector_damaged(count, 6)
+    }
+
+    pub(crate) fn sketch(&mut self) -> Case {
+        let setup = self.setup();
+        let vector = self.query(setup.dim);
+        Case::Sketch { out: self.rng.length(setup.counted(), 10), setup, vector }
+    }
+
+    pub(crate) fn prepare(&mut self) -> Case {
+        let setup = self.setup();
+        let query = self.query(setup.dim);
+        let rotated = self.rng.length(setup.dim, 6);
+        let projected = self.rng.length(setup.counted().min(8192), 6);
+        Case::Prepare { setup, query, rotated, projected }
+    }
+
+    pub(crate) fn sketch_score(&mut self) -> Case {
+        let setup = self.setup();
+        let query = self.query(setup.dim);
+        let count = self.rng.length(setup.counted().min(8192), 5);
+        Case::SketchScore { signs: self.signs(count, 8), setup, query }
+    }
+
+    pub(crate) fn scored(&mut self) -> (Rc<Setup>, Vec<f32>, Vec<u8>) {
+        let setup = self.setup();
+        let query = self.query(setup.dim);
+        let record = self.record(&setup, 20);
+        (setup, query, record)
+    }
+
+    pub(crate) fn score_prepared(&mut self) -> Case {
+        let setup = self.setup();
+        let record = self.record(&setup, 20);
+        let query = self.rng.vector(setup.dim);
+        let ready = match &setup.rust {
+            Some(Ok(turbo)) => thin::prepare_query(turbo, &query).ok(),
+            _ => None,
+        };
+        let Some((mut rotated, mut projected)) = ready else {
+            let rotated = self.rng.vector_damaged(setup.dim, 10);
+            let projected = self.rng.vector(setup.counted().min(8192));
+            return Case::ScorePrepared { setup, query: None, rotated, projected, record };
+        };
+        if !self.rng.chance(15) {
+            return Case::ScorePrepared { setup, query: Some(query), rotated, projected, record };
+        }
+        match self.rng.below(4) {
+            0 => rotated.resize(self.rng.length(rotated.len(), 100), 0.0),
+            1 => projected.resize(self.rng.length(projected.len(), 100), 0.0),
+            2 => {
+                let at = self.rng.below(rotated.len());
+                rotated[at] = self.rng.not_finite();
+            }
+            _ if !projected.is_empty() => {
+                let at = self.rng.below(projected.len());
+                projected[at] = self.rng.not_finite();
+            }
+            _ => rotated.push(1.0),
+        }
+        Case::ScorePrepared { setup, query: None, rotated, projected, record }
+    }
+
+    /// The parts of a good record of this shape.
+    fn good_parts(&mut self, dim: usize, bits: u8, projections: usize, signs: bool) -> Parts {
+        let pairs = dim / 2;
+        let linear = self.rng.chance(50);
+        let profile = if linear { Profile::BlockLinearU16 } else { Profile::F32 };
+        let packed = thin::compress(&self.rng.radii(pairs), profile).unwrap();
+        let indices: Vec<u16> = (0..pairs).map(|_| self.index(bits, 0)).collect();
+        let sketch = self.signs(if signs { projections } else { 0 }, 0);
+        Parts {
+            map: linear as u8 * record::LINEAR + signs as u8 * record::SIGNS,
+            dim: dim as u32,
+            bits,
+            min: packed.min,
+            max: packed.max,
+            projections: projections as u32,
+            radii: packed.payload,
+            indices: thin::pack_indices(&indices, bits).unwrap(),
+            signs: thin::pack_signs(&sketch).unwrap(),
+        }
+    }
+
+    /// A record for the setup: of its own encoding, or made of parts; in `damaged` of a
+    /// hundred it is spoiled or belongs to another setup.
+    pub(crate) fn record(&mut self, setup: &Setup, damaged: usize) -> Vec<u8> {
+        let residual = setup.mode == Mode::PolarWithQjl;
+        let sound = setup.dim % 2 == 0 && (2..=4096).contains(&setup.dim);
+        let bits = setup.polar_bits().clamp(1, if residual { 15 } else { 16 });
+        let dim = if sound { setup.dim } else { 4 };
+        let m = setup.counted().clamp(1, 4096);
+        if !self.rng.chance(damaged) {
+            if let (Some(Ok(turbo)), true) = (&setup.rust, self.rng.chance(30)) {
+                let vector = self.rng.vector(setup.dim);
+                if let Ok(code) = thin::encode(turbo, &vector) {
+                    return own(&code, residual);
+                }
+            }
+            return self.good_parts(dim, bits, m, residual).bytes();
+        }
+        match self.rng.below(10) {
+            0 => {
+                let other = self.rng.pick(&[2, 4, 8]);
+                self.good_parts(other, bits, m, residual).bytes()
+            }
+            1 => {
+                let other = 1 + self.rng.below(15) as u8;
+                self.good_parts(dim, other, m, residual).bytes()
+            }
+            2 => {
+                let other = (m + self.rng.below(3)).min(4096);
+                self.good_parts(dim, bits, other, residual).bytes()
+            }
+            3 => self.good_parts(dim, bits.min(15), m, !residual).bytes(),
+            4 => {
+                let mut bytes = self.good_parts(dim, bits, m, residual).bytes();
+                let kept = self.rng.below(bytes.len() + 1);
+                let kept = self.rng.pick(&[kept, 0, 5, 6, 9, 13, 17, bytes.len() - 1]);
+                bytes.truncate(kept);
+                bytes
+            }
+            5 => {
+                let mut bytes = self.good_parts(dim, bits, m, residual).bytes();
+                self.spoil(&mut bytes);
+                bytes
+            }
+            6 => {
+                let mut bytes = self.good_parts(dim, bits, m, residual).bytes();
+                let head = record::header_len(bytes[0]);
+                bytes[self.rng.below(head)] ^= 1 << self.rng.below(8);
+                bytes
+            }
+            _ => self.spoiled_parts(dim, bits, m, residual),
+        }
+    }
+
+    /// A record whose layout holds and whose content offends.
+    fn spoiled_parts(&mut self, dim: usize, bits: u8, m: usize, residual: bool) -> Vec<u8> {
+        let mut parts = self.good_parts(dim, bits, m, residual);
+        match self.rng.below(6) {
+            0 => parts.dim = self.rng.pick(&[0, 1, 3, 6, 8192, u32::MAX, 4097, 4098]),
+            1 => parts.bits = self.rng.pick(&[0, 16, 17, 255]),
+            2 => parts.projections = self.rng.pick(&[0, 4097, u32::MAX]),
+            3 if parts.linear() => {
+                let (any, finite) = (self.rng.not_finite(), self.rng.finite());
+                (parts.min, parts.max) = match self.rng.below(6) {
+                    0 => (any, parts.max),
+                    1 => (parts.min, any),
+                    2 => (-1.0, parts.max),
+                    3 => (f32::from_bits(0x73C0_0000), f32::MAX),
+                    4 => (-0.0, finite),
+                    _ => (parts.max, parts.min),
+                };
+                if self.rng.chance(50) {
+                    let at = self.rng.below(parts.radii.len() / 2) * 2;
+                    parts.radii[at..at + 2].fill(0xFF);
+                }
+            }
+            3 => {
+                let at = self.rng.below(parts.radii.len() / 4) * 4;
+                let bad = self.rng.not_finite();
+                let bad = self.rng.pick(&[bad, bad, -1.0, -f32::from_bits(1), -0.0]);
+                parts.radii[at..at + 4].copy_from_slice(&bad.to_le_bytes());
+            }
+            4 if !parts.signs.is_empty() => {
+                let last = parts.signs.len() - 1;
+                parts.signs[last] |= 0x80;
+            }
+            _ => {
+                let last = parts.indices.len() - 1;
+                parts.indices[last] |= 0x80;
+            }
+        }
+        parts.bytes()
+    }
+
+    pub(crate) fn write_record(&mut self) -> Case {
+        let mode = self.rng.pick(&[Mode::PolarOnly, Mode::PolarWithQjl]);
+        let residual = mode == Mode::PolarWithQjl;
+        let dim = self.dim();
+        let sound = dim.min(8192);
+        let mut bits = self.bits();
+        if residual && self.rng.chance(3) {
+            bits = 16;
+        }
+        let mut projections = self.projections(sound.max(2));
+        if self.rng.chance(5) {
+            projections = self.rng.pick(&[0, 4097, usize::MAX]);
+        }
+        let profile = self.profile();
+        let count = self.rng.length(sound / 2, 4);
+        let mut radii = self.radii(count, 8);
+        if count > 0 && self.rng.chance(3) {
+            radii[0] = f32::from_bits(0x73C0_0000);
+            radii[count - 1] = f32::MAX;
+        }
+        let count = self.rng.length(sound / 2, 4);
+        let mut indices: Vec<u16> = (0..count).map(|_| self.index(bits, 0)).collect();
+        if count > 0 && self.rng.chance(8) {
+            let at = self.rng.below(count);
+            indices[at] = self.index(bits, 100);
+        }
+        let counted = if residual { projections.min(8192) } else { 0 };
+        let count = self.rng.length(counted, 4);
+        let signs = self.signs(count, 8);
+        let map = (profile == Profile::BlockLinearU16) as u8 * record::LINEAR
+            + residual as u8 * record::SIGNS;
+        let lens = record::payload_lens(map, dim as u32, bits.min(16), counted as u32);
+        let exact = record::header_len(map) + lens.iter().sum::<u64>() as usize;
+        let out = self.rng.length(exact, 8);
+        Case::WriteRecord { profile, dim, bits, mode, projections, radii, indices, signs, out }
+    }
+}
+
+/// The record of a code that the Rust itself encoded, radii as they are.
+fn own(code: &oracle::turbo::TurboCode, residual: bool) -> Vec<u8> {
+    let polar = &code.polar_code;
+    Parts {
+        map: residual as u8 * record::SIGNS,
+        dim: polar.dim as u32,
+        bits: polar.bits,
+        min: 0.0,
+        max: 0.0,
+        projections: code.residual_sketch.projections as u32,
+        radii: polar.radii.iter().flat_map(|radius| radius.to_le_bytes()).collect(),
+        indices: thin::pack_indices(&polar.angle_indices, polar.bits).unwrap(),
+        signs: thin::pack_signs(&code.residual_sketch.signs).unwrap(),
+    }
+    .bytes()
+}
