@@ -13,7 +13,7 @@ use lib.ListN.{length, getD, length-map}
 use borrow.Author.Tests.{lt-leb, leb-false, ltb-false, eqb-true, eqb-false}
 use Rattle.error.specs.Answer.{value, check, place, each}
 use Rattle.digits.specs.Digits.{number, digits}
-use Rattle.digits.proofs.Laws.{Below, below-head, below-tail, length-digits, digits-below, number-lt, number-digits, digits-number}
+use Rattle.digits.proofs.Laws.{Below, below-head, below-tail, length-digits, digits-below, number-lt, number-digits, repack}
 use Rattle.error.specs.Checks.{differs, wrongBits, wrongRoom}
 use Rattle.bitpack.specs.Padding.{bytesFor, padded, wrongLength, wrongPadding}
 use Rattle.bitpack.specs.Packing.{packOf, unpackOf, tooLarge, overflow}
@@ -47,7 +47,7 @@ module _ (bits used : ℕ) (ds : List ℕ) (total : length ds * bits ≡ used) (
       ∙ rw bytes-number (lt-leb (2 ^ used) (number (2 ^ bits) ds) used-bound)
 
   bytes-back : digits (2 ^ bits) (length ds) (number 256 (digits 256 (bytesFor used) (number (2 ^ bits) ds))) ≡ ds
-  bytes-back = rw bytes-number (digits-number (2 ^ bits) ds below)
+  bytes-back = repack (2 ^ bits) 256 (bytesFor used) ds below (omega arith) bytes-bound
 
 -- bytes without padding, as digits of `bits` bits each, and back
 module _ (bits count used : ℕ) (packed : List ℕ) (total : count * bits ≡ used) (below : Below 256 packed) (sized : length packed ≡ bytesFor used) (clean : padded packed used ≡ false) where
@@ -57,9 +57,7 @@ module _ (bits count used : ℕ) (packed : List ℕ) (total : count * bits ≡ u
       rw (← power-power bits count, mul-comm, total) bound
 
   clean-back : digits 256 (bytesFor used) (number (2 ^ bits) (digits (2 ^ bits) count (number 256 packed))) ≡ packed
-  clean-back =
-      rw (number-digits (2 ^ bits) count (number 256 packed) (pow-pos bits), mod-eq-of-lt clean-bound, ← sized)
-      (digits-number 256 packed below)
+  clean-back = rw (← sized) (repack 256 (2 ^ bits) count packed below (pow-pos bits) clean-bound)
 
 -- ---- indices
 

@@ -1,11 +1,10 @@
 -- `ScalarCodebook` in document 01's terms: what each call answers, refusals included, with each float step rounded once, in the Rust's order.
 -- 'Every codebook call: 1, 17, then its value.' Assumes nothing.
 use Prim.Native.Nat.{ℕ, _-_, _^_, min}
-use mathlib.Core.Bool.{not, cond, _||_}
+use mathlib.Core.Bool.{not, _||_}
 use mathlib.Core.List.{[], _∷_}
-use lib.Dec.{leb, ltb}
 use lib.IntN.{pos}
-use lib.Ieee.{Float, binary32, add, sub, mul, div, lt, le, ofInt, ofBits}
+use lib.Ieee.{Float, binary32, add, sub, mul, div, le, ofInt, ofBits}
 use lib.Ieee.Scale.{finite}
 use Rattle.error.specs.Answer.{Answer, value, Check, check, first}
 use Rattle.error.specs.Checks.{wrongBits, wrongIndex}
@@ -16,7 +15,7 @@ use Rattle.codebook.specs.declared.ScalarCodebook.{ScalarCodebook}
 abbrev pub wrongBounds : Float → Float → Check
 wrongBounds lo hi = check (not (finite lo) || not (finite hi) || le hi lo) 17 0
 
--- '11: a value is not finite.'
+-- '11: a value is not finite ..'
 abbrev pub wrongValue : Float → Check
 wrongValue x = check (not (finite x)) 11 0
 

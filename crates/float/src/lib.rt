@@ -1,5 +1,5 @@
 // What `std` lacks for `f32`, worked out for every float: NaN, the infinities and both zeros among them.
-// The Rust original calls `f32::is_finite`, `from_le_bytes`, `to_le_bytes`, `floor`, `round` and `sqrt` of its own `std`.
+// The Rust original calls `f32::is_finite`, `from_le_bytes`, `to_le_bytes`, `clamp`, `floor`, `round` and `sqrt` of its own `std`.
 
 ghost use mathlib.Core.Path.{_≡_};
 ghost use mathlib.Core.List.{[], _∷_};
@@ -132,7 +132,7 @@ fn significand(b: u32) -> u32
     }
 }
 
-// The shift.
+// By how many places that significand is shifted.
 fn shift(b: u32) -> u32
     ensures { λ r. ⌜ r ≡ shiftOf b ⌝ }
 {

@@ -16,34 +16,34 @@ use Rattle.radius.specs.Codec.{compressedRange, compressedBytes, decompr
 use Rattle.radius.specs.declared.Range.{Range}
 use Rattle.radius.specs.declared.RadiusCodecProfileV1.the-variants.{F32, BlockLinearU16, BlockLogU8}
 
-abbrev float : ℕ → Float
+abbrev pub float : ℕ → Float
 float bits = ofBits binary32 bits
 
 -- from 0 to a bound, and from one bound to another
-abbrev upTo : ℕ → Range
+abbrev pub upTo : ℕ → Range
 upTo bits = record { min = float 0x0000_0000; max = float bits }
 
 abbrev between : ℕ → ℕ → Range
 between lo hi = record { min = float lo; max = float hi }
 
 -- P11. '(0, 0.5, 1): 00 00 00 80 FF FF.'
-halves : List Float
+abbrev pub halves : List Float
 halves = float 0x0000_0000 ∷ float 0x3F00_0000 ∷ float 0x3F80_0000 ∷ []
 
-compress-halves : compressedBytes halves BlockLinearU16 6 ≡ value (0x00 ∷ 0x00 ∷ 0x00 ∷ 0x80 ∷ 0xFF ∷ 0xFF ∷ [])
-unfolding halves flatMap ofBits sub mul div lt place digits roundUnsigned least greatest rangeOf clamped spanOf quantized linearBytes compressedBytes
+pub compress-halves : compressedBytes halves BlockLinearU16 6 ≡ value (0x00 ∷ 0x00 ∷ 0x00 ∷ 0x80 ∷ 0xFF ∷ 0xFF ∷ [])
+unfolding flatMap ofBits sub mul div lt place digits roundUnsigned least greatest rangeOf clamped spanOf quantized linearBytes compressedBytes
 compress-halves = refl
 
 range-halves : compressedRange halves BlockLinearU16 6 ≡ value (upTo 0x3F80_0000)
-unfolding halves ofBits lt place least greatest rangeOf compressedRange
+unfolding ofBits lt place least greatest rangeOf compressedRange
 range-halves = refl
 
 -- '(0, 2^−24): the second is 32,768 and comes back near 2^−25': as 2^−25 × (1 + 2^−16), pattern 33000080
-compress-narrow : compressedBytes (float 0x0000_0000 ∷ float 0x3380_0000 ∷ []) BlockLinearU16 4 ≡ value (0x00 ∷ 0x00 ∷ 0x00 ∷ 0x80 ∷ [])
+pub compress-narrow : compressedBytes (float 0x0000_0000 ∷ float 0x3380_0000 ∷ []) BlockLinearU16 4 ≡ value (0x00 ∷ 0x00 ∷ 0x00 ∷ 0x80 ∷ [])
 unfolding flatMap ofBits sub mul div lt place digits roundUnsigned least greatest rangeOf clamped spanOf quantized linearBytes compressedBytes
 compress-narrow = refl
 
-decompress-narrow : decompressOf BlockLinearU16 2 (upTo 0x3380_0000) (0x00 ∷ 0x00 ∷ 0x00 ∷ 0x80 ∷ []) 2 ≡ value (float 0x0000_0000 ∷ float 0x3300_0080 ∷ [])
+pub decompress-narrow : decompressOf BlockLinearU16 2 (upTo 0x3380_0000) (0x00 ∷ 0x00 ∷ 0x00 ∷ 0x80 ∷ []) 2 ≡ value (float 0x0000_0000 ∷ float 0x3300_0080 ∷ [])
 unfolding ofBits add sub mul div lt ofInt number chunks restored linearRadius decompressOf
 decompress-narrow = refl
 
@@ -100,7 +100,7 @@ unfolding place compressedBytes
 refused-log = refl
 
 refused-room : compressedBytes halves BlockLinearU16 5 ≡ refused 6 6
-unfolding halves ofBits lt place compressedBytes
+unfolding ofBits lt place compressedBytes
 refused-room = refl
 
 -- 13 comes before 17

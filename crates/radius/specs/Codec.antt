@@ -14,7 +14,7 @@ use Rattle.radius.specs.declared.Range.{Range}
 use Rattle.radius.specs.declared.RadiusCodecProfileV1.{RadiusCodecProfileV1}
 use Rattle.radius.specs.declared.RadiusCodecProfileV1.the-variants.{F32, BlockLinearU16, BlockLogU8}
 
--- '18: profile BlockLogU8. Place 0.'
+-- '18: .. profile BlockLogU8. Place: .. 0.'
 abbrev pub isLog : RadiusCodecProfileV1 → Bool
 isLog F32 = false
 isLog BlockLinearU16 = false
@@ -66,7 +66,7 @@ radiiFor F32 count range payload = map ofLeBytes (chunks 4 count payload)
 radiiFor BlockLinearU16 count range payload = map (linearRadius range) (chunks 2 count payload)
 radiiFor BlockLogU8 count range payload = []
 
--- 'then 17 for linear only, 16 for F32 only'
+-- 'then 17 for linear only, 16 for F32 only'; BlockLogU8 is refused before
 abbrev pub wrongContent : RadiusCodecProfileV1 → ℕ → Range → List ℕ → Check
 wrongContent F32 count range payload = each badRadius 16 (map ofLeBytes (chunks 4 count payload))
 wrongContent BlockLinearU16 count range payload = check (badRange range) 17 0

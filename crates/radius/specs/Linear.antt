@@ -6,16 +6,16 @@ use lib.IntN.{pos}
 use lib.Ieee.{Float, binary32, add, sub, mul, div, lt, ofInt}
 use Rattle.digits.specs.Digits.{number, digits}
 use Rattle.float.specs.Rounding.{roundUnsigned, clamped}
-use Rattle.radius.specs.Radii.{zeroFloat, oneFloat, mostFloat, floorFloat}
+use Rattle.radius.specs.Radii.{zeroFloat, oneFloat, topFloat, epsilonFloat}
 use Rattle.radius.specs.declared.Range.{Range}
 
 -- 'Compress divides by max − min, but at least 2^−23'
 unfoldable pub spanOf : Range → Float
-spanOf range = let width = sub binary32 (range .max) (range .min) in cond (lt floorFloat width) width floorFloat
+spanOf range = let width = sub binary32 (range .max) (range .min) in cond (lt epsilonFloat width) width epsilonFloat
 
 -- 'the product with 65,535 is rounded half away from zero'
 unfoldable pub quantized : Float → Float → Float → ℕ
-quantized lo span r = roundUnsigned 16 (mul binary32 (clamped zeroFloat oneFloat (div binary32 (sub binary32 r lo) span)) mostFloat)
+quantized lo span r = roundUnsigned 16 (mul binary32 (clamped zeroFloat oneFloat (div binary32 (sub binary32 r lo) span)) topFloat)
 
 -- its two bytes, the least significant first
 unfoldable pub linearBytes : Range → Float → List ℕ
@@ -23,7 +23,7 @@ linearBytes range r = digits 256 2 (quantized (range .min) (spanOf range) r)
 
 -- 'Decompress multiplies by max − min itself.'
 unfoldable pub restored : Float → Float → ℕ → Float
-restored lo width n = add binary32 lo (mul binary32 width (div binary32 (ofInt binary32 (pos n)) mostFloat))
+restored lo width n = add binary32 lo (mul binary32 width (div binary32 (ofInt binary32 (pos n)) topFloat))
 
 -- the radius that two bytes stand for
 unfoldable pub linearRadius : Range → List ℕ → Float

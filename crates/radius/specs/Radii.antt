@@ -12,11 +12,11 @@ zeroFloat = ofBits binary32 0x0000_0000
 abbrev pub oneFloat : Float
 oneFloat = ofBits binary32 0x3F80_0000
 
-abbrev pub mostFloat : Float
-mostFloat = ofBits binary32 0x477F_FF00
+abbrev pub topFloat : Float
+topFloat = ofBits binary32 0x477F_FF00
 
-abbrev pub floorFloat : Float
-floorFloat = ofBits binary32 0x3400_0000
+abbrev pub epsilonFloat : Float
+epsilonFloat = ofBits binary32 0x3400_0000
 
 -- '16: a radius is NaN, infinite or below zero.' −0.0 is not below zero
 abbrev pub badRadius : Float → Bool

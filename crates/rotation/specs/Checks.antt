@@ -36,8 +36,8 @@ rotationChecks n signs long room =
     zeroDimension n
     ∷ oddDimension n
     ∷ noPower n
-    ∷ wrongInput n (length signs)
+    ∷ wrongInput (length signs) n
     ∷ each badSign 10 signs
-    ∷ wrongInput n long
+    ∷ wrongInput long n
     ∷ wrongRoom room n
     ∷ []

@@ -51,9 +51,9 @@ scalarChecks s =
 -- the matrix is lent row by row, so the entry at row r and column c has index r × n + c
 abbrev pub tableChecks : Setup → List Float → List Float → List Float → List Check
 tableChecks s signs directions matrix =
-    wrongInput (s .dim) (length signs)
-    ∷ wrongInput (directionsNeeded s) (length directions)
-    ∷ wrongInput (matrixNeeded s) (length matrix)
+    wrongInput (length signs) (s .dim)
+    ∷ wrongInput (length directions) (directionsNeeded s)
+    ∷ wrongInput (length matrix) (matrixNeeded s)
     ∷ each badSign 10 signs
     ∷ each badDirection 7 directions
     ∷ each notFinite 9 matrix
@@ -64,4 +64,4 @@ setupChecks s signs directions matrix = scalarChecks s ++ tableChecks s signs di
 
 -- of the table of directions alone, where no signs and no matrix are lent
 abbrev pub directionChecks : Setup → List Float → List Check
-directionChecks s directions = wrongInput (directionsNeeded s) (length directions) ∷ each badDirection 7 directions ∷ []
+directionChecks s directions = wrongInput (length directions) (directionsNeeded s) ∷ each badDirection 7 directions ∷ []

@@ -3,7 +3,7 @@ use mathlib.Core.Path.{ap, _∙_}
 use borrow.Author.Needs.{needs}
 use lib.Ieee.{Float, binary32, mul}
 use Rattle.float.specs.Rounding.{roundUnsigned}
-use Rattle.radius.specs.Radii.{mostFloat}
+use Rattle.radius.specs.Radii.{topFloat}
 use Rattle.radius.specs.Linear.{quantized}
 use Rattle.radius.proofs.quantize.Statement.{statement}
 use Rattle.radius.proofs.quantize.Tie as tie
@@ -16,7 +16,7 @@ round-u16-requires c κs = search needs
 
 returns : tie.Need-returns
 unfolding quantized
-returns c = c .round-u16 .ensures ∙ ap (λ (x : Float). roundUnsigned 16 (mul binary32 x mostFloat)) (c .before .clamp .ensures)
+returns c = c .round-u16 .ensures ∙ ap (λ (x : Float). roundUnsigned 16 (mul binary32 x topFloat)) (c .before .clamp .ensures)
 
 pub quantize-spec : {M : Type 1} → statement M
 quantize-spec = tie.close (tie.spec clamp-requires round-u16-requires returns)
