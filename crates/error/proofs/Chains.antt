@@ -1,7 +1,7 @@
 -- A chain of checks: it answers alike whatever stands at its end, two chains one after the other are one chain, and a value at the end says that no check
 -- of the chain offends. Assumes nothing.
 use Prim.Native.Nat.{ℕ}
-use mathlib.Core.Path.{_≡_, refl, _∙_}
+use mathlib.Core.Path.{_≡_, refl, sym, _∙_}
 use mathlib.Core.Bool.{Bool, true, false, _||_}
 use mathlib.Core.List.{List, [], _∷_, _++_}
 use native.Mathlib.Omega.{arith}
@@ -46,6 +46,23 @@ module _ {A : Type 0} where
   first-append [] ds a = refl
   first-append (check true n p ∷ cs) ds a = refl
   first-append (check false n p ∷ cs) ds a = first-append cs ds a
+
+  -- a value at the end of both: the first chain passes, and the second answers it
+  pub first-clear : (cs : List Check) (a : Answer A) {x : A} → first cs a ≡ value x → first cs accepted ≡ accepted
+  first-clear [] a e = refl
+  first-clear (check true n p ∷ cs) a e = cc
+  first-clear (check false n p ∷ cs) a e = first-clear cs a e
+
+  pub first-ends : (cs : List Check) (a : Answer A) {x : A} → first cs a ≡ value x → a ≡ value x
+  first-ends [] a e = e
+  first-ends (check true n p ∷ cs) a e = cc
+  first-ends (check false n p ∷ cs) a e = first-ends cs a e
+
+  pub append-left : (cs ds : List Check) (a : Answer A) {x : A} → first (cs ++ ds) a ≡ value x → first cs accepted ≡ accepted
+  append-left cs ds a e = first-clear cs (first ds a) (sym (first-append cs ds a) ∙ e)
+
+  pub append-right : (cs ds : List Check) (a : Answer A) {x : A} → first (cs ++ ds) a ≡ value x → first ds a ≡ value x
+  append-right cs ds a e = first-ends cs (first ds a) (sym (first-append cs ds a) ∙ e)
 
 module _ {A B : Type 0} where
   -- where the first chain refuses, so does the whole

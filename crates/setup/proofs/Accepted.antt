@@ -8,7 +8,7 @@ use borrow.Author.Tests.{eqb-true, not-false}
 use lib.ListN.{length}
 use lib.Ieee.{Float, nan}
 use Rattle.error.specs.Answer.{first, accepted}
-use Rattle.error.proofs.Chains.{first-passes, first-accepts}
+use Rattle.error.proofs.Chains.{first-passes, first-accepts, append-left, append-right}
 use Rattle.error.proofs.Places.{each-clear}
 use Rattle.rotation.specs.Checks.{badSign}
 use Rattle.setup.specs.declared.Setup.{Setup}
@@ -16,7 +16,6 @@ use Rattle.setup.specs.declared.TurboMode.the-variants.{PolarOnly}
 use Rattle.setup.specs.Setups.{polarBits, countedProjections, directionsNeeded, matrixNeeded}
 use Rattle.setup.specs.Checks.{badDirection, notFinite, scalarChecks, tableChecks, setupChecks, directionChecks}
 use Rattle.setup.specs.Accepted.{Usable, Directions, Accepted}
-use Rattle.setup.proofs.Chains.{append-left, append-right}
 use Rattle.setup.proofs.Rows.{passes-finite, entry-below}
 use Rattle.setup.proofs.Scalars.{scalars-usable}
 

@@ -1,4 +1,3 @@
-pub mod Chains
 pub mod Directions
 pub mod Rows
 pub mod Sweep

@@ -1,0 +1,175 @@
+-- The answers of the calls, case by case, from what their checks find. Assumes nothing.
+use Prim.Native.Nat.{ℕ, _*_, _≤_, _<_}
+use mathlib.Core.Path.{_≡_, refl, sym, ap, _∙_, subst}
+use mathlib.Core.Bool.{true, false}
+use mathlib.Core.List.{List, [], _∷_, map}
+use borrow.Author.Tests.{eqb-true, not-false, eq-eqb, ne-eqb}
+use lib.Dec.{eqb}
+use lib.IntN.{ℤ}
+use lib.ListN.{length}
+use lib.Ieee.{Float}
+use lib.Ieee.Scale.{finite}
+use Rattle.error.specs.Answer.{value, refused, first, each, place, accepted}
+use Rattle.error.proofs.Chains.{first-passed, first-refused, first-passes, append-passed, append-refused, append-left, append-right}
+use Rattle.error.proofs.Places.{each-offends, each-passes}
+use Rattle.rounding.specs.Value.{posZero}
+use Rattle.error.specs.Checks.{wrongInput, wrongRoom}
+use Rattle.setup.specs.declared.Setup.{Setup}
+use Rattle.setup.specs.declared.TurboMode.{TurboMode}
+use Rattle.setup.specs.declared.TurboMode.the-variants.{PolarOnly, PolarWithQjl}
+use Rattle.setup.specs.Setups.{byMode, countedProjections}
+use Rattle.setup.specs.Checks.{notFinite, setupChecks}
+use Rattle.setup.specs.Accepted.{Accepted}
+use Rattle.setup.proofs.Accepted.{setup-accepted}
+use Rattle.qjl.specs.Projection.{projected, projectOf}
+use Rattle.qjl.specs.Filled.{Rowed}
+use Rattle.qjl.specs.Sketch.{signOf, vectorChecks, sketchOf}
+use Rattle.bitpack.specs.Signs.{notSign}
+use Rattle.qjl.specs.Score.{unitResidual, signedScore, modeScore, sketchScoreOf}
+
+-- ---- projecting
+
+module _ (n : ℕ) (matrix query : List Float) (room : ℕ) where
+  pub project-query : (length query ≡ n → ⊥) → projectOf n matrix query room ≡ refused 5 (length query)
+  unfolding projectOf
+  project-query h = simp (ne-eqb (length query) n h)
+
+  pub project-matrix : length query ≡ n → eqb (length matrix) (room * n) ≡ false → projectOf n matrix query room ≡ refused 5 (length matrix)
+  unfolding projectOf
+  project-matrix h e = simp (eq-eqb (length query) n h, e)
+
+  pub project-value : length query ≡ n → eqb (length matrix) (room * n) ≡ true → projectOf n matrix query room ≡ value (projected n room matrix query)
+  unfolding projectOf
+  project-value h e = simp (eq-eqb (length query) n h, e)
+
+  pub project-rowed : length query ≡ n → eqb (length matrix) (room * n) ≡ true → Rowed n matrix query room
+  project-rowed h e = record { query-long = h; matrix-long = eqb-true (length matrix) (room * n) e }
+
+  -- where the lengths are right it is the projections
+  pub project-ready : Rowed n matrix query room → projectOf n matrix query room ≡ value (projected n room matrix query)
+  project-ready r = project-value (r .query-long) (eq-eqb (length matrix) (room * n) (r .matrix-long))
+
+-- ---- the checks of a vector
+
+module _ (s : Setup) (signs directions matrix vector : List Float) where
+  pub vector-refused : {number place : ℕ} → first (setupChecks s signs directions matrix) accepted ≡ refused number place
+      → first (vectorChecks s signs directions matrix vector) accepted ≡ refused number place
+  vector-refused e = append-refused (setupChecks s signs directions matrix) (wrongInput (length vector) (s .dim) ∷ each notFinite 11 vector ∷ []) tt accepted e
+
+  vector-rest : first (setupChecks s signs directions matrix) accepted ≡ accepted
+      → first (vectorChecks s signs directions matrix vector) accepted ≡ first (wrongInput (length vector) (s .dim) ∷ each notFinite 11 vector ∷ []) accepted
+  vector-rest e = append-passed (setupChecks s signs directions matrix) (wrongInput (length vector) (s .dim) ∷ each notFinite 11 vector ∷ []) tt accepted e
+
+  pub vector-length : first (setupChecks s signs directions matrix) accepted ≡ accepted → (length vector ≡ s .dim → ⊥)
+      → first (vectorChecks s signs directions matrix vector) accepted ≡ refused 5 (length vector)
+  vector-length e h = vector-rest e ∙ simp (ne-eqb (length vector) (s .dim) h)
+
+  pub vector-entry : {i : ℕ} → first (setupChecks s signs directions matrix) accepted ≡ accepted → length vector ≡ s .dim → i ≡ place notFinite vector → i < length vector
+      → first (vectorChecks s signs directions matrix vector) accepted ≡ refused 11 i
+  vector-entry e h p l = vector-rest e ∙ simp (eq-eqb (length vector) (s .dim) h, each-offends notFinite vector p l, p)
+
+  pub vector-passed : {i : ℕ} → first (setupChecks s signs directions matrix) accepted ≡ accepted → length vector ≡ s .dim → i ≡ place notFinite vector → length vector ≤ i
+      → first (vectorChecks s signs directions matrix vector) accepted ≡ accepted
+  vector-passed e h p l = vector-rest e ∙ simp (eq-eqb (length vector) (s .dim) h, each-passes notFinite vector p l)
+
+-- ---- a score from a projected query
+
+module _ (m : ℕ) (values : List Float) (signs : List ℤ) where
+  pub signed-entry : {i : ℕ} → i ≡ place notFinite values → i < length values → signedScore m values signs ≡ refused 11 i
+  unfolding signedScore
+  signed-entry p l = simp (each-offends notFinite values p l, p)
+
+  module _ {i : ℕ} (p : i ≡ place notFinite values) (l : length values ≤ i) where
+    pub signed-length : (length signs ≡ m → ⊥) → signedScore m values signs ≡ refused 5 (length signs)
+    unfolding signedScore
+    signed-length h = simp (each-passes notFinite values p l, ne-eqb (length signs) m h)
+
+    module _ (h : length signs ≡ m) where
+      pub signed-sign : {j : ℕ} → j ≡ place notSign signs → j < length signs → signedScore m values signs ≡ refused 10 j
+      unfolding signedScore
+      signed-sign q k = simp (each-passes notFinite values p l, eq-eqb (length signs) m h, each-offends notSign signs q k, q)
+
+      module _ {j : ℕ} (q : j ≡ place notSign signs) (k : length signs ≤ j) where
+        pub signed-infinite : finite (unitResidual m values signs) ≡ false → signedScore m values signs ≡ refused 12 0
+        unfolding signedScore
+        signed-infinite f = simp (each-passes notFinite values p l, eq-eqb (length signs) m h, each-passes notSign signs q k, f)
+
+        pub signed-value : finite (unitResidual m values signs) ≡ true → signedScore m values signs ≡ value (unitResidual m values signs)
+        unfolding signedScore
+        signed-value f = simp (each-passes notFinite values p l, eq-eqb (length signs) m h, each-passes notSign signs q k, f)
+
+-- ---- what a vector has whose checks all pass
+
+module _ (s : Setup) (signs directions matrix vector : List Float) (passed : first (vectorChecks s signs directions matrix vector) accepted ≡ accepted) where
+  pub vector-setup : Accepted s signs directions matrix
+  vector-setup = setup-accepted s signs directions matrix (append-left (setupChecks s signs directions matrix) (wrongInput (length vector) (s .dim) ∷ each notFinite 11 vector ∷ []) accepted passed)
+
+  pub vector-rowed : Rowed (s .dim) matrix vector (countedProjections s)
+  vector-rowed =
+      let k = first-passes (wrongInput (length vector) (s .dim) ∷ each notFinite 11 vector ∷ []) tt (append-right (setupChecks s signs directions matrix) (wrongInput (length vector) (s .dim) ∷ each notFinite 11 vector ∷ []) accepted passed) in
+      record { query-long = eqb-true (length vector) (s .dim) (not-false _ (k .0)); matrix-long = vector-setup .matrix-long }
+
+  -- an output of as many entries as projections count
+  pub vector-ready : {counted room : ℕ} → counted ≡ countedProjections s → room ≡ counted → Rowed (s .dim) matrix vector room × (room ≤ 4096)
+  vector-ready {counted} {room} e f =
+      subst (λ (m : ℕ). Rowed (s .dim) matrix vector m × (m ≤ 4096)) (sym (f ∙ e)) (vector-rowed, vector-setup .usable .most-projections)
+
+  -- in residual mode every projection counts
+  pub vector-residual : s .mode ≡ PolarWithQjl → Rowed (s .dim) matrix vector (s .projections) × (s .projections ≤ 4096)
+  vector-residual e = vector-ready (ap (λ (m : TurboMode). byMode m 0 (s .projections)) (sym e)) refl
+
+-- ---- a sketch
+
+module _ (s : Setup) (signs directions matrix vector : List Float) (room : ℕ) where
+  pub sketch-refused : {number place : ℕ} → first (vectorChecks s signs directions matrix vector) accepted ≡ refused number place
+      → sketchOf s signs directions matrix vector room ≡ refused number place
+  unfolding sketchOf
+  sketch-refused e = append-refused (vectorChecks s signs directions matrix vector) (wrongRoom room (countedProjections s) ∷ []) tt _ e
+
+  sketch-rest : first (vectorChecks s signs directions matrix vector) accepted ≡ accepted
+      → sketchOf s signs directions matrix vector room
+      ≡ first (wrongRoom room (countedProjections s) ∷ []) (value (map signOf (projected (s .dim) (countedProjections s) matrix vector)))
+  unfolding sketchOf
+  sketch-rest e = append-passed (vectorChecks s signs directions matrix vector) (wrongRoom room (countedProjections s) ∷ []) tt _ e
+
+  pub sketch-room : {counted : ℕ} → first (vectorChecks s signs directions matrix vector) accepted ≡ accepted → counted ≡ countedProjections s → (room ≡ counted → ⊥)
+      → sketchOf s signs directions matrix vector room ≡ refused 6 counted
+  sketch-room e c h = sketch-rest e ∙ simp (ne-eqb room (countedProjections s) (λ f. h (f ∙ sym c))) (ap (refused 6) (sym c))
+
+  pub sketch-value : {counted : ℕ} → first (vectorChecks s signs directions matrix vector) accepted ≡ accepted → counted ≡ countedProjections s → room ≡ counted
+      → sketchOf s signs directions matrix vector room ≡ value (map signOf (projected (s .dim) room matrix vector))
+  sketch-value e c f =
+      let h = f ∙ c in
+      sketch-rest e ∙ simp (eq-eqb room (countedProjections s) h) (ap (λ (k : ℕ). value (map signOf (projected (s .dim) k matrix vector))) (sym h))
+
+-- ---- a sketch score
+
+module _ (s : Setup) (signs directions matrix query : List Float) (sketch : List ℤ) where
+  pub score-refused : {number place : ℕ} → first (vectorChecks s signs directions matrix query) accepted ≡ refused number place
+      → sketchScoreOf s signs directions matrix query sketch ≡ refused number place
+  unfolding sketchScoreOf
+  score-refused e = first-refused (vectorChecks s signs directions matrix query) (modeScore (s .mode) (s .dim) (s .projections) matrix query sketch) e
+
+  -- the checks of the query pass, and the mode is known
+  module _ {mode : TurboMode} (passed : first (vectorChecks s signs directions matrix query) accepted ≡ accepted) (is : s .mode ≡ mode) where
+    score-rest : sketchScoreOf s signs directions matrix query sketch ≡ modeScore mode (s .dim) (s .projections) matrix query sketch
+    unfolding sketchScoreOf
+    score-rest =
+        first-passed (vectorChecks s signs directions matrix query) (modeScore (s .mode) (s .dim) (s .projections) matrix query sketch) passed
+        ∙ ap (λ (m : TurboMode). modeScore m (s .dim) (s .projections) matrix query sketch) is
+
+  pub score-residual : first (vectorChecks s signs directions matrix query) accepted ≡ accepted → s .mode ≡ PolarWithQjl
+      → sketchScoreOf s signs directions matrix query sketch ≡ signedScore (s .projections) (projected (s .dim) (s .projections) matrix query) sketch
+  unfolding modeScore
+  score-residual e m = score-rest e m
+
+  pub score-alone-length : first (vectorChecks s signs directions matrix query) accepted ≡ accepted → s .mode ≡ PolarOnly → (length sketch ≡ 0 → ⊥)
+      → sketchScoreOf s signs directions matrix query sketch ≡ refused 5 (length sketch)
+  unfolding modeScore
+  score-alone-length e m h = score-rest e m ∙ simp (ne-eqb (length sketch) 0 h)
+
+  -- without residual it is 0
+  pub score-alone : first (vectorChecks s signs directions matrix query) accepted ≡ accepted → s .mode ≡ PolarOnly → length sketch ≡ 0
+      → sketchScoreOf s signs directions matrix query sketch ≡ value posZero
+  unfolding modeScore
+  score-alone e m h = score-rest e m ∙ simp (eq-eqb (length sketch) 0 h)

@@ -1,0 +1,10 @@
+pub mod Rows
+pub mod Filling
+pub mod Parts
+pub mod Signs
+pub mod SignSums
+pub mod Answers
+pub mod SignValues
+pub mod ErrorBound
+pub mod ScaleBound
+pub mod Examples

@@ -1,0 +1,109 @@
+-- A dot product found by a loop: what is left of it at index i is the running sum over the products of what is left of the two lists.
+-- And the projections row by row: how many there are, and what stands at each index. Assumes nothing.
+use Prim.Native.Nat.{ℕ, zero, suc, _+_, _*_, _/_, _%_, _≤_, _<_}
+use mathlib.Core.Path.{_≡_, refl, sym, ap, _∙_}
+use mathlib.Core.Bool.{Bool, true, false}
+use mathlib.Core.List.{List, [], _∷_}
+use native.Mathlib.Nat.{zero-mul, suc-mul, mul-zero, add-comm, add-zero, add-suc, div-add-mod', mul-div-cancel, mul-mod-left, zero-lt-suc, not-suc-le-zero, le-of-suc-le-suc, mul-le-mul-right}
+use native.Mathlib.Numerals.{add-one}
+use native.Mathlib.Omega.{arith}
+use borrow.Author.Tests.{eqb-true, eqb-false, eq-eqb, ne-eqb}
+use lib.Dec.{eqb}
+use lib.ListN.{length, getD, take, drop, drop-of-length-le}
+use lib.Seq.{drop-cons, drop-drop}
+use lib.Ieee.{Float, nan, binary32, add, mul}
+use Rattle.rounding.specs.Value.{posZero}
+use Rattle.rounding.specs.Sums.{running, products, dot}
+use Rattle.qjl.specs.Projection.{rows, projected}
+use Rattle.qjl.specs.Filled.{onRow, SoFar}
+
+products-nil : (vs : List Float) → products vs [] ≡ []
+unfolding products
+products-nil [] = refl
+products-nil (v ∷ vs) = refl
+
+products-take : (vs cs : List Float) → products (take (length cs) vs) cs ≡ products vs cs
+unfolding products
+products-take [] [] = refl
+products-take [] (c ∷ cs) = refl
+products-take (v ∷ vs) [] = refl
+products-take (v ∷ vs) (c ∷ cs) = ap (λ (ps : List Float). mul binary32 v c ∷ ps) (products-take vs cs)
+
+-- what follows the second list's length does not count
+pub dot-take : (n : ℕ) (vs cs : List Float) → length cs ≡ n → dot (take n vs) cs ≡ dot vs cs
+dot-take n vs cs e = ap (λ (k : ℕ). dot (take k vs) cs) (sym e) ∙ ap (running posZero) (products-take vs cs)
+
+-- ---- the loop
+
+pub dot-start : (vs cs : List Float) (from : ℕ) → SoFar vs cs from 0 posZero
+dot-start vs cs from = ap (λ (k : ℕ). running posZero (products (drop k vs) cs)) (sym (add-zero from))
+
+dot-step : (vs cs : List Float) (from i : ℕ) (acc : Float) → from + i < length vs → i < length cs
+    → running acc (products (drop (from + i) vs) (drop i cs))
+    ≡ running (add binary32 acc (mul binary32 (getD vs (from + i) nan) (getD cs i nan))) (products (drop (from + (i + 1)) vs) (drop (i + 1) cs))
+unfolding running products
+dot-step vs cs from i acc h g = rw (drop-cons vs (from + i) nan, drop-cons cs i nan, add-one i, add-suc from i)
+
+pub dot-more : (vs cs : List Float) (from i : ℕ) (acc : Float) → from + i < length vs → i < length cs → SoFar vs cs from i acc
+    → SoFar vs cs from (i + 1) (add binary32 acc (mul binary32 (getD vs (from + i) nan) (getD cs i nan)))
+dot-more vs cs from i acc h g inv = inv ∙ dot-step vs cs from i acc h g
+
+pub nothing-left : (vs cs : List Float) (i : ℕ) (acc : Float) → length cs ≤ i → running acc (products vs (drop i cs)) ≡ acc
+unfolding running
+nothing-left vs cs i acc h = rw (drop-of-length-le cs h, products-nil vs)
+
+pub dot-end : (vs cs : List Float) (from i : ℕ) (acc : Float) → length cs ≤ i → SoFar vs cs from i acc → acc ≡ dot (drop from vs) cs
+dot-end vs cs from i acc h inv = sym (inv ∙ nothing-left (drop (from + i) vs) cs i acc h)
+
+-- ---- the projections
+
+pub projected-length : (n m : ℕ) (matrix query : List Float) → length (projected n m matrix query) ≡ m
+unfolding projected rows
+projected-length n zero matrix query = refl
+projected-length n (suc m) matrix query = ap suc (projected-length n m (drop n matrix) query)
+
+next-row : (n j : ℕ) (matrix : List Float) → drop (j * n) (drop n matrix) ≡ drop (suc j * n) matrix
+next-row n j matrix = drop-drop (j * n) n matrix ∙ ap (λ (k : ℕ). drop k matrix) (add-comm n (j * n) ∙ sym (suc-mul j n))
+
+pub projected-at : (n m : ℕ) (matrix query : List Float) (j : ℕ) → j < m → getD (projected n m matrix query) j nan ≡ dot (take n (drop (j * n) matrix)) query
+unfolding projected rows
+projected-at n zero matrix query j l = absurd (not-suc-le-zero l)
+projected-at n (suc m) matrix query zero l = rw zero-mul
+projected-at n (suc m) matrix query (suc j) l = projected-at n m (drop n matrix) query j (le-of-suc-le-suc l) ∙ ap (λ (xs : List Float). dot (take n xs) query) (next-row n j matrix)
+
+pub projected-row : (n m : ℕ) (matrix query : List Float) (j : ℕ) → length query ≡ n → j < m → getD (projected n m matrix query) j nan ≡ onRow n matrix query j
+projected-row n m matrix query j e l = projected-at n m matrix query j l ∙ dot-take n (drop (j * n) matrix) query e
+
+-- ---- lengths
+
+-- a row ends within the matrix
+pub row-within : (n m long row : ℕ) → long ≡ m * n → row < m → row * n + n ≤ long
+row-within n m long row e l = let h : suc row * n ≤ m * n = mul-le-mul-right n l in omega (arith, suc-mul row n, h, e)
+
+pub product-empty : (whole rows columns : ℕ) → columns ≡ 0 → eqb whole 0 ≡ eqb whole (rows * columns)
+product-empty whole rows columns e = sym (ap (λ (k : ℕ). eqb whole (rows * k)) e ∙ ap (eqb whole) (mul-zero rows))
+
+above-zero : (k : ℕ) → (k ≡ 0 → ⊥) → 0 < k
+above-zero zero h = absurd (h refl)
+above-zero (suc k) h = zero-lt-suc k
+
+pub product-leaves : (whole rows columns : ℕ) → (whole % columns ≡ 0 → ⊥) → false ≡ eqb whole (rows * columns)
+product-leaves whole rows columns h = sym (ne-eqb whole (rows * columns) (λ e. h (ap (λ (k : ℕ). k % columns) e ∙ mul-mod-left rows columns)))
+
+pub product-count : (whole rows columns : ℕ) → (columns ≡ 0 → ⊥) → whole % columns ≡ 0 → eqb (whole / columns) rows ≡ eqb whole (rows * columns)
+product-count whole rows columns c h = split (eqb (whole / columns) rows) refl
+  where
+    split : (b : Bool) → eqb (whole / columns) rows ≡ b → eqb (whole / columns) rows ≡ eqb whole (rows * columns)
+    split true e =
+        let q = ap (λ (k : ℕ). k * columns) (eqb-true (whole / columns) rows e) in
+        e ∙ sym (eq-eqb whole (rows * columns) (omega (arith, div-add-mod' whole columns, h, q)))
+    split false e =
+        e ∙ sym (ne-eqb whole (rows * columns) (λ f. eqb-false (whole / columns) rows e (ap (λ (k : ℕ). k / columns) f ∙ mul-div-cancel rows (above-zero columns c))))
+
+-- four rows end within the matrix
+pub rows-within : (n m long row : ℕ) → long ≡ m * n → row + 4 ≤ m → row * n + 4 * n ≤ long
+rows-within n m long row e l = let h : (row + 4) * n ≤ m * n = mul-le-mul-right n l in omega (arith, h, e)
+
+-- a row by where it starts
+pub row-at : (n row from : ℕ) (matrix query : List Float) → from ≡ row * n → dot (drop from matrix) query ≡ onRow n matrix query row
+row-at n row from matrix query e = ap (λ (j : ℕ). dot (drop j matrix) query) e

@@ -1,0 +1,18 @@
+-- `qjl::residual` meets its contract: it is the product of what its two callees ensure. Assumes nothing.
+use borrow.Author.Needs.{needs}
+use Rattle.qjl.specs.Score.{residualOf}
+use Rattle.qjl.proofs.residual.Statement.{statement}
+use Rattle.qjl.proofs.residual.Tie as tie
+
+scale-requires : tie.Need-scale-requires
+scale-requires c κs = search needs
+
+sign-sum-requires : tie.Need-sign-sum-requires
+sign-sum-requires c κs = search needs
+
+returns : tie.Need-returns
+unfolding residualOf
+returns c = cc (c .before .scale .ensures, c .sign-sum .ensures)
+
+pub residual-spec : {M : Type 1} → statement M
+residual-spec = tie.close (tie.spec scale-requires sign-sum-requires returns)

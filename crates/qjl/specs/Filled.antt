@@ -1,0 +1,35 @@
+-- What the loops of a projection keep: a list that is filled from an index on, a dot product on its way, and the lengths that are asked for.
+-- Assumes nothing.
+use Prim.Native.Nat.{ℕ, _+_, _*_, _≤_, _<_}
+use mathlib.Core.Path.{_≡_}
+use mathlib.Core.List.{List}
+use lib.ListN.{length, getD, drop}
+use lib.Ieee.{Float, nan}
+use Rattle.rounding.specs.Sums.{running, products, dot}
+
+-- of the list xs, ys is what is left when the entries from start up to stop hold what f gives there
+pub record Filled (f : ℕ → Float) (start stop : ℕ) (xs ys : List Float) : Type 0 where
+  pub long : length ys ≡ length xs
+  pub before : (j : ℕ) → j < start → getD ys j nan ≡ getD xs j nan
+  pub passed : (j : ℕ) → start ≤ j → j < stop → getD ys j nan ≡ f j
+  pub left : (j : ℕ) → stop ≤ j → getD ys j nan ≡ getD xs j nan
+
+-- the projection on row j, whose entries start at j × n; a dot product ends with the shorter list, so what follows the row does not count
+abbrev pub onRow : ℕ → List Float → List Float → ℕ → Float
+onRow n matrix query j = dot (drop (j * n) matrix) query
+
+-- a dot product that has taken i terms: what is left of it is the running sum, from the sum so far, over the products of what is left of both lists
+abbrev pub SoFar : List Float → List Float → ℕ → ℕ → Float → Type 0
+SoFar matrix query from i sum = dot (drop from matrix) query ≡ running sum (products (drop (from + i) matrix) (drop i query))
+
+-- what a call asks that fills a part of the projections: the query has a row's length, and the matrix a row for each entry of the output
+pub record Rowed (n : ℕ) (matrix query : List Float) (room : ℕ) : Type 0 where
+  pub query-long : length query ≡ n
+  pub matrix-long : length matrix ≡ room * n
+
+-- the projections on four rows, each as long as the query, that follow one another from an index on
+pub record FourDots (matrix query : List Float) (from : ℕ) (a b c d : Float) : Type 0 where
+  pub top : a ≡ dot (drop from matrix) query
+  pub second : b ≡ dot (drop (from + length query) matrix) query
+  pub third : c ≡ dot (drop (from + length query + length query) matrix) query
+  pub fourth : d ≡ dot (drop (from + length query + length query + length query) matrix) query
