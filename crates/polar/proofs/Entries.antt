@@ -1,4 +1,4 @@
--- What stands at a place of a list, whatever stands for what is missing, and where it is missing. Assumes nothing.
+-- A product with an entry that is there, whatever stands for what is missing. Assumes nothing.
 use Prim.Native.Nat.{ℕ, _<_}
 use mathlib.Core.Path.{_≡_, ap, _∙_}
 use mathlib.Core.List.{List}

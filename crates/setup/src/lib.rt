@@ -30,7 +30,7 @@ pub enum TurboMode {
     PolarWithQjl,
 }
 
-// The scalars of a setup: the dimension, the total bits and the projections.
+// The scalars of a setup: the mode, the dimension, the total bits and the projections.
 pub struct Setup {
     pub mode: TurboMode,
     pub dim: usize,
@@ -38,7 +38,7 @@ pub struct Setup {
     pub projections: usize,
 }
 
-// The polar bits: the total, less 1 in residual mode.
+// The polar bits: the total, less 1 in residual mode, and 0 where that has none left.
 pub fn polar_bits(setup: Setup) -> u8
     ensures { λ r. ⌜ r ≡ polarBits setup ⌝ }
 {
