@@ -1,0 +1,1 @@
+// The scores of a record: definitions and laws.
