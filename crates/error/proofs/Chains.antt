@@ -92,3 +92,7 @@ first-passes (check false m q ∷ cs) x e = (refl, first-passes cs x e)
 pub first-accepts : {A : Type 0} (cs : List Check) (a : Answer A) → Passed cs → first cs a ≡ a
 first-accepts [] a h = refl
 first-accepts (check b n p ∷ cs) a h = rw (h .0) (first-accepts cs a (h .1))
+
+-- the same for any answer at the end
+pub first-all : {A : Type 0} (cs : List Check) (a : Answer A) {x : A} → first cs a ≡ value x → Passed cs
+first-all cs a e = first-passes cs tt (first-clear cs a e)
