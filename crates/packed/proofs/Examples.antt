@@ -1,0 +1,163 @@
+-- Document 01's worked records, computed: P12 and P13, and the linear record whose radius reads as infinite; then one record for each refusal,
+-- in the order of the checks. Bytes are hexadecimal, as there. Assumes nothing.
+use Prim.Native.Nat.{ℕ}
+use mathlib.Core.Path.{_≡_, refl}
+use mathlib.Core.List.{List, [], _∷_, flatMap}
+use lib.Count.{ones, onesIn}
+use lib.IntN.{pos, negsuc}
+use lib.Ieee.{binary32, ofBits, toBits, add, sub, mul, div, lt, ofInt}
+use Rattle.error.specs.Answer.{value, refused, place}
+use Rattle.digits.specs.Digits.{number, digits}
+use Rattle.float.specs.Bytes.{ofLeBytes, toLeBytes}
+use Rattle.float.specs.Rounding.{clamped, roundUnsigned}
+use Rattle.bitpack.specs.Padding.{padded}
+use Rattle.radius.specs.Chunks.{chunks}
+use Rattle.radius.specs.Radii.{zeroFloat, oneFloat, least, greatest, rangeOf}
+use Rattle.radius.specs.Linear.{spanOf, quantized, linearBytes, restored, linearRadius}
+use Rattle.radius.specs.declared.RadiusCodecProfileV1.the-variants.{F32, BlockLinearU16}
+use Rattle.setup.specs.declared.TurboMode.the-variants.{PolarOnly, PolarWithQjl}
+use Rattle.packed.specs.Fields.{boundsOf, projectionsOf}
+use Rattle.packed.specs.Layout.{radiiBytes, indicesBytes, signsBytes, headerOf}
+use Rattle.packed.specs.Reading.{radiiOf, indicesOf, signsOf, readOf}
+use Rattle.packed.specs.Writing.{headerBytes, recordOf, readBack, writeOf}
+
+-- 'n 2, 1 bit, radius 1.0, index 1: 00 02 00 00 00 01 00 00 80 3F 01.'
+abbrev pub bytes12 : List ℕ
+bytes12 = 0x00 ∷ 0x02 ∷ 0x00 ∷ 0x00 ∷ 0x00 ∷ 0x01 ∷ 0x00 ∷ 0x00 ∷ 0x80 ∷ 0x3F ∷ 0x01 ∷ []
+
+pub p12 : readOf bytes12 ≡ value (record { mode = PolarOnly; profile = F32; dim = 2; bits = 1; projections = 0; range = record { min = zeroFloat; max = zeroFloat }; radii = 6; indices = 10; signs = 11; end = 11 })
+unfolding readOf headerOf radiiOf radiiBytes indicesBytes signsBytes boundsOf projectionsOf number ones onesIn place chunks ofLeBytes ofBits lt padded
+p12 = refl
+
+pub p12-radii : radiiOf bytes12 ≡ oneFloat ∷ []
+unfolding radiiOf radiiBytes boundsOf number chunks ofLeBytes ofBits
+p12-radii = refl
+
+pub p12-indices : indicesOf bytes12 ≡ 1 ∷ []
+unfolding indicesOf indicesBytes number digits
+p12-indices = refl
+
+pub p12-signs : signsOf bytes12 ≡ []
+unfolding signsOf signsBytes projectionsOf number digits
+p12-signs = refl
+
+-- 'With signs (+, −, +): 02 02 00 00 00 01 03 00 00 00 00 00 80 3F 01 05.'
+abbrev pub bytes13 : List ℕ
+bytes13 = 0x02 ∷ 0x02 ∷ 0x00 ∷ 0x00 ∷ 0x00 ∷ 0x01 ∷ 0x03 ∷ 0x00 ∷ 0x00 ∷ 0x00 ∷ 0x00 ∷ 0x00 ∷ 0x80 ∷ 0x3F ∷ 0x01 ∷ 0x05 ∷ []
+
+pub p13 : readOf bytes13 ≡ value (record { mode = PolarWithQjl; profile = F32; dim = 2; bits = 1; projections = 3; range = record { min = zeroFloat; max = zeroFloat }; radii = 10; indices = 14; signs = 15; end = 16 })
+unfolding readOf headerOf radiiOf radiiBytes indicesBytes signsBytes boundsOf projectionsOf number ones onesIn place chunks ofLeBytes ofBits lt padded
+p13 = refl
+
+pub p13-radii : radiiOf bytes13 ≡ oneFloat ∷ []
+unfolding radiiOf radiiBytes boundsOf number chunks ofLeBytes ofBits
+p13-radii = refl
+
+pub p13-indices : indicesOf bytes13 ≡ 1 ∷ []
+unfolding indicesOf indicesBytes number digits
+p13-indices = refl
+
+pub p13-signs : signsOf bytes13 ≡ pos 1 ∷ negsuc 0 ∷ pos 1 ∷ []
+unfolding signsOf signsBytes projectionsOf number digits
+p13-signs = refl
+
+-- ---- linear records of one pair, by their range and their two bytes
+
+abbrev linear : List ℕ → List ℕ
+linear rest = 0x01 ∷ 0x02 ∷ 0x00 ∷ 0x00 ∷ 0x00 ∷ 0x01 ∷ rest
+
+-- 'min 1.5 × 2^104, max the largest f32, value 65,535': 16
+pub infinite-radius : readOf (linear (0x00 ∷ 0x00 ∷ 0xC0 ∷ 0x73 ∷ 0xFF ∷ 0xFF ∷ 0x7F ∷ 0x7F ∷ 0xFF ∷ 0xFF ∷ 0x01 ∷ [])) ≡ refused 16 0
+unfolding readOf radiiOf radiiBytes boundsOf projectionsOf number ones onesIn place chunks ofLeBytes ofBits lt restored linearRadius add sub mul div ofInt
+infinite-radius = refl
+
+-- the value 0 of the same range is fine
+pub finite-radius : radiiOf (linear (0x00 ∷ 0x00 ∷ 0xC0 ∷ 0x73 ∷ 0xFF ∷ 0xFF ∷ 0x7F ∷ 0x7F ∷ 0x00 ∷ 0x00 ∷ 0x01 ∷ [])) ≡ ofBits binary32 0x73C0_0000 ∷ []
+unfolding radiiOf radiiBytes boundsOf number chunks ofLeBytes ofBits restored linearRadius add sub mul div ofInt
+finite-radius = refl
+
+-- 'min above max': from 1 to 0
+pub wrong-order : readOf (linear (0x00 ∷ 0x00 ∷ 0x80 ∷ 0x3F ∷ 0x00 ∷ 0x00 ∷ 0x00 ∷ 0x00 ∷ 0x00 ∷ 0x00 ∷ 0x01 ∷ [])) ≡ refused 17 0
+unfolding readOf boundsOf projectionsOf number ones onesIn ofLeBytes ofBits lt
+wrong-order = refl
+
+-- 'below zero': from −1 to 0; `PackedPolarCode::unpack` admits it
+pub negative-bound : readOf (linear (0x00 ∷ 0x00 ∷ 0x80 ∷ 0xBF ∷ 0x00 ∷ 0x00 ∷ 0x00 ∷ 0x00 ∷ 0x00 ∷ 0x00 ∷ 0x01 ∷ [])) ≡ refused 17 0
+unfolding readOf boundsOf projectionsOf number ones onesIn ofLeBytes ofBits lt
+negative-bound = refl
+
+-- 13 comes before 17: the same range, one byte short
+pub length-first : readOf (linear (0x00 ∷ 0x00 ∷ 0x80 ∷ 0xBF ∷ 0x00 ∷ 0x00 ∷ 0x00 ∷ 0x00 ∷ 0x00 ∷ 0x00 ∷ [])) ≡ refused 13 16
+unfolding readOf boundsOf projectionsOf number ones onesIn
+length-first = refl
+
+-- ---- the other refusals, in their order
+
+pub empty : readOf [] ≡ refused 13 0
+unfolding readOf
+empty = refl
+
+pub map-bit-2 : readOf (0x04 ∷ 0x00 ∷ 0x00 ∷ 0x00 ∷ 0x00 ∷ 0x00 ∷ []) ≡ refused 18 4
+unfolding readOf
+map-bit-2 = refl
+
+pub dimension-0 : readOf (0x00 ∷ 0x00 ∷ 0x00 ∷ 0x00 ∷ 0x00 ∷ 0x00 ∷ []) ≡ refused 2 0
+unfolding readOf number
+dimension-0 = refl
+
+pub dimension-3 : readOf (0x00 ∷ 0x03 ∷ 0x00 ∷ 0x00 ∷ 0x00 ∷ 0x00 ∷ []) ≡ refused 3 3
+unfolding readOf number
+dimension-3 = refl
+
+pub dimension-6 : readOf (0x00 ∷ 0x06 ∷ 0x00 ∷ 0x00 ∷ 0x00 ∷ 0x00 ∷ []) ≡ refused 4 6
+unfolding readOf number ones onesIn
+dimension-6 = refl
+
+-- '16 is refused beside bit 1'
+pub bits-16 : readOf (0x02 ∷ 0x02 ∷ 0x00 ∷ 0x00 ∷ 0x00 ∷ 0x10 ∷ []) ≡ refused 1 16
+unfolding readOf number ones onesIn
+bits-16 = refl
+
+-- 'header cut short'
+pub header-cut : readOf (0x02 ∷ 0x02 ∷ 0x00 ∷ 0x00 ∷ 0x00 ∷ 0x0F ∷ 0x00 ∷ 0x00 ∷ 0x00 ∷ []) ≡ refused 13 9
+unfolding readOf number ones onesIn
+header-cut = refl
+
+pub projections-0 : readOf (0x02 ∷ 0x02 ∷ 0x00 ∷ 0x00 ∷ 0x00 ∷ 0x0F ∷ 0x00 ∷ 0x00 ∷ 0x00 ∷ 0x00 ∷ []) ≡ refused 8 0
+unfolding readOf number ones onesIn projectionsOf
+projections-0 = refl
+
+-- P12 with a padding bit: its place is the byte's index in its payload, not in the record
+pub padding-indices : readOf (0x00 ∷ 0x02 ∷ 0x00 ∷ 0x00 ∷ 0x00 ∷ 0x01 ∷ 0x00 ∷ 0x00 ∷ 0x80 ∷ 0x3F ∷ 0x03 ∷ []) ≡ refused 14 0
+unfolding readOf radiiOf radiiBytes indicesBytes boundsOf projectionsOf number ones onesIn place chunks ofLeBytes ofBits lt padded
+padding-indices = refl
+
+-- P13 with one
+pub padding-signs : readOf (0x02 ∷ 0x02 ∷ 0x00 ∷ 0x00 ∷ 0x00 ∷ 0x01 ∷ 0x03 ∷ 0x00 ∷ 0x00 ∷ 0x00 ∷ 0x00 ∷ 0x00 ∷ 0x80 ∷ 0x3F ∷ 0x01 ∷ 0x0D ∷ []) ≡ refused 14 0
+unfolding readOf radiiOf radiiBytes indicesBytes signsBytes boundsOf projectionsOf number ones onesIn place chunks ofLeBytes ofBits lt padded
+padding-signs = refl
+
+-- ---- and written
+
+pub p12-written : writeOf F32 2 1 PolarOnly 0 (oneFloat ∷ []) (1 ∷ []) [] 11 ≡ value bytes12
+unfolding writeOf recordOf headerBytes readBack ones onesIn place chunks flatMap number digits ofLeBytes toLeBytes ofBits toBits lt
+p12-written = refl
+
+pub p13-written : writeOf F32 2 1 PolarWithQjl 3 (oneFloat ∷ []) (1 ∷ []) (pos 1 ∷ negsuc 0 ∷ pos 1 ∷ []) 16 ≡ value bytes13
+unfolding writeOf recordOf headerBytes readBack ones onesIn place chunks flatMap number digits ofLeBytes toLeBytes ofBits toBits lt
+p13-written = refl
+
+-- 'A linear radius that reads as infinite is 16 in reading and in writing': 1.5 × 2^104 and the largest f32, of which the second reads as infinite
+pub infinite-written : writeOf BlockLinearU16 4 1 PolarOnly 0 (ofBits binary32 0x73C0_0000 ∷ ofBits binary32 0x7F7F_FFFF ∷ []) (0 ∷ 0 ∷ []) [] 19 ≡ refused 16 1
+unfolding writeOf readBack ones onesIn place chunks flatMap number digits ofBits lt least greatest rangeOf roundUnsigned clamped spanOf quantized linearBytes restored linearRadius add sub mul div ofInt
+infinite-written = refl
+
+-- '16 is refused beside signs', before 8 and 5
+pub bits-16-written : writeOf F32 2 16 PolarWithQjl 0 [] [] [] 0 ≡ refused 1 16
+unfolding writeOf ones onesIn
+bits-16-written = refl
+
+-- without signs the projections are ignored, and signs that are lent all the same are 5
+pub signs-given : writeOf F32 2 1 PolarOnly 9999 (oneFloat ∷ []) (1 ∷ []) (pos 1 ∷ []) 11 ≡ refused 5 1
+unfolding writeOf ones onesIn
+signs-given = refl

@@ -1,0 +1,96 @@
+-- What a header has that passes its checks: its fields are small, so every length and place that follows from them fits. Assumes nothing.
+use Prim.Native.Nat.{ℕ, _+_, _*_, _/_, _%_, _≤_, _<_}
+use mathlib.Core.Path.{_≡_, refl}
+use mathlib.Core.Bool.{Bool, true, false, cond}
+use mathlib.Core.List.{List}
+use native.Mathlib.Nat.{mul-le-mul}
+use native.Mathlib.Omega.{arith}
+use borrow.Author.Tests.{ltb-false, eqb-true, eqb-false, not-false}
+use lib.Count.{ones}
+use lib.Dec.{ltb, eqb}
+use lib.ListN.{length}
+use Rattle.error.specs.Answer.{Answer, value, refused, first, accepted}
+use Rattle.error.proofs.Chains.{first-all, first-accepts, or-false}
+use Rattle.radius.specs.Codec.{widthOf}
+use Rattle.radius.specs.declared.RadiusCodecProfileV1.{RadiusCodecProfileV1}
+use Rattle.radius.specs.declared.RadiusCodecProfileV1.the-variants.{F32, BlockLinearU16, BlockLogU8}
+use Rattle.setup.specs.declared.TurboMode.{TurboMode}
+use Rattle.setup.specs.declared.TurboMode.the-variants.{PolarOnly, PolarWithQjl}
+use Rattle.rotation.specs.Checks.{outsidePowers}
+use Rattle.setup.specs.Setups.{byMode}
+use Rattle.packed.specs.Fields.{mapOf, hasSigns, modeOf, wordAt, projectionsAt, dimOf, bitsOf, projectionsOf}
+use Rattle.packed.specs.Layout.{headerLength}
+use Rattle.packed.specs.Reading.{outsideBits, outsideProjections, headerChecks}
+
+pub record Usable (bytes : List ℕ) : Type 0 where
+  pub long : 6 ≤ length bytes
+  pub map : mapOf bytes ≤ 3
+  pub above : dimOf bytes ≡ 0 → ⊥
+  pub even : dimOf bytes % 2 ≡ 1 → ⊥
+  pub power : ones (dimOf bytes) ≡ 1
+  pub most : dimOf bytes ≤ 4096
+  pub least-bits : 1 ≤ bitsOf bytes
+  pub most-bits : bitsOf bytes ≤ byMode (modeOf (mapOf bytes)) 16 15
+  pub header : headerLength (mapOf bytes) ≤ length bytes
+  pub projections : outsideProjections (modeOf (mapOf bytes)) (projectionsOf bytes) ≡ false
+
+pub usable : {A : Type 0} (bytes : List ℕ) (a : Answer A) {x : A} → first (headerChecks bytes) a ≡ value x → Usable bytes
+usable bytes a e =
+    let all = first-all (headerChecks bytes) a e in
+    let powers = or-false _ _ (all .1 .1 .1 .1 .0) in
+    let bits = or-false _ _ (all .1 .1 .1 .1 .1 .0) in
+    record {
+      long = ltb-false (length bytes) 6 (all .0);
+      map = ltb-false 3 (mapOf bytes) (all .1 .0);
+      above = eqb-false (dimOf bytes) 0 (all .1 .1 .0);
+      even = eqb-false (dimOf bytes % 2) 1 (all .1 .1 .1 .0);
+      power = eqb-true (ones (dimOf bytes)) 1 (not-false _ (powers .0));
+      most = ltb-false 4096 (dimOf bytes) (powers .1);
+      least-bits = ltb-false (bitsOf bytes) 1 (bits .0);
+      most-bits = ltb-false (byMode (modeOf (mapOf bytes)) 16 15) (bitsOf bytes) (bits .1);
+      header = ltb-false (length bytes) (headerLength (mapOf bytes)) (all .1 .1 .1 .1 .1 .1 .0);
+      projections = all .1 .1 .1 .1 .1 .1 .1 .0;
+    }
+
+-- ---- bounds that hold in both modes and for every profile
+
+mode-most : (mode : TurboMode) → byMode mode 16 15 ≤ 16
+mode-most PolarOnly = omega arith
+mode-most PolarWithQjl = omega arith
+
+pub bits-most : (bytes : List ℕ) → Usable bytes → bitsOf bytes ≤ 16
+bits-most bytes u = let h = mode-most (modeOf (mapOf bytes)) in omega (arith, h, u .most-bits)
+
+either-most : (t : Bool) (m : ℕ) → outsideProjections (cond t PolarWithQjl PolarOnly) (cond t m 0) ≡ false → cond t m 0 ≤ 4096
+either-most true m e = ltb-false 4096 m (or-false (eqb m 0) (ltb 4096 m) e .1)
+either-most false m e = omega arith
+
+pub projections-most : (bytes : List ℕ) → Usable bytes → projectionsOf bytes ≤ 4096
+unfolding projectionsOf
+projections-most bytes u = either-most (hasSigns (mapOf bytes)) (wordAt bytes (projectionsAt (mapOf bytes))) (u .projections)
+
+pub width-most : (profile : RadiusCodecProfileV1) → widthOf profile ≤ 4
+width-most F32 = omega arith
+width-most BlockLinearU16 = omega arith
+width-most BlockLogU8 = omega arith
+
+pub product-most : (a b m n : ℕ) → a ≤ m → b ≤ n → a * b ≤ m * n
+product-most a b m n h k = mul-le-mul h k
+
+-- ---- the last check, where all before it pass
+
+pub record Passed (bytes : List ℕ) : Type 0 where
+  pub long : ltb (length bytes) 6 ≡ false
+  pub map : ltb 3 (mapOf bytes) ≡ false
+  pub above : eqb (dimOf bytes) 0 ≡ false
+  pub even : eqb (dimOf bytes % 2) 1 ≡ false
+  pub power : outsidePowers (dimOf bytes) ≡ false
+  pub bits : outsideBits (modeOf (mapOf bytes)) (bitsOf bytes) ≡ false
+  pub header : ltb (length bytes) (headerLength (mapOf bytes)) ≡ false
+
+module _ {A : Type 0} (bytes : List ℕ) (a : Answer A) (p : Passed bytes) where
+  pub header-wrong : outsideProjections (modeOf (mapOf bytes)) (projectionsOf bytes) ≡ true → first (headerChecks bytes) a ≡ refused 8 (projectionsOf bytes)
+  header-wrong e = rw (p .long, p .map, p .above, p .even, p .power, p .bits, p .header, e)
+
+  pub header-right : outsideProjections (modeOf (mapOf bytes)) (projectionsOf bytes) ≡ false → first (headerChecks bytes) a ≡ a
+  header-right e = first-accepts (headerChecks bytes) a (p .long, (p .map, (p .above, (p .even, (p .power, (p .bits, (p .header, (e, tt))))))))

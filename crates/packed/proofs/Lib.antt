@@ -1,0 +1,13 @@
+pub mod Radii
+pub mod Headers
+pub mod Parts
+pub mod Payloads
+pub mod Accepted
+pub mod Values
+pub mod Handed
+pub mod Examples
+pub mod Stores
+pub mod Writing
+pub mod Written
+pub mod FieldsBack
+pub mod PartsBack

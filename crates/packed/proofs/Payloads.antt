@@ -1,0 +1,67 @@
+-- What the checks of the whole length, the range and the payloads answer, case by case, as the code comes to them. Assumes nothing.
+use Prim.Native.Nat.{ℕ, _≤_, _<_}
+use mathlib.Core.Path.{_≡_, sym, _∙_}
+use mathlib.Core.Bool.{true, false}
+use mathlib.Core.List.{List, [], _∷_}
+use borrow.Author.Tests.{lt-ltb, le-ltb, eq-eqb, ne-eqb}
+use lib.ListN.{length}
+use Rattle.error.specs.Answer.{value, refused, place, first, accepted}
+use Rattle.bitpack.specs.Padding.{bytesFor, wrongPadding, paddingOf}
+use Rattle.error.proofs.Chains.{append-refused, append-passed}
+use Rattle.radius.specs.Codec.{radiiFor}
+use Rattle.radius.specs.declared.Range.{Range}
+use Rattle.radius.specs.declared.RadiusCodecProfileV1.{RadiusCodecProfileV1}
+use Rattle.radius.specs.declared.RadiusCodecProfileV1.the-variants.{F32, BlockLinearU16}
+use Rattle.radius.proofs.Chunks.{chunks-length}
+use Rattle.radius.specs.Radii.{badRadius}
+use Rattle.packed.specs.Fields.{mapOf, hasRange, profileOf, boundsOf, projectionsOf}
+use Rattle.packed.specs.Layout.{pairsOf, indicesUsed, totalOf, radiiBytes, indicesBytes, signsBytes}
+use Rattle.packed.specs.Radii.{wrongBounds}
+use Rattle.packed.specs.Reading.{radiiOf, payloadChecks}
+use Rattle.packed.proofs.Parts.{length-indices, length-signs}
+use mathlib.Core.Bool.{Bool, cond}
+use Rattle.float.specs.Bytes.{ofLeBytes}
+use Rattle.radius.specs.Linear.{linearRadius}
+
+-- as many radii as pairs
+either-length : (t : Bool) (count : ℕ) (range : Range) (payload : List ℕ) → length (radiiFor (cond t BlockLinearU16 F32) count range payload) ≡ count
+either-length true count range payload = chunks-length (linearRadius range) 2 count payload
+either-length false count range payload = chunks-length ofLeBytes 4 count payload
+
+pub length-radiiOf : (bytes : List ℕ) → length (radiiOf bytes) ≡ pairsOf bytes
+unfolding radiiOf
+length-radiiOf bytes = either-length (hasRange (mapOf bytes)) (pairsOf bytes) (boundsOf bytes) (radiiBytes bytes)
+
+-- of a payload of the right length only the padding is left to say
+pub padding-only : (packed : List ℕ) (used : ℕ) → length packed ≡ bytesFor used → paddingOf packed used ≡ first (wrongPadding packed used ∷ []) accepted
+unfolding paddingOf
+padding-only packed used h = simp (eq-eqb _ _ h)
+
+module _ (bytes : List ℕ) where
+  pub payload-size : (length bytes ≡ totalOf bytes → ⊥) → first (payloadChecks bytes) accepted ≡ refused 13 (length bytes)
+  payload-size h = simp (ne-eqb _ _ h)
+
+  module _ (sized : length bytes ≡ totalOf bytes) where
+    pub payload-bounds : wrongBounds (profileOf (mapOf bytes)) (boundsOf bytes) ≡ true → first (payloadChecks bytes) accepted ≡ refused 17 0
+    payload-bounds h = simp (eq-eqb _ _ sized, h)
+
+    module _ (bounds : wrongBounds (profileOf (mapOf bytes)) (boundsOf bytes) ≡ false) {bad : ℕ} (found : bad ≡ place badRadius (radiiOf bytes)) where
+      pub payload-radius : bad < pairsOf bytes → first (payloadChecks bytes) accepted ≡ refused 16 bad
+      payload-radius h = rw (eq-eqb _ _ sized, bounds, ← found, length-radiiOf, lt-ltb _ _ h)
+
+      module _ (all : pairsOf bytes ≤ bad) where
+        rest : first (payloadChecks bytes) accepted ≡ first (wrongPadding (indicesBytes bytes) (indicesUsed bytes) ∷ wrongPadding (signsBytes bytes) (projectionsOf bytes) ∷ []) accepted
+        rest = rw (eq-eqb _ _ sized, bounds, ← found, length-radiiOf, le-ltb _ _ all)
+
+        pub payload-indices : {n p : ℕ} → paddingOf (indicesBytes bytes) (indicesUsed bytes) ≡ refused n p → first (payloadChecks bytes) accepted ≡ refused n p
+        payload-indices e =
+            rest
+            ∙ append-refused (wrongPadding (indicesBytes bytes) (indicesUsed bytes) ∷ []) (wrongPadding (signsBytes bytes) (projectionsOf bytes) ∷ []) tt accepted
+            (sym (padding-only (indicesBytes bytes) (indicesUsed bytes) (length-indices bytes sized)) ∙ e)
+
+        pub payload-signs : paddingOf (indicesBytes bytes) (indicesUsed bytes) ≡ accepted → first (payloadChecks bytes) accepted ≡ paddingOf (signsBytes bytes) (projectionsOf bytes)
+        payload-signs e =
+            rest
+            ∙ append-passed (wrongPadding (indicesBytes bytes) (indicesUsed bytes) ∷ []) (wrongPadding (signsBytes bytes) (projectionsOf bytes) ∷ []) tt accepted
+            (sym (padding-only (indicesBytes bytes) (indicesUsed bytes) (length-indices bytes sized)) ∙ e)
+            ∙ sym (padding-only (signsBytes bytes) (projectionsOf bytes) (length-signs bytes sized))

@@ -1,0 +1,85 @@
+-- What scoring needs of the values that an accepted record holds: every radius as read is finite, no NaN, not below zero and an f32.
+-- Every index is below 2^bits, and every sign is −1 or 1. Assumes nothing.
+use Prim.Native.Nat.{ℕ, zero, suc, _^_, _<_}
+use native.Mathlib.Nat.{not-suc-le-zero, le-of-suc-le-suc}
+use mathlib.Core.Path.{_≡_, refl, sym, _∙_, subst}
+use mathlib.Core.Bool.{Bool, true, false, cond}
+use mathlib.Core.List.{List, [], _∷_, map}
+use lib.Dec.{T, eqb}
+use lib.IntN.{pos, negsuc}
+use lib.ListN.{length, getD, length-map}
+use lib.Pow.{pow-pos}
+use lib.Ieee.{Float, nan, binary32, fits, isNan, lt}
+use lib.Ieee.Scale.{finite}
+use lib.Ieee.Bits.{ofBits-fits}
+use lib.Ieee.Fits.{add-fits}
+use Rattle.float.specs.Bytes.{ofLeBytes}
+use Rattle.digits.specs.Digits.{number, digits}
+use Rattle.digits.proofs.Laws.{Below, length-digits, digits-below}
+use Rattle.bitpack.specs.Signs.{signOf, notSign}
+use Rattle.radius.specs.Radii.{zeroFloat}
+use Rattle.radius.proofs.Radii.{radius-finite, radius-not-nan, radius-not-below}
+use Rattle.radius.specs.Codec.{radiiFor}
+use Rattle.radius.specs.Linear.{restored, linearRadius}
+use Rattle.radius.specs.declared.Range.{Range}
+use Rattle.radius.specs.declared.RadiusCodecProfileV1.the-variants.{F32, BlockLinearU16}
+use Rattle.radius.proofs.Chunks.{chunks-getD, chunks-length}
+use Rattle.packed.specs.Fields.{mapOf, hasRange, bitsOf, boundsOf, projectionsOf}
+use Rattle.packed.specs.Layout.{pairsOf, radiiBytes, indicesBytes, signsBytes}
+use Rattle.packed.specs.Reading.{radiiOf, indicesOf, signsOf}
+use Rattle.packed.specs.Accepted.{Accepted}
+
+module _ (bytes : List ℕ) (a : Accepted bytes) (i : ℕ) (h : i < length (radiiOf bytes)) where
+  pub accepted-finite : finite (getD (radiiOf bytes) i nan) ≡ true
+  accepted-finite = radius-finite (getD (radiiOf bytes) i nan) (a .radii i h)
+
+  pub accepted-not-nan : isNan (getD (radiiOf bytes) i nan) ≡ false
+  accepted-not-nan = radius-not-nan (getD (radiiOf bytes) i nan) (a .radii i h)
+
+  pub accepted-not-below : lt (getD (radiiOf bytes) i nan) zeroFloat ≡ false
+  accepted-not-below = radius-not-below (getD (radiiOf bytes) i nan) (a .radii i h)
+
+-- whatever its bytes are, a radius as read is an f32
+either-fits : (t : Bool) (count : ℕ) (range : Range) (payload : List ℕ) (i : ℕ) → i < length (radiiFor (cond t BlockLinearU16 F32) count range payload) → T (fits binary32 (getD (radiiFor (cond t BlockLinearU16 F32) count range payload) i nan))
+unfolding ofLeBytes linearRadius restored
+either-fits true count range payload i h =
+    let below : i < count = rw chunks-length at h in
+    subst (λ (x : Float). T (fits binary32 x)) (sym (chunks-getD (linearRadius range) 2 count i payload nan below)) (add-fits binary32 _ _)
+either-fits false count range payload i h =
+    let below : i < count = rw chunks-length at h in
+    subst (λ (x : Float). T (fits binary32 x)) (sym (chunks-getD ofLeBytes 4 count i payload nan below)) (ofBits-fits binary32 _)
+
+pub radii-fit : (bytes : List ℕ) (i : ℕ) → i < length (radiiOf bytes) → T (fits binary32 (getD (radiiOf bytes) i nan))
+unfolding radiiOf
+radii-fit bytes i h = either-fits (hasRange (mapOf bytes)) (pairsOf bytes) (boundsOf bytes) (radiiBytes bytes) i h
+
+-- ---- indices and signs
+
+pub length-indicesOf : (bytes : List ℕ) → length (indicesOf bytes) ≡ pairsOf bytes
+unfolding indicesOf
+length-indicesOf bytes = length-digits (2 ^ bitsOf bytes) (pairsOf bytes) (number 256 (indicesBytes bytes))
+
+pub indices-below : (bytes : List ℕ) → Below (2 ^ bitsOf bytes) (indicesOf bytes)
+unfolding indicesOf
+indices-below bytes = digits-below (2 ^ bitsOf bytes) (pairsOf bytes) (number 256 (indicesBytes bytes)) (pow-pos (bitsOf bytes))
+
+pub length-signsOf : (bytes : List ℕ) → length (signsOf bytes) ≡ projectionsOf bytes
+unfolding signsOf
+length-signsOf bytes = length-map (digits 2 (projectionsOf bytes) (number 256 (signsBytes bytes))) signOf ∙ length-digits 2 (projectionsOf bytes) (number 256 (signsBytes bytes))
+
+sign-good : (b : ℕ) → notSign (signOf b) ≡ false
+sign-good b = by (eqb b 1)
+  where
+    by : (t : Bool) → notSign (cond t (pos 1) (negsuc 0)) ≡ false
+    by true = refl
+    by false = refl
+
+each-good : (bits : List ℕ) (i : ℕ) → i < length (map signOf bits) → notSign (getD (map signOf bits) i (pos 0)) ≡ false
+each-good [] i h = absurd (not-suc-le-zero h)
+each-good (b ∷ bs) zero h = sign-good b
+each-good (b ∷ bs) (suc i) h = each-good bs i (le-of-suc-le-suc h)
+
+-- every sign is −1 or 1
+pub signs-good : (bytes : List ℕ) (i : ℕ) → i < length (signsOf bytes) → notSign (getD (signsOf bytes) i (pos 0)) ≡ false
+unfolding signsOf
+signs-good bytes i h = each-good (digits 2 (projectionsOf bytes) (number 256 (signsBytes bytes))) i h

@@ -1,0 +1,162 @@
+-- `packed::check_payloads` meets its contract: each return is one case of the checks, and each payload is the part that the header gives.
+-- Assumes nothing.
+use Prim.Native.Nat.{ℕ, _*_, _/_, _≤_}
+use mathlib.Core.Path.{_≡_, sym, ap, _∙_}
+use denote.Ref.{now}
+use native.Mathlib.Omega.{arith}
+use lib.ListN.{length}
+use mathlib.Core.Bool.{false}
+use mathlib.Core.List.{List}
+use Rattle.error.specs.Answer.{place}
+use Rattle.bitpack.specs.Padding.{paddingOf}
+use Rattle.radius.specs.Radii.{badRadius}
+use Rattle.packed.specs.Fields.{mapOf, profileOf, boundsOf, bitsOf}
+use Rattle.packed.specs.Radii.{wrongBounds}
+use Rattle.packed.specs.Reading.{radiiOf}
+use Rattle.error.specs.Outcomes.{says}
+use Rattle.error.specs.Answer.{accepted}
+use Rattle.packed.specs.Layout.{pairsOf, indicesUsed, totalOf, indicesBytes, signsBytes}
+use Rattle.packed.proofs.Headers.{usable, bits-most, product-most}
+use Rattle.packed.proofs.Parts.{Ordered, ordered, radii-part, indices-part, signs-part, length-radii, header-pairs, header-used, header-projections, header-bounds, header-width, header-radii}
+use Rattle.packed.proofs.Payloads.{payload-size, payload-bounds, payload-radius, payload-indices, payload-signs}
+use borrow.Author.Needs.{needs}
+use Rattle.packed.proofs.check_payloads.Statement.{statement}
+use Rattle.packed.proofs.check_payloads.Tie as tie
+use Rattle.packed.proofs.check_payloads.Reads as reads
+use Rattle.packed.proofs.check_payloads.Lts as lts
+use Rattle.bitpack.proofs.validate_padding_zero.Reads as validate-padding-zero-reads
+use Rattle.packed.proofs.first_bad.Reads as first-bad-reads
+use Rattle.packed.proofs.wrong_bounds.Reads as wrong-bounds-reads
+
+-- the whole length is right
+sized : (c : tie.Else1) → let bytes = now (c .before .before .args .bytes) in length bytes ≡ totalOf bytes
+sized c = c .if1 .left ∙ ordered (now (c .before .before .args .bytes)) (c .before .before .pre .0) .last
+
+-- the header's places lie in the record, in their order
+within : (c : tie.Else1) → let a = c .before .before .args in Ordered (a .header) (length (now (a .bytes)))
+within c =
+    let o = ordered (now (c .before .before .args .bytes)) (c .before .before .pre .0) in
+    record { first = o .first; second = o .second; third = o .third; last = sym (c .if1 .left) }
+
+bounds : (c : tie.Else2) → let bytes = now (c .before .before .before .before .before .args .bytes) in wrongBounds (profileOf (mapOf bytes)) (boundsOf bytes) ≡ false
+bounds c = sym (header-bounds (now (c .before .before .before .before .before .args .bytes)) (c .before .before .before .before .before .pre .0)) ∙ sym (c .before .wrong-bounds .ensures) ∙ c .if2 .left
+
+found : (c : tie.After-first-bad) → let bytes = now (c .before .before .before .before .before .before .before .before .args .bytes) in c .first-bad .result ≡ place badRadius (radiiOf bytes)
+found c = let bytes = now (c .before .before .before .before .before .before .before .before .args .bytes) in c .first-bad .ensures ∙ header-radii bytes (c .before .before .before .before .before .before .before .before .pre .0) _ (radii-part bytes (c .before .before .before .before .before .before .before .before .pre .0))
+
+-- no radius offends
+every : (c : tie.Else3) → let bytes = now (c .before .before .before .before .before .before .before .before .before .args .bytes) in pairsOf bytes ≤ c .before .first-bad .result
+every c = omega (arith, c .if3 .left, header-pairs (now (c .before .before .before .before .before .before .before .before .before .args .bytes)) (c .before .before .before .before .before .before .before .before .before .pre .0))
+
+-- the indices' padding
+padding : (c : tie.After-validate-padding-zero) → let bytes = now (c .before .before .before .before .before .before .before .before .before .before .before .before .args .bytes) in says (c .validate-padding-zero .result) ≡ paddingOf (indicesBytes bytes) (indicesUsed bytes)
+padding c =
+    let bytes = now (c .before .before .before .before .before .before .before .before .before .before .before .before .args .bytes) in
+    let is = c .before .before .before .before .before .before .before .before .before .before .before .before .pre .0 in
+    let header = c .before .before .before .before .before .before .before .before .before .before .before .before .args .header in
+    c .validate-padding-zero .ensures ∙ ap (λ (l : List ℕ). paddingOf l (header .dim / 2 * header .bits)) (indices-part bytes is) ∙ ap (paddingOf (indicesBytes bytes)) (header-used bytes is)
+
+returns : tie.Need-returns
+returns c = sym (payload-size (now (c .before .before .args .bytes)) (λ e. c .if1 .taken (e ∙ sym (ordered (now (c .before .before .args .bytes)) (c .before .before .pre .0) .last))))
+
+wrong-bounds-requires : tie.Need-wrong-bounds-requires
+wrong-bounds-requires c κs = search needs
+
+returns-2 : tie.Need-returns-2
+returns-2 c = sym (payload-bounds (now (c .before .before .before .before .before .args .bytes)) (sized (c .before .before .before)) (sym (header-bounds (now (c .before .before .before .before .before .args .bytes)) (c .before .before .before .before .before .pre .0)) ∙ sym (c .before .wrong-bounds .ensures) ∙ c .if2 .taken))
+
+sub-first-bad : tie.Need-sub-first-bad
+sub-first-bad c = let w = within (c .before .before .before .before) in omega (arith, w .first, w .second, w .third, w .last)
+
+part-first-bad-start : tie.Need-part-first-bad-start
+part-first-bad-start c = let w = within (c .before .before .before .before) in omega (arith, w .first, w .second, w .third, w .last)
+
+part-first-bad-end : tie.Need-part-first-bad-end
+part-first-bad-end c = let w = within (c .before .before .before .before) in omega (arith, w .first, w .second, w .third, w .last)
+
+first-bad-requires : tie.Need-first-bad-requires
+first-bad-requires c κs = let bytes = now (c .before .before .before .before .before .before .before .args .bytes) in let is = c .before .before .before .before .before .before .before .pre .0 in ap length (radii-part bytes is) ∙ length-radii bytes (sized (c .before .before .before .before .before)) ∙ sym (header-width bytes is)
+
+returns-3 : tie.Need-returns-3
+returns-3 c = sym (payload-radius (now (c .before .before .before .before .before .before .before .before .before .args .bytes)) (sized (c .before .before .before .before .before .before .before)) (bounds (c .before .before .before .before)) (found (c .before)) (omega (arith, c .if3 .taken, header-pairs (now (c .before .before .before .before .before .before .before .before .before .args .bytes)) (c .before .before .before .before .before .before .before .before .before .pre .0))))
+
+cast-used : tie.Need-cast-used
+cast-used c = search needs
+
+mul-used : tie.Need-mul-used
+mul-used c =
+    let s = c .before .before .before .before .before .before .before .before .before .before in
+    let bytes = now (s .args .bytes) in
+    let u = usable bytes accepted (s .pre .1) in
+    let p = product-most (pairsOf bytes) (bitsOf bytes) 2048 16 (omega (arith, u .most)) (bits-most bytes u) in
+    omega (arith, header-used bytes (s .pre .0), p)
+
+sub-validate-padding-zero : tie.Need-sub-validate-padding-zero
+sub-validate-padding-zero c = let w = within (c .before .before .before .before .before .before .before .before) in omega (arith, w .first, w .second, w .third, w .last)
+
+part-validate-padding-zero-start : tie.Need-part-validate-padding-zero-start
+part-validate-padding-zero-start c = let w = within (c .before .before .before .before .before .before .before .before) in omega (arith, w .first, w .second, w .third, w .last)
+
+part-validate-padding-zero-end : tie.Need-part-validate-padding-zero-end
+part-validate-padding-zero-end c = let w = within (c .before .before .before .before .before .before .before .before) in omega (arith, w .first, w .second, w .third, w .last)
+
+validate-padding-zero-requires : tie.Need-validate-padding-zero-requires
+validate-padding-zero-requires c κs = search needs
+
+enum-known-number : tie.Need-enum-known-number
+enum-known-number c = search needs
+
+returns-4 : tie.Need-returns-4
+returns-4 c = sym (payload-indices (now (c .before .before .before .before .before .before .before .before .before .before .before .before .before .before .before .args .bytes)) (sized (c .before .before .before .before .before .before .before .before .before .before .before .before .before)) (bounds (c .before .before .before .before .before .before .before .before .before .before)) (found (c .before .before .before .before .before .before .before)) (every (c .before .before .before .before .before .before)) (sym (padding (c .before .before .before)) ∙ ap says (c .before .number .given .1)))
+
+enum-told : tie.Need-enum-told
+enum-told c = search needs
+
+sub-validate-padding-zero-2 : tie.Need-sub-validate-padding-zero-2
+sub-validate-padding-zero-2 c = let w = within (c .before .before .before .before .before .before .before .before .before .before .before .before) in omega (arith, w .first, w .second, w .third, w .last)
+
+part-validate-padding-zero-start-2 : tie.Need-part-validate-padding-zero-start-2
+part-validate-padding-zero-start-2 c = let w = within (c .before .before .before .before .before .before .before .before .before .before .before .before) in omega (arith, w .first, w .second, w .third, w .last)
+
+part-validate-padding-zero-end-2 : tie.Need-part-validate-padding-zero-end-2
+part-validate-padding-zero-end-2 c = search needs
+
+validate-padding-zero-requires-2 : tie.Need-validate-padding-zero-requires-2
+validate-padding-zero-requires-2 c κs = search needs
+
+returns-5 : tie.Need-returns-5
+returns-5 c =
+    let bytes = now (c .before .before .before .before .before .before .before .before .before .before .before .before .before .before .before .before .args .bytes) in
+    let is = c .before .before .before .before .before .before .before .before .before .before .before .before .before .before .before .before .pre .0 in
+    let header = c .before .before .before .before .before .before .before .before .before .before .before .before .before .before .before .before .args .header in
+    c .validate-padding-zero2 .ensures
+    ∙ ap (λ (l : List ℕ). paddingOf l (header .projections)) (signs-part bytes is)
+    ∙ ap (paddingOf (signsBytes bytes)) (header-projections bytes is)
+    ∙ sym (payload-signs bytes (sized (c .before .before .before .before .before .before .before .before .before .before .before .before .before .before)) (bounds (c .before .before .before .before .before .before .before .before .before .before .before)) (found (c .before .before .before .before .before .before .before .before)) (every (c .before .before .before .before .before .before .before)) (sym (padding (c .before .before .before .before)) ∙ ap says (c .before .before .enum-told .given .1)))
+
+pub check-payloads-spec : {M : Type 1} → statement M
+check-payloads-spec =
+    tie.close
+    (tie.spec
+    returns
+    wrong-bounds-requires
+    returns-2
+    sub-first-bad
+    part-first-bad-start
+    part-first-bad-end
+    first-bad-requires
+    returns-3
+    cast-used
+    mul-used
+    sub-validate-padding-zero
+    part-validate-padding-zero-start
+    part-validate-padding-zero-end
+    validate-padding-zero-requires
+    enum-known-number
+    returns-4
+    enum-told
+    sub-validate-padding-zero-2
+    part-validate-padding-zero-start-2
+    part-validate-padding-zero-end-2
+    validate-padding-zero-requires-2
+    returns-5)

@@ -1,0 +1,88 @@
+-- `packed::first_bad_float` meets its contract: a search that keeps `place` of what is left. Assumes nothing.
+use Prim.Native.Nat.{ℕ, _+_, _*_, _-_, _≤_, _<_}
+use mathlib.Core.Path.{_≡_, refl, sym, ap, _∙_}
+use mathlib.Core.List.{List, map}
+use native.Mathlib.Omega.{arith}
+use denote.Ref.{now}
+use lib.ListN.{length, getD, take, drop}
+use lib.Ieee.{Float, nan}
+use borrow.Author.Needs.{needs}
+use Rattle.error.specs.Answer.{place}
+use Rattle.error.proofs.Places.{place-start, place-skip, place-here, place-end}
+use Rattle.float.specs.Bytes.{ofLeBytes}
+use Rattle.radius.specs.Chunks.{chunks}
+use Rattle.radius.specs.Radii.{badRadius}
+use Rattle.radius.proofs.Chunks.{chunks-getD, chunks-length}
+use Rattle.packed.proofs.first_bad_float.Statement.{statement}
+use Rattle.packed.proofs.first_bad_float.Tie as tie
+
+-- the floats that the parts stand for
+abbrev floats : List ℕ → ℕ → List Float
+floats payload count = map ofLeBytes (chunks 4 count payload)
+
+abbrev Inv-loop : tie.InvT-loop
+Inv-loop payload count i₀ at₀ i at = (i ≤ count) × ((at ≡ 4 * i) × (place badRadius (floats payload count) ≡ i + place badRadius (drop i (floats payload count))))
+
+abbrev μ-loop : tie.MeasureT-loop
+μ-loop payload count i₀ at₀ i at = count - i
+
+loop-holds : tie.Need-loop-holds Inv-loop μ-loop
+loop-holds c = (omega arith, (refl, place-start _ _))
+
+get-f32-requires : tie.Need-get-f32-requires Inv-loop μ-loop
+get-f32-requires c κs = omega arith
+
+is-bad-requires : tie.Need-is-bad-requires Inv-loop μ-loop
+is-bad-requires c κs = search needs
+
+-- the float at hand is the one that is asked about
+here : (c : tie.After-get-f32 Inv-loop μ-loop) → let a = c .before .before .before .before .args in getD (floats (now (a .payload)) (a .count)) (c .before .before .loop .i) nan ≡ c .get-f32 .result
+here c =
+    let a = c .before .before .before .before .args in
+    chunks-getD ofLeBytes 4 (a .count) _ (now (a .payload)) nan (c .before .loop-test .taken)
+    ∙ ap (λ (k : ℕ). ofLeBytes (take 4 (drop k (now (a .payload))))) (sym (c .before .before .loop .inv .1 .0))
+    ∙ sym (c .get-f32 .ensures)
+
+-- there are as many as the count says
+below : (c : tie.In-loop Inv-loop μ-loop) → let a = c .before .before .before .args in c .before .loop .i < length (floats (now (a .payload)) (a .count))
+below c = rw chunks-length (c .loop-test .taken)
+
+returns : tie.Need-returns Inv-loop μ-loop
+returns c = sym (place-here _ _ _ nan (below (c .before .before .before)) (ap badRadius (here (c .before .before)) ∙ sym (c .before .is-bad .ensures) ∙ c .if1 .taken) (c .before .before .before .before .loop .inv .1 .1))
+
+add-i : tie.Need-add-i Inv-loop μ-loop
+add-i c = omega arith
+
+add-at : tie.Need-add-at Inv-loop μ-loop
+add-at c = omega arith
+
+loop-less : tie.Need-loop-less Inv-loop μ-loop
+loop-less c = omega arith
+
+loop-again : tie.Need-loop-again Inv-loop μ-loop
+loop-again c = (
+  omega arith,
+  (
+    omega arith,
+    place-skip _ _ _ nan (below (c .before .before .before)) (ap badRadius (here (c .before .before)) ∙ sym (c .before .is-bad .ensures) ∙ c .if1 .left) (c .before .before .before .before .loop .inv .1 .1),
+  ),
+)
+
+returns-2 : tie.Need-returns-2 Inv-loop μ-loop
+returns-2 c = sym (place-end _ _ _ (rw chunks-length (c .loop-test .left)) (c .before .loop .inv .1 .1))
+
+pub first-bad-float-spec : {M : Type 1} → statement M
+first-bad-float-spec =
+    tie.close
+    (tie.spec
+    Inv-loop
+    μ-loop
+    loop-holds
+    get-f32-requires
+    is-bad-requires
+    returns
+    add-i
+    add-at
+    loop-less
+    loop-again
+    returns-2)

@@ -1,0 +1,123 @@
+-- `packed::header_of` meets its contract: a header that passes its checks has small fields, so no sum wraps. Assumes nothing.
+use Prim.Native.Nat.{ℕ, _*_, _/_, _≤_}
+use denote.Ref.{now}
+use native.Mathlib.Omega.{arith}
+use lib.ListN.{getD}
+use Rattle.error.specs.Answer.{accepted}
+use Rattle.packed.specs.Layout.{headerOf}
+use Rattle.packed.proofs.Headers.{usable, bits-most, projections-most, width-most, product-most}
+use borrow.Author.Needs.{needs}
+use Rattle.packed.proofs.header_of.Statement.{statement}
+use Rattle.packed.proofs.header_of.Tie as tie
+use Rattle.packed.proofs.header_of.Reads as reads
+use Rattle.packed.proofs.header_of.Lts as lts
+use Rattle.packed.proofs.bounds_of.Reads as bounds-of-reads
+use Rattle.packed.proofs.get_u32.Reads as get-u32-reads
+use Rattle.packed.proofs.header_length.Reads as header-length-reads
+use Rattle.packed.proofs.mode_of.Reads as mode-of-reads
+use Rattle.packed.proofs.profile_of.Reads as profile-of-reads
+use Rattle.packed.proofs.projections_of.Reads as projections-of-reads
+use Rattle.packed.proofs.width_of.Reads as width-of-reads
+
+-- the sizes that the sums are made of
+pub record Sizes (head width dim bits m : ℕ) : Type 0 where
+  pub head-most : head ≤ 18
+  pub radii-most : width * (dim / 2) ≤ 8192
+  pub indices-most : dim / 2 * bits ≤ 32768
+  pub projections-most : m ≤ 4096
+
+sizes : (c : tie.After-width-of) → let a = c .before .before .before .before .before .before .before .before .args in
+    Sizes (c .before .header-length .result) (c .width-of .result) (c .before .before .before .before .before .get-u32 .result) (getD (now (a .bytes)) 5 0) (c .before .before .before .projections-of .result)
+sizes c =
+    let s = c .before .before .before .before .before .before .before .before in
+    let u = usable (now (s .args .bytes)) accepted (s .pre) in
+    let d = c .before .before .before .before .before .get-u32 .ensures in
+    let w = width-most (c .before .before .profile-of .result) in
+    let b = bits-most _ u in
+    let m = projections-most _ u in
+    let width = c .width-of .ensures in
+    let half : c .before .before .before .before .before .get-u32 .result / 2 ≤ 2048 = omega (arith, d, u .most) in
+    record {
+      head-most = omega (arith, c .before .header-length .ensures);
+      radii-most = product-most (c .width-of .result) _ 4 2048 (omega (arith, width, w)) half;
+      indices-most = product-most _ (getD (now (s .args .bytes)) 5 0) 2048 16 half b;
+      projections-most = omega (arith, c .before .before .before .projections-of .ensures, m);
+    }
+
+shared-slice-read-map : tie.Need-shared-slice-read-map
+shared-slice-read-map c = omega (arith, usable (now (c .before .before .args .bytes)) accepted (c .before .before .pre) .long)
+
+get-u32-requires : tie.Need-get-u32-requires
+get-u32-requires c κs = omega (arith, usable (now (c .before .before .args .bytes)) accepted (c .before .before .pre) .long)
+
+shared-slice-read-bits : tie.Need-shared-slice-read-bits
+shared-slice-read-bits c = omega (arith, usable (now (c .before .before .before .before .args .bytes)) accepted (c .before .before .before .before .pre) .long)
+
+projections-of-requires : tie.Need-projections-of-requires
+projections-of-requires c κs = let u = usable (now (c .before .before .before .before .args .bytes)) accepted (c .before .before .before .before .pre) in (u .long, u .header)
+
+profile-of-requires : tie.Need-profile-of-requires
+profile-of-requires c κs = search needs
+
+header-length-requires : tie.Need-header-length-requires
+header-length-requires c κs = search needs
+
+width-of-requires : tie.Need-width-of-requires
+width-of-requires c κs = search needs
+
+mul-indices : tie.Need-mul-indices
+mul-indices c = let z = sizes c in omega (arith, z .head-most, z .radii-most, z .indices-most, z .projections-most)
+
+add-indices : tie.Need-add-indices
+add-indices c = let z = sizes c in omega (arith, z .head-most, z .radii-most, z .indices-most, z .projections-most)
+
+cast-signs : tie.Need-cast-signs
+cast-signs c = omega (arith, c .before .before .before .before .shared-slice-known3 .given 5)
+
+mul-signs : tie.Need-mul-signs
+mul-signs c = let z = sizes c in omega (arith, z .head-most, z .radii-most, z .indices-most, z .projections-most)
+
+add-signs : tie.Need-add-signs
+add-signs c = let z = sizes c in omega (arith, z .head-most, z .radii-most, z .indices-most, z .projections-most)
+
+add-signs-2 : tie.Need-add-signs-2
+add-signs-2 c = let z = sizes c in omega (arith, z .head-most, z .radii-most, z .indices-most, z .projections-most)
+
+add-end : tie.Need-add-end
+add-end c = let z = sizes c in omega (arith, z .head-most, z .radii-most, z .indices-most, z .projections-most)
+
+add-end-2 : tie.Need-add-end-2
+add-end-2 c = let z = sizes c in omega (arith, z .head-most, z .radii-most, z .indices-most, z .projections-most)
+
+mode-of-requires : tie.Need-mode-of-requires
+mode-of-requires c κs = search needs
+
+bounds-of-requires : tie.Need-bounds-of-requires
+bounds-of-requires c κs = let u = usable (now (c .before .before .before .before .before .before .before .before .before .args .bytes)) accepted (c .before .before .before .before .before .before .before .before .before .pre) in (u .long, u .header)
+
+returns : tie.Need-returns
+unfolding headerOf
+returns c = simp (c .bounds-of .ensures, c .before .mode-of .ensures, c .before .before .width-of .ensures, c .before .before .before .header-length .ensures, c .before .before .before .before .profile-of .ensures, c .before .before .before .before .before .projections-of .ensures, c .before .before .before .before .before .before .before .get-u32 .ensures)
+
+pub header-of-spec : {M : Type 1} → statement M
+header-of-spec =
+    tie.close
+    (tie.spec
+    shared-slice-read-map
+    get-u32-requires
+    shared-slice-read-bits
+    projections-of-requires
+    profile-of-requires
+    header-length-requires
+    width-of-requires
+    mul-indices
+    add-indices
+    cast-signs
+    mul-signs
+    add-signs
+    add-signs-2
+    add-end
+    add-end-2
+    mode-of-requires
+    bounds-of-requires
+    returns)

@@ -1,0 +1,71 @@
+-- `packed::read_record` meets its contract: the header's checks, then the payloads'. Assumes nothing.
+use mathlib.Core.Path.{sym, ap, _∙_}
+use denote.Ref.{now}
+use Rattle.error.specs.Answer.{value, accepted}
+use Rattle.error.specs.Outcomes.{says}
+use Rattle.error.proofs.Chains as chains
+use Rattle.error.proofs.Chains.{append-refused, append-passed}
+use Rattle.packed.specs.Layout.{headerOf}
+use Rattle.packed.specs.Reading.{headerChecks, payloadChecks, readOf}
+use borrow.Author.Needs.{needs}
+use Rattle.packed.proofs.read_record.Statement.{statement}
+use Rattle.packed.proofs.read_record.Tie as tie
+
+check-header-requires : tie.Need-check-header-requires
+check-header-requires c κs = search needs
+
+enum-known-number : tie.Need-enum-known-number
+enum-known-number c = search needs
+
+returns : tie.Need-returns
+unfolding readOf
+returns c =
+    let bytes = now (c .before .before .before .before .before .args .bytes) in
+    sym (append-refused (headerChecks bytes) (payloadChecks bytes) tt (value (headerOf bytes)) (sym (c .before .before .before .check-header .ensures) ∙ ap says (c .before .number .given .1)))
+
+enum-told : tie.Need-enum-told
+enum-told c = search needs
+
+header-of-requires : tie.Need-header-of-requires
+header-of-requires c κs = sym (c .before .before .check-header .ensures) ∙ ap says (c .enum-told .given .1)
+
+check-payloads-requires : tie.Need-check-payloads-requires
+check-payloads-requires c κs = (c .header-of .ensures, sym (c .before .before .before .check-header .ensures) ∙ ap says (c .before .enum-told .given .1))
+
+enum-known-number-2 : tie.Need-enum-known-number-2
+enum-known-number-2 c = search needs
+
+returns-2 : tie.Need-returns-2
+unfolding readOf
+returns-2 c =
+    let bytes = now (c .before .before .before .before .before .before .before .before .before .args .bytes) in
+    sym
+    (append-passed (headerChecks bytes) (payloadChecks bytes) tt (value (headerOf bytes)) (sym (c .before .before .before .before .before .before .before .check-header .ensures) ∙ ap says (c .before .before .before .before .before .enum-told .given .1))
+    ∙ chains.first-refused (payloadChecks bytes) (value (headerOf bytes)) (sym (c .before .before .before .check-payloads .ensures) ∙ ap says (c .before .number2 .given .1)))
+
+enum-told-2 : tie.Need-enum-told-2
+enum-told-2 c = search needs
+
+returns-3 : tie.Need-returns-3
+unfolding readOf
+returns-3 c =
+    let bytes = now (c .before .before .before .before .before .before .before .before .args .bytes) in
+    ap value (c .before .before .before .header-of .ensures)
+    ∙ sym
+    (append-passed (headerChecks bytes) (payloadChecks bytes) tt (value (headerOf bytes)) (sym (c .before .before .before .before .before .before .check-header .ensures) ∙ ap says (c .before .before .before .before .enum-told .given .1))
+    ∙ chains.first-passed (payloadChecks bytes) (value (headerOf bytes)) (sym (c .before .before .check-payloads .ensures) ∙ ap says (c .enum-told2 .given .1)))
+
+pub read-record-spec : {M : Type 1} → statement M
+read-record-spec =
+    tie.close
+    (tie.spec
+    check-header-requires
+    enum-known-number
+    returns
+    enum-told
+    header-of-requires
+    check-payloads-requires
+    enum-known-number-2
+    returns-2
+    enum-told-2
+    returns-3)

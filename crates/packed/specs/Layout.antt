@@ -1,0 +1,73 @@
+-- Where the parts of a record stand, and how long they are; the header's length is computed from the map byte. Document 01: '.. then radii
+-- (linear if bit 0, else F32), indices, and signs if bit 1.' 'The length is count × b / 8, rounded up.' Assumes nothing.
+use Prim.Native.Nat.{ℕ, _+_, _*_, _/_}
+use mathlib.Core.List.{List}
+use lib.ListN.{take, drop}
+use Rattle.bitpack.specs.Padding.{bytesFor}
+use Rattle.radius.specs.Codec.{widthOf}
+use Rattle.packed.specs.Fields.{mapOf, rangeBit, signsBit, profileOf, modeOf, dimOf, bitsOf, boundsOf, projectionsOf}
+use Rattle.packed.specs.declared.Header.{Header}
+
+-- six bytes that every record has, eight of the range if bit 0 stands, four of the projections if bit 1 stands
+abbrev pub headerLength : ℕ → ℕ
+headerLength map = 6 + 8 * rangeBit map + 4 * signsBit map
+
+-- a pair of coordinates has a radius and an index
+abbrev pub pairsOf : List ℕ → ℕ
+pairsOf bytes = dimOf bytes / 2
+
+-- ---- the three payloads: where each starts, and how long it is
+
+abbrev pub radiiAt : List ℕ → ℕ
+radiiAt bytes = headerLength (mapOf bytes)
+
+abbrev pub radiiLength : List ℕ → ℕ
+radiiLength bytes = widthOf (profileOf (mapOf bytes)) * pairsOf bytes
+
+abbrev pub indicesAt : List ℕ → ℕ
+indicesAt bytes = radiiAt bytes + radiiLength bytes
+
+-- so many bits of the indices' payload are used
+abbrev pub indicesUsed : List ℕ → ℕ
+indicesUsed bytes = pairsOf bytes * bitsOf bytes
+
+abbrev pub indicesLength : List ℕ → ℕ
+indicesLength bytes = bytesFor (indicesUsed bytes)
+
+abbrev pub signsAt : List ℕ → ℕ
+signsAt bytes = indicesAt bytes + indicesLength bytes
+
+abbrev pub signsLength : List ℕ → ℕ
+signsLength bytes = bytesFor (projectionsOf bytes)
+
+-- the whole record's length
+abbrev pub totalOf : List ℕ → ℕ
+totalOf bytes = signsAt bytes + signsLength bytes
+
+-- so many bytes from a place on
+abbrev pub partAt : List ℕ → ℕ → ℕ → List ℕ
+partAt bytes at long = take long (drop at bytes)
+
+unfoldable pub radiiBytes : List ℕ → List ℕ
+radiiBytes bytes = partAt bytes (radiiAt bytes) (radiiLength bytes)
+
+unfoldable pub indicesBytes : List ℕ → List ℕ
+indicesBytes bytes = partAt bytes (indicesAt bytes) (indicesLength bytes)
+
+unfoldable pub signsBytes : List ℕ → List ℕ
+signsBytes bytes = partAt bytes (signsAt bytes) (signsLength bytes)
+
+-- all of the header by value
+unfoldable pub headerOf : List ℕ → Header
+headerOf bytes = record {
+  mode = modeOf (mapOf bytes);
+  profile = profileOf (mapOf bytes);
+  dim = dimOf bytes;
+  bits = bitsOf bytes;
+  projections = projectionsOf bytes;
+  range = boundsOf bytes;
+  radii = radiiAt bytes;
+  indices = indicesAt bytes;
+  signs = signsAt bytes;
+  end = totalOf bytes;
+}

@@ -1,0 +1,6 @@
+pub mod Fields
+pub mod Layout
+pub mod Radii
+pub mod Reading
+pub mod Accepted
+pub mod Writing

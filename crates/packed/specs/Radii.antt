@@ -1,0 +1,17 @@
+-- Which ranges a record may hold. Document 01: '17 if a bound is not finite, below zero, or min above max (−0.0 is zero)'. Assumes nothing.
+use mathlib.Core.Bool.{Bool, false, _||_}
+use lib.Ieee.{lt}
+use Rattle.radius.specs.Radii.{badRadius}
+use Rattle.radius.specs.declared.Range.{Range}
+use Rattle.radius.specs.declared.RadiusCodecProfileV1.{RadiusCodecProfileV1}
+use Rattle.radius.specs.declared.RadiusCodecProfileV1.the-variants.{F32, BlockLinearU16, BlockLogU8}
+
+-- a bound that is not finite or below zero: what a radius may not be either
+abbrev pub badBounds : Range → Bool
+badBounds range = badRadius (range .min) || badRadius (range .max) || lt (range .max) (range .min)
+
+-- the range of linear radii; F32 radii have none
+abbrev pub wrongBounds : RadiusCodecProfileV1 → Range → Bool
+wrongBounds F32 range = false
+wrongBounds BlockLinearU16 range = badBounds range
+wrongBounds BlockLogU8 range = false

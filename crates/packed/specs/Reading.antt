@@ -1,0 +1,123 @@
+-- The reader: its checks in document 01's order, its answer, and the values that an accepted record holds. 'Reading checks, in order: under
+-- six bytes 13; 18; 2; 3; 4; 1 (16 is refused beside bit 1); header cut short 13; 8; total length 13; 17 ..; 16; 14 for indices; 14 for signs.'
+-- Assumes nothing.
+use Prim.Native.Nat.{ℕ, _^_}
+use mathlib.Core.Bool.{Bool, false, _||_}
+use mathlib.Core.List.{List, [], _∷_, _++_, map}
+use lib.Dec.{ltb, eqb}
+use lib.IntN.{ℤ}
+use lib.ListN.{length}
+use lib.Ieee.{Float}
+use Rattle.error.specs.Answer.{Answer, value, refused, Check, check, first, each, accepted}
+use Rattle.digits.specs.Digits.{number, digits}
+use Rattle.bitpack.specs.Padding.{wrongPadding}
+use Rattle.error.specs.Checks.{differs, wrongRoom}
+use Rattle.bitpack.specs.Signs.{signOf}
+use Rattle.radius.specs.Codec.{radiiFor}
+use Rattle.radius.specs.Radii.{badRadius}
+use Rattle.rotation.specs.Checks.{zeroDimension, oddDimension, noPower}
+use Rattle.setup.specs.declared.TurboMode.{TurboMode}
+use Rattle.setup.specs.Setups.{byMode}
+use Rattle.packed.specs.Fields.{mapOf, profileOf, modeOf, dimOf, bitsOf, boundsOf, projectionsOf}
+use Rattle.packed.specs.Layout.{headerLength, pairsOf, indicesUsed, totalOf, radiiBytes, indicesBytes, signsBytes, headerOf}
+use Rattle.packed.specs.Radii.{wrongBounds}
+use Rattle.packed.specs.declared.Header.{Header}
+use Rattle.packed.specs.declared.Reading.{Reading}
+use Rattle.packed.specs.declared.Reading.the-variants.{Read, Refused}
+
+-- what a `Reading` says: a header, or a refusal
+abbrev pub saysReading : Reading → Answer Header
+saysReading (Read header) = value header
+saysReading (Refused n p) = refused n p
+
+-- ---- the values as read
+
+-- the radii as read, F32 or linear: min + (max − min) × (v / 65,535), each step rounded
+unfoldable pub radiiOf : List ℕ → List Float
+radiiOf bytes = radiiFor (profileOf (mapOf bytes)) (pairsOf bytes) (boundsOf bytes) (radiiBytes bytes)
+
+unfoldable pub indicesOf : List ℕ → List ℕ
+indicesOf bytes = digits (2 ^ bitsOf bytes) (pairsOf bytes) (number 256 (indicesBytes bytes))
+
+unfoldable pub signsOf : List ℕ → List ℤ
+signsOf bytes = map signOf (digits 2 (projectionsOf bytes) (number 256 (signsBytes bytes)))
+
+-- ---- the checks
+
+-- '13: byte length wrong. Place: the length found.' In a record, the whole record's length
+abbrev pub wrongSize : Bool → List ℕ → Check
+wrongSize wrong bytes = check wrong 13 (length bytes)
+
+-- '18: a map bit not defined .. Place: the map byte': a bit other than 0 and 1
+abbrev pub wrongMap : List ℕ → Check
+wrongMap bytes = check (ltb 3 (mapOf bytes)) 18 (mapOf bytes)
+
+-- 'bits outside 1..16', '16 is refused beside bit 1'
+abbrev pub outsideBits : TurboMode → ℕ → Bool
+outsideBits mode bits = ltb bits 1 || ltb (byMode mode 16 15) bits
+
+-- '8: in residual mode, projections 0 or above 4,096.'
+abbrev pub outsideProjections : TurboMode → ℕ → Bool
+outsideProjections mode m = byMode mode false (eqb m 0 || ltb 4096 m)
+
+-- the checks of the header up to its projections
+abbrev pub headerChecks : List ℕ → List Check
+headerChecks bytes =
+    wrongSize (ltb (length bytes) 6) bytes
+    ∷ wrongMap bytes
+    ∷ zeroDimension (dimOf bytes)
+    ∷ oddDimension (dimOf bytes)
+    ∷ noPower (dimOf bytes)
+    ∷ check (outsideBits (modeOf (mapOf bytes)) (bitsOf bytes)) 1 (bitsOf bytes)
+    ∷ wrongSize (ltb (length bytes) (headerLength (mapOf bytes))) bytes
+    ∷ check (outsideProjections (modeOf (mapOf bytes)) (projectionsOf bytes)) 8 (projectionsOf bytes)
+    ∷ []
+
+-- the checks of the whole length, the range and the payloads. '16: a radius is NaN, infinite or below zero', as it is read: 'A linear radius that
+-- reads as infinite is 16'. The place of 14 is a byte's index in its payload
+abbrev pub payloadChecks : List ℕ → List Check
+payloadChecks bytes =
+    wrongSize (differs (length bytes) (totalOf bytes)) bytes
+    ∷ check (wrongBounds (profileOf (mapOf bytes)) (boundsOf bytes)) 17 0
+    ∷ each badRadius 16 (radiiOf bytes)
+    ∷ wrongPadding (indicesBytes bytes) (indicesUsed bytes)
+    ∷ wrongPadding (signsBytes bytes) (projectionsOf bytes)
+    ∷ []
+
+abbrev pub recordChecks : List ℕ → List Check
+recordChecks bytes = headerChecks bytes ++ payloadChecks bytes
+
+-- the reader's answer
+unfoldable pub readOf : List ℕ → Answer Header
+readOf bytes = first (recordChecks bytes) (value (headerOf bytes))
+
+-- ---- 'The reader hands back each payload as a part of the record's own bytes.'
+
+-- 'For a refused record .. the part is empty.'
+abbrev pub partWhere : Answer Header → List ℕ → List ℕ
+partWhere (value header) part = part
+partWhere (refused n p) part = []
+
+unfoldable pub radiiPart : List ℕ → List ℕ
+radiiPart bytes = partWhere (readOf bytes) (radiiBytes bytes)
+
+unfoldable pub indicesPart : List ℕ → List ℕ
+indicesPart bytes = partWhere (readOf bytes) (indicesBytes bytes)
+
+-- '.. or for signs that aren't there, the part is empty': no projections take no byte
+unfoldable pub signsPart : List ℕ → List ℕ
+signsPart bytes = partWhere (readOf bytes) (signsBytes bytes)
+
+-- ---- the values in lent memory: the reader's refusals, then 6
+
+abbrev pub fillOf : {A : Type 0} → List ℕ → ℕ → ℕ → A → Answer A
+fillOf bytes needed room x = first (recordChecks bytes ++ (wrongRoom room needed ∷ [])) (value x)
+
+unfoldable pub radiiReadOf : List ℕ → ℕ → Answer (List Float)
+radiiReadOf bytes room = fillOf bytes (pairsOf bytes) room (radiiOf bytes)
+
+unfoldable pub indicesReadOf : List ℕ → ℕ → Answer (List ℕ)
+indicesReadOf bytes room = fillOf bytes (pairsOf bytes) room (indicesOf bytes)
+
+unfoldable pub signsReadOf : List ℕ → ℕ → Answer (List ℤ)
+signsReadOf bytes room = fillOf bytes (projectionsOf bytes) room (signsOf bytes)
