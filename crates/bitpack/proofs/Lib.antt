@@ -11,5 +11,6 @@ pub mod SignPacking
 pub mod SignUnpacking
 pub mod SignAnswers
 pub mod Bits
+pub mod Eights
 pub mod RoundTrip
 pub mod Examples

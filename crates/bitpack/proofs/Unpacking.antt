@@ -2,11 +2,11 @@
 use Prim.Native.Nat.{ℕ, _+_, _-_, _*_, _/_, _%_, _^_, _≤_, _<_}
 use mathlib.Core.Path.{_≡_, refl, sym, ap, _∙_}
 use mathlib.Core.List.{List, _++_}
-use native.Mathlib.Nat.{sub-zero, zero-add, one-mul, mul-le-mul-right}
+use native.Mathlib.Nat.{zero-add, one-mul, mul-le-mul-right}
 use native.Mathlib.Omega.{arith}
 use lib.ListN.{length, getD, take, drop, set, length-set}
 use Rattle.digits.specs.Digits.{number, digits}
-use Rattle.bitpack.specs.Asked.{Unpackable, Window, Refillable, Refilled}
+use Rattle.bitpack.specs.Asked.{Unpackable, Eights, Window, Refillable, Refilled}
 use Rattle.bitpack.proofs.Digits.{number-drop, write-next, write-end}
 use Rattle.bitpack.proofs.Windows.{shift-in, shift-in-fits, low-out, shift-out, shift-out-fits}
 
@@ -63,13 +63,13 @@ pub record Unpacked (packed : List ℕ) (bits room : ℕ) (out : List ℕ) (acc 
   pub rest : digits (2 ^ bits) room (number 256 packed) ≡ take i out ++ digits (2 ^ bits) (room - i) (acc + 2 ^ held * number 256 (drop at packed))
 
 module _ (packed : List ℕ) (bits room : ℕ) (asked : Unpackable packed bits room) where
-  pub unpack-start : (out : List ℕ) → length out ≡ room → Unpacked packed bits room out 0 0 0 0
-  unpack-start out h = record {
-    sized = h;
-    within = omega arith;
-    window = record { within = omega arith; small = omega arith; fits = omega arith };
+  pub unpack-start : (out : List ℕ) (k : ℕ) → Eights packed bits room out k → k * bits ≤ length packed → Unpacked packed bits room out 0 0 (k * bits) (8 * k)
+  unpack-start out k eights h = record {
+    sized = eights .sized;
+    within = eights .within;
+    window = record { within = h; small = omega arith; fits = omega arith };
     count = omega arith;
-    rest = simp (sub-zero, zero-add, one-mul);
+    rest = eights .rest ∙ simp (zero-add, one-mul);
   }
 
   module _ (out : List ℕ) (acc held at i : ℕ) (inv : Unpacked packed bits room out acc held at i) (more : i < room) where

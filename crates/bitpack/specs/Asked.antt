@@ -1,10 +1,10 @@
 -- What the private functions ask of their callers and hand back, part by part. No public promise is stated by these.
 -- Assumes nothing.
-use Prim.Native.Nat.{ℕ, _+_, _*_, _^_, _≤_, _<_}
+use Prim.Native.Nat.{ℕ, _+_, _-_, _*_, _^_, _≤_, _<_}
 use mathlib.Core.Path.{_≡_}
-use mathlib.Core.List.{List}
-use lib.ListN.{length, getD, drop}
-use Rattle.digits.specs.Digits.{number}
+use mathlib.Core.List.{List, _++_}
+use lib.ListN.{length, getD, take, drop}
+use Rattle.digits.specs.Digits.{number, digits}
 use Rattle.bitpack.specs.Padding.{bytesFor}
 
 -- indices that have passed every check
@@ -19,6 +19,12 @@ pub record Unpackable (packed : List ℕ) (bits count : ℕ) : Type 0 where
   pub wide : 1 ≤ bits
   pub narrow : bits ≤ 16
   pub enough : count * bits ≤ 8 * length packed
+
+-- `room` indices to write, of which k eights are written, from `bits` bytes each: the rest stands in the bytes that follow
+pub record Eights (packed : List ℕ) (bits room : ℕ) (out : List ℕ) (k : ℕ) : Type 0 where
+  pub sized : length out ≡ room
+  pub within : 8 * k ≤ room
+  pub rest : digits (2 ^ bits) room (number 256 packed) ≡ take (8 * k) out ++ digits (2 ^ bits) (room - 8 * k) (number 256 (drop (k * bits) packed))
 
 -- the bits read so far and not yet handed out: `held` of them, as the number `acc`; the bytes from `at` on are still to be read
 pub record Window (packed : List ℕ) (acc held at : ℕ) : Type 0 where

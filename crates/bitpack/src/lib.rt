@@ -17,7 +17,7 @@ ghost use Rattle.error.specs.Outcomes.{says};
 ghost use Rattle.digits.specs.Digits.{number, digits};
 ghost use Rattle.bitpack.specs.Padding.{bytesFor, paddingOf};
 ghost use Rattle.bitpack.specs.Signs.{notSign, bitOf, signOf, packSignsOf, unpackSignsOf};
-ghost use Rattle.bitpack.specs.Asked.{Packable, Unpackable, Refillable, Refilled};
+ghost use Rattle.bitpack.specs.Asked.{Packable, Unpackable, Eights, Refillable, Refilled};
 ghost use Rattle.bitpack.specs.Packing.{packedLen, saysLength, tooLarge, packOf, unpackOf};
 
 // A number of bytes, or a refusal.
@@ -235,17 +235,84 @@ fn put_rest(out: &mut [u8], from: usize, rest: u64)
     }
 }
 
-// Writes the lowest `bits` bits again and again, from bytes that hold enough of them.
+// Writes the lowest `bits` bits again and again, from bytes that hold enough of them: eights first, then one by one.
 fn unpack_words(packed: &[u8], bits: u8, out: &mut [u16])
     requires { ⌜ Unpackable (now packed) bits (length (now out)) ⌝ }
+    ensures { λ r. ⌜ now (out .exit) ≡ digits (2 ^ bits) (length (now (out .entry))) (number 256 (now (packed .entry))) ⌝ }
+{
+    let eights = unpack_narrow(packed, bits, out);
+    unpack_rest(packed, bits, out, eights);
+}
+
+// Writes eights where eight indices take at most eight bytes, and says how many. A width that stands in the call is a
+// number for the compiler, so that its shifts cost less.
+fn unpack_narrow(packed: &[u8], bits: u8, out: &mut [u16]) -> usize
+    requires { ⌜ Unpackable (now packed) bits (length (now out)) ⌝ }
+    ensures { λ r. ⌜ Eights (now (packed .entry)) bits (length (now (out .entry))) (now (out .exit)) r ⌝ }
+{
+    if bits == 2 {
+        return unpack_eights(packed, 2, out);
+    }
+    if bits == 3 {
+        return unpack_eights(packed, 3, out);
+    }
+    if bits == 4 {
+        return unpack_eights(packed, 4, out);
+    }
+    if bits <= 8 {
+        return unpack_eights(packed, bits, out);
+    }
+    0
+}
+
+// Writes eights as long as there are eight bytes to read them from, and says how many.
+fn unpack_eights(packed: &[u8], bits: u8, out: &mut [u16]) -> usize
+    requires { ⌜ (Unpackable (now packed) bits (length (now out))) × (bits ≤ 8) ⌝ }
+    ensures { λ r. ⌜ Eights (now (packed .entry)) bits (length (now (out .entry))) (now (out .exit)) r ⌝ }
+{
+    let width = bits as u64;
+    let step = bits as usize;
+    let full = out.len() / 8;
+    let mut k = 0;
+    while k < full {
+        let at = k * step;
+        if packed.len() - at < 8 {
+            return k;
+        }
+        let word = get_long(packed, at);
+        put_four(out, 8 * k, word, width);
+        put_four(out, 8 * k + 4, word >> (4 * width), width);
+        k += 1;
+    }
+    k
+}
+
+// Four indices at `at`: the lowest four times `width` bits of `word`.
+fn put_four(out: &mut [u16], at: usize, word: u64, width: u64)
+    requires { ⌜ (at + 4 ≤ length (now out)) × (width ≤ 16) ⌝ }
+    ensures { λ r. ⌜ now (out .exit) ≡ take at (now (out .entry)) ++ digits (2 ^ width) 4 word ++ drop (at + 4) (now (out .entry)) ⌝ }
+{
+    let low = (1u64 << width) - 1;
+    let second = word >> width;
+    let third = second >> width;
+    let fourth = third >> width;
+    out[at] = (word & low) as u16;
+    out[at + 1] = (second & low) as u16;
+    out[at + 2] = (third & low) as u16;
+    out[at + 3] = (fourth & low) as u16;
+}
+
+// Writes the indices that follow so many eights, one by one.
+fn unpack_rest(packed: &[u8], bits: u8, out: &mut [u16], eights: usize)
+    requires { ⌜ (Unpackable (now packed) bits (length (now out))) × (Eights (now packed) bits (length (now out)) (now out) eights) ⌝ }
     ensures { λ r. ⌜ now (out .exit) ≡ digits (2 ^ bits) (length (now (out .entry))) (number 256 (now (packed .entry))) ⌝ }
 {
     let width = bits as u64;
     let mask = (1u64 << width) - 1;
     let mut acc: u64 = 0;
     let mut held: u64 = 0;
-    let mut at = 0;
-    let mut i = 0;
+    let mut at = eights * bits as usize;
+    let mut i = 8 * eights;
     while i < out.len() {
         let filled = refill(packed, width, acc, held, at);
         out[i] = (filled.acc & mask) as u16;
@@ -285,6 +352,14 @@ fn get_word(packed: &[u8], at: usize) -> u64
     let c = packed[at + 2] as u64;
     let d = packed[at + 3] as u64;
     a + 256 * (b + 256 * (c + 256 * d))
+}
+
+// The eight bytes at `at` as a number.
+fn get_long(packed: &[u8], at: usize) -> u64
+    requires { ⌜ at + 8 ≤ length (now packed) ⌝ }
+    ensures { λ r. ⌜ number 256 (drop at (now (packed .entry))) ≡ r + 2 ^ 64 * number 256 (drop (at + 8) (now (packed .entry))) ⌝ }
+{
+    get_word(packed, at) + 4294967296 * get_word(packed, at + 4)
 }
 
 // Reads on byte by byte until at least `width` bits are held.

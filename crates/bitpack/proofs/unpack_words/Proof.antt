@@ -1,86 +1,28 @@
--- `bitpack::unpack_words` meets its contract: the loop keeps `Unpacked`, and its turn is a law of it. Assumes nothing.
-use Prim.Native.Nat.{_-_}
-use mathlib.Core.Path.{refl, sym}
-use native.Mathlib.Nat.{mod-lt, lt-of-lt-of-le}
-use native.Mathlib.Omega.{arith}
-use lib.ListN.{length}
-use lib.Pow.{pow-pos, pow-mono}
-use borrow.Author.Needs.{scaled-fits}
-use Rattle.bitpack.proofs.Lengths.{power-shifted, masked}
-use Rattle.bitpack.proofs.Unpacking.{Unpacked, unpack-start, unpack-asks, unpack-turn, unpack-end}
+-- `bitpack::unpack_words` meets its contract: eights, and the rest. Assumes nothing.
+use Prim.Native.Nat.{ℕ, _^_}
+use mathlib.Core.Path.{ap, _∙_}
+use denote.Ref.{now}
+use Rattle.digits.specs.Digits.{number, digits}
+use Rattle.bitpack.proofs.Eights.{eights-rest}
+use borrow.Author.Needs.{needs}
 use Rattle.bitpack.proofs.unpack_words.Statement.{statement}
 use Rattle.bitpack.proofs.unpack_words.Tie as tie
 
-abbrev Inv-loop : tie.InvT-loop
-Inv-loop packed bits out₀ width mask acc₀ held₀ at₀ i₀ out acc held at i = Unpacked packed bits (length out₀) out acc held at i
+unpack-narrow-requires : tie.Need-unpack-narrow-requires
+unpack-narrow-requires c κs = search needs
 
-abbrev μ-loop : tie.MeasureT-loop
-μ-loop packed bits out₀ width mask acc₀ held₀ at₀ i₀ out acc held at i = length out₀ - i
+unpack-rest-requires : tie.Need-unpack-rest-requires
+unpack-rest-requires c κs = eights-rest _ _ _ _ _ (c .before .before .before .before .before .before .before .pre) (c .before .before .before .unpack-narrow .ensures)
 
-shl-mask : tie.Need-shl-mask Inv-loop μ-loop
-shl-mask c = omega (arith, c .before .before .pre .narrow)
+same-length : tie.Need-same-length
+same-length c = search needs
 
-sub-mask : tie.Need-sub-mask Inv-loop μ-loop
-sub-mask c = rw (power-shifted (c .before .before .args .bits) 64 (omega (arith, c .before .before .pre .narrow))) (pow-pos _)
-
-loop-holds : tie.Need-loop-holds Inv-loop μ-loop
-loop-holds c = unpack-start _ _ _ (c .before .before .pre) _ refl
-
-refill-requires : tie.Need-refill-requires Inv-loop μ-loop
-refill-requires c κs = unpack-asks _ _ _ (c .before .before .before .before .pre) _ _ _ _ _ (c .before .loop .inv) (omega (arith, c .loop-test .taken, c .before .loop .inv .sized))
-
-cast-out : tie.Need-cast-out Inv-loop μ-loop
-cast-out c =
-    let start = c .before .before .before .before .before .before in
-    record { fits = rw (masked (c .before .refill .result .acc) (start .args .bits) (start .pre .narrow)) (lt-of-lt-of-le (mod-lt _ (pow-pos (start .args .bits))) (pow-mono (start .pre .narrow))) }
-
-mul-out : tie.Need-mul-out Inv-loop μ-loop
-mul-out c = scaled-fits _ _ 2 (c .before .before .loop-test .taken) (omega (arith, c .before .before .before .before .before .before .good, c .before .before .before .loop .inv .sized))
-
-slice-write-out : tie.Need-slice-write-out Inv-loop μ-loop
-slice-write-out c = c .before .before .loop-test .taken
-
-shr-acc : tie.Need-shr-acc Inv-loop μ-loop
-shr-acc c = omega (arith, c .before .before .before .before .before .before .before .pre .narrow)
-
-sub-held : tie.Need-sub-held Inv-loop μ-loop
-sub-held c = c .before .before .before .refill .ensures .enough
-
-add-i : tie.Need-add-i Inv-loop μ-loop
-add-i c = omega (arith, c .before .before .before .before .loop-test .taken, c .before .before .before .before .before .loop .inv .sized, c .before .before .before .before .before .before .before .before .good)
-
-loop-less : tie.Need-loop-less Inv-loop μ-loop
-loop-less c = omega (arith, c .before .before .before .before .loop-test .taken, c .before .before .before .before .before .loop .inv .sized)
-
-loop-again : tie.Need-loop-again Inv-loop μ-loop
-loop-again c =
-    let start = c .before .before .before .before .before .before .before .before in
-    let s = c .before .before .before .before .before .loop in
-    unpack-turn _ _ _ (start .pre) _ _ _ _ _ (s .inv) (omega (arith, c .before .before .before .before .loop-test .taken, s .inv .sized)) _ _ _ _ (c .before .before .before .refill .ensures) (masked _ _ (start .pre .narrow))
-
-same-length : tie.Need-same-length Inv-loop μ-loop
-same-length c = c .before .loop .inv .sized
-
-returns : tie.Need-returns Inv-loop μ-loop
-returns c = sym (unpack-end _ _ _ (c .before .before .before .before .pre) _ _ _ _ _ (c .before .loop .inv) (c .loop-test .left))
+returns : tie.Need-returns
+returns c =
+    let args = c .before .before .before .before .before .before .before .before .before .before .args in
+    c .before .before .unpack-rest .ensures
+    ∙ ap (λ (m : ℕ). digits (2 ^ args .bits) m (number 256 (now (args .packed)))) (c .before .before .before .before .before .before .unpack-narrow .ensures .sized)
 
 pub unpack-words-spec : {M : Type 1} → statement M
 unpack-words-spec =
-    tie.close
-    (tie.spec
-    Inv-loop
-    μ-loop
-    shl-mask
-    sub-mask
-    loop-holds
-    refill-requires
-    cast-out
-    mul-out
-    slice-write-out
-    shr-acc
-    sub-held
-    add-i
-    loop-less
-    loop-again
-    same-length
-    returns)
+    tie.close (tie.spec unpack-narrow-requires unpack-rest-requires same-length returns)
