@@ -4,7 +4,7 @@ use Prim.Native.Nat.{ℕ, zero, suc, _+_, _*_, _/_, _%_, _≤_, _<_}
 use mathlib.Core.Path.{_≡_, refl, sym, ap, _∙_}
 use mathlib.Core.Bool.{Bool, true, false}
 use mathlib.Core.List.{List, [], _∷_}
-use native.Mathlib.Nat.{zero-mul, suc-mul, mul-zero, add-comm, add-zero, add-suc, div-add-mod', mul-div-cancel, mul-mod-left, zero-lt-suc, not-suc-le-zero, le-of-suc-le-suc, mul-le-mul-right}
+use native.Mathlib.Nat.{zero-mul, suc-mul, mul-zero, add-comm, add-zero, add-suc, add-assoc, div-add-mod', mul-div-cancel, mul-mod-left, zero-lt-suc, not-suc-le-zero, le-of-suc-le-suc, mul-le-mul-right}
 use native.Mathlib.Numerals.{add-one}
 use native.Mathlib.Omega.{arith}
 use borrow.Author.Tests.{eqb-true, eqb-false, eq-eqb, ne-eqb}
@@ -15,7 +15,7 @@ use lib.Ieee.{Float, nan, binary32, add, mul}
 use Rattle.rounding.specs.Value.{posZero}
 use Rattle.rounding.specs.Sums.{running, products, dot}
 use Rattle.qjl.specs.Projection.{rows, projected}
-use Rattle.qjl.specs.Filled.{onRow, SoFar}
+use Rattle.qjl.specs.Filled.{onRow, SoFar, FourSoFar, fourMore}
 
 products-nil : (vs : List Float) → products vs [] ≡ []
 unfolding products
@@ -54,6 +54,49 @@ nothing-left vs cs i acc h = rw (drop-of-length-le cs h, products-nil vs)
 
 pub dot-end : (vs cs : List Float) (from i : ℕ) (acc : Float) → length cs ≤ i → SoFar vs cs from i acc → acc ≡ dot (drop from vs) cs
 dot-end vs cs from i acc h inv = sym (inv ∙ nothing-left (drop (from + i) vs) cs i acc h)
+
+-- ---- four terms at a time, of four rows
+
+-- the next term, with the entry's index given
+term-more : (vs cs : List Float) (from i at : ℕ) (acc : Float) → at ≡ from + i → at < length vs → i < length cs → SoFar vs cs from i acc
+    → SoFar vs cs from (i + 1) (add binary32 acc (mul binary32 (getD vs at nan) (getD cs i nan)))
+term-more vs cs from i at acc e h g inv = rw e (dot-more vs cs from i acc (omega arith) g inv)
+
+dot-four : (vs cs : List Float) (from i at : ℕ) (acc sum : Float) → at ≡ from + i → at + 4 ≤ length vs → i + 4 ≤ length cs → sum ≡ fourMore vs cs at i acc → SoFar vs cs from i acc
+    → SoFar vs cs from (i + 4) sum
+dot-four vs cs from i at acc sum e h g f inv =
+    let one = term-more vs cs from i at acc e (omega arith) (omega arith) inv in
+    let two = rw (add-assoc i 1 1) at (term-more vs cs from (i + 1) (at + 1) _ (omega arith) (omega arith) (omega arith) one) in
+    let three = rw (add-assoc i 2 1) at (term-more vs cs from (i + 2) (at + 2) _ (omega arith) (omega arith) (omega arith) two) in
+    let four = rw (add-assoc i 3 1) at (term-more vs cs from (i + 3) (at + 3) _ (omega arith) (omega arith) (omega arith) three) in
+    rw f four
+
+module _ (matrix query : List Float) (from : ℕ) where
+  pub four-start : FourSoFar matrix query from 0 posZero posZero posZero posZero
+  four-start =
+      record {
+        within = omega arith;
+        top = dot-start matrix query from;
+        second = dot-start matrix query (from + length query);
+        third = dot-start matrix query (from + length query + length query);
+        fourth = dot-start matrix query (from + length query + length query + length query);
+      }
+
+  pub four-block : (i : ℕ) (a b c d a₁ b₁ c₁ d₁ : Float) → from + 4 * length query ≤ length matrix → i + 4 ≤ length query
+      → a₁ ≡ fourMore matrix query (from + i) i a
+      → b₁ ≡ fourMore matrix query (from + length query + i) i b
+      → c₁ ≡ fourMore matrix query (from + length query + length query + i) i c
+      → d₁ ≡ fourMore matrix query (from + length query + length query + length query + i) i d
+      → FourSoFar matrix query from i a b c d
+      → FourSoFar matrix query from (i + 4) a₁ b₁ c₁ d₁
+  four-block i a b c d a₁ b₁ c₁ d₁ fits more e f g h inv =
+      record {
+        within = more;
+        top = dot-four matrix query _ i _ a a₁ refl (omega arith) more e (inv .top);
+        second = dot-four matrix query _ i _ b b₁ refl (omega arith) more f (inv .second);
+        third = dot-four matrix query _ i _ c c₁ refl (omega arith) more g (inv .third);
+        fourth = dot-four matrix query _ i _ d d₁ refl (omega arith) more h (inv .fourth);
+      }
 
 -- ---- the projections
 

@@ -4,7 +4,7 @@ use Prim.Native.Nat.{ℕ, _+_, _*_, _≤_, _<_}
 use mathlib.Core.Path.{_≡_}
 use mathlib.Core.List.{List}
 use lib.ListN.{length, getD, drop}
-use lib.Ieee.{Float, nan}
+use lib.Ieee.{Float, nan, binary32, add, mul}
 use Rattle.rounding.specs.Sums.{running, products, dot}
 
 -- of the list xs, ys is what is left when the entries from start up to stop hold what f gives there
@@ -21,6 +21,28 @@ onRow n matrix query j = dot (drop (j * n) matrix) query
 -- a dot product that has taken i terms: what is left of it is the running sum, from the sum so far, over the products of what is left of both lists
 abbrev pub SoFar : List Float → List Float → ℕ → ℕ → Float → Type 0
 SoFar matrix query from i sum = dot (drop from matrix) query ≡ running sum (products (drop (from + i) matrix) (drop i query))
+
+-- four rows, each as long as the query, that follow one another from an index on, of whose dot products i terms are taken
+pub record FourSoFar (matrix query : List Float) (from i : ℕ) (a b c d : Float) : Type 0 where
+  pub within : i ≤ length query
+  pub top : SoFar matrix query from i a
+  pub second : SoFar matrix query (from + length query) i b
+  pub third : SoFar matrix query (from + length query + length query) i c
+  pub fourth : SoFar matrix query (from + length query + length query + length query) i d
+
+-- the next four terms of a dot product, added to a sum in index order
+abbrev pub fourMore : List Float → List Float → ℕ → ℕ → Float → Float
+fourMore matrix query at i sum =
+    add
+    binary32
+    (add
+    binary32
+    (add
+    binary32
+    (add binary32 sum (mul binary32 (getD matrix at nan) (getD query i nan)))
+    (mul binary32 (getD matrix (at + 1) nan) (getD query (i + 1) nan)))
+    (mul binary32 (getD matrix (at + 2) nan) (getD query (i + 2) nan)))
+    (mul binary32 (getD matrix (at + 3) nan) (getD query (i + 3) nan))
 
 -- what a call asks that fills a part of the projections: the query has a row's length, and the matrix a row for each entry of the output
 pub record Rowed (n : ℕ) (matrix query : List Float) (room : ℕ) : Type 0 where

@@ -20,7 +20,7 @@ ghost use Rattle.error.specs.Answer.{first, place, accepted, done, after};
 ghost use Rattle.error.specs.Outcomes.{says};
 ghost use Rattle.rounding.specs.Sums.{dot};
 ghost use Rattle.qjl.specs.Projection.{projected, projectOf};
-ghost use Rattle.qjl.specs.Filled.{Filled, FourDots, onRow, Rowed};
+ghost use Rattle.qjl.specs.Filled.{Filled, FourSoFar, FourDots, fourMore, onRow, Rowed};
 ghost use Rattle.qjl.specs.Sketch.{signOf, vectorChecks, sketchOf};
 ghost use Rattle.bitpack.specs.Signs.{notSign};
 ghost use Rattle.qjl.specs.Score.{saysScore, scaleOf, signSum, residualOf, signedScore, sketchScoreOf};
@@ -33,6 +33,15 @@ pub enum Scored {
 
 // The sums of four rows.
 struct Four {
+    a: f32,
+    b: f32,
+    c: f32,
+    d: f32,
+}
+
+// The sums of four rows as far as a column.
+struct Begun {
+    column: usize,
     a: f32,
     b: f32,
     c: f32,
@@ -304,6 +313,14 @@ fn row_dots(matrix: &[f32], from: usize, query: &[f32]) -> Four
     requires { ⌜ from + 4 * length (now query) ≤ length (now matrix) ⌝ }
     ensures { λ r. ⌜ FourDots (now (matrix .entry)) (now (query .entry)) from (r .a) (r .b) (r .c) (r .d) ⌝ }
 {
+    row_dots_rest(matrix, from, query, row_blocks(matrix, from, query))
+}
+
+// The same sums as far as whole blocks of four columns go.
+fn row_blocks(matrix: &[f32], from: usize, query: &[f32]) -> Begun
+    requires { ⌜ from + 4 * length (now query) ≤ length (now matrix) ⌝ }
+    ensures { λ r. ⌜ FourSoFar (now (matrix .entry)) (now (query .entry)) from (r .column) (r .a) (r .b) (r .c) (r .d) ⌝ }
+{
     let columns = query.len();
     let second = from + columns;
     let third = second + columns;
@@ -313,6 +330,41 @@ fn row_dots(matrix: &[f32], from: usize, query: &[f32]) -> Four
     let mut c = 0.0f32;
     let mut d = 0.0f32;
     let mut column = 0;
+    while 4 <= columns - column {
+        a = four_more(matrix, from + column, query, column, a);
+        b = four_more(matrix, second + column, query, column, b);
+        c = four_more(matrix, third + column, query, column, c);
+        d = four_more(matrix, fourth + column, query, column, d);
+        column += 4;
+    }
+    Begun { column, a, b, c, d }
+}
+
+// A row's sum with the next four products, one after the other.
+fn four_more(matrix: &[f32], at: usize, query: &[f32], column: usize, sum: f32) -> f32
+    requires { ⌜ (at + 4 ≤ length (now matrix)) × (column + 4 ≤ length (now query)) ⌝ }
+    ensures { λ r. ⌜ r ≡ fourMore (now (matrix .entry)) (now (query .entry)) at column sum ⌝ }
+{
+    let one = sum + matrix[at] * query[column];
+    let two = one + matrix[at + 1] * query[column + 1];
+    let three = two + matrix[at + 2] * query[column + 2];
+    three + matrix[at + 3] * query[column + 3]
+}
+
+// The sums of four rows to their end, from the column that they have reached.
+fn row_dots_rest(matrix: &[f32], from: usize, query: &[f32], begun: Begun) -> Four
+    requires { ⌜ (from + 4 * length (now query) ≤ length (now matrix)) × FourSoFar (now matrix) (now query) from (begun .column) (begun .a) (begun .b) (begun .c) (begun .d) ⌝ }
+    ensures { λ r. ⌜ FourDots (now (matrix .entry)) (now (query .entry)) from (r .a) (r .b) (r .c) (r .d) ⌝ }
+{
+    let columns = query.len();
+    let second = from + columns;
+    let third = second + columns;
+    let fourth = third + columns;
+    let mut a = begun.a;
+    let mut b = begun.b;
+    let mut c = begun.c;
+    let mut d = begun.d;
+    let mut column = begun.column;
     while column < columns {
         let q = query[column];
         a = a + matrix[from + column] * q;

@@ -1,13 +1,12 @@
--- `qjl::row_dots` meets its contract: the loop keeps each of the four dot products as its running sum and what is left of both lists. Assumes nothing.
+-- `qjl::row_dots_rest` meets its contract: the loop keeps each of the four dot products as its running sum and what is left of both lists. Assumes nothing.
 use Prim.Native.Nat.{_+_, _-_, _≤_}
 use native.Mathlib.Omega.{arith}
 use borrow.Author.Needs.{scaled-fits}
 use lib.ListN.{length}
-use lib.Ieee.{ofBits}
 use Rattle.qjl.specs.Filled.{SoFar}
-use Rattle.qjl.proofs.Rows.{dot-start, dot-more, dot-end}
-use Rattle.qjl.proofs.row_dots.Statement.{statement}
-use Rattle.qjl.proofs.row_dots.Tie as tie
+use Rattle.qjl.proofs.Rows.{dot-more, dot-end}
+use Rattle.qjl.proofs.row_dots_rest.Statement.{statement}
+use Rattle.qjl.proofs.row_dots_rest.Tie as tie
 
 abbrev Inv-loop : tie.InvT-loop
 Inv-loop matrix from query columns second third fourth a₀ b₀ c₀ d₀ column₀ a b c d column = (column ≤ columns) × (SoFar matrix query from column a × (SoFar matrix query second column b × (SoFar matrix query third column c × SoFar matrix query fourth column d)))
@@ -25,13 +24,7 @@ add-fourth : tie.Need-add-fourth Inv-loop μ-loop
 add-fourth c = omega arith
 
 loop-holds : tie.Need-loop-holds Inv-loop μ-loop
-unfolding ofBits
-loop-holds c =
-    let m = c .args .matrix .now in
-    let q = c .args .query .now in
-    let from = c .args .from in
-    let n = length q in
-    (omega arith, (dot-start m q from, (dot-start m q (from + n), (dot-start m q (from + n + n), dot-start m q (from + n + n + n)))))
+loop-holds c = let begun = c .pre .1 in (begun .within, (begun .top, (begun .second, (begun .third, begun .fourth))))
 
 mul-q : tie.Need-mul-q Inv-loop μ-loop
 mul-q c = scaled-fits _ (length (c .before .before .args .query .now)) 4 (omega arith) (c .before .before .good .1 .1 .0 .1)
@@ -110,8 +103,8 @@ returns c =
       fourth = dot-end _ _ _ _ _ (c .loop-test .left) (l .inv .1 .1 .1 .1);
     }
 
-pub row-dots-spec : {M : Type 1} → statement M
-row-dots-spec =
+pub row-dots-rest-spec : {M : Type 1} → statement M
+row-dots-rest-spec =
     tie.close
     (tie.spec
     Inv-loop
