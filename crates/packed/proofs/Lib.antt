@@ -6,8 +6,3 @@ pub mod Accepted
 pub mod Values
 pub mod Handed
 pub mod Examples
-pub mod Stores
-pub mod Writing
-pub mod Written
-pub mod FieldsBack
-pub mod PartsBack

@@ -3,4 +3,3 @@ pub mod Layout
 pub mod Radii
 pub mod Reading
 pub mod Accepted
-pub mod Writing

@@ -18,7 +18,7 @@ use Rattle.error.specs.Answer.{accepted}
 use Rattle.packed.specs.Layout.{pairsOf, indicesUsed, totalOf, indicesBytes, signsBytes}
 use Rattle.packed.proofs.Headers.{usable, bits-most, product-most}
 use Rattle.packed.proofs.Parts.{Ordered, ordered, radii-part, indices-part, signs-part, length-radii, header-pairs, header-used, header-projections, header-bounds, header-width, header-radii}
-use Rattle.packed.proofs.Payloads.{payload-size, payload-bounds, payload-radius, payload-indices, payload-signs}
+use Rattle.packed.proofs.Payloads.{first-bad-whole, payload-size, payload-bounds, payload-radius, payload-indices, payload-signs}
 use borrow.Author.Needs.{needs}
 use Rattle.packed.proofs.check_payloads.Statement.{statement}
 use Rattle.packed.proofs.check_payloads.Tie as tie
@@ -42,7 +42,13 @@ bounds : (c : tie.Else2) → let bytes = now (c .before .before .before .before 
 bounds c = sym (header-bounds (now (c .before .before .before .before .before .args .bytes)) (c .before .before .before .before .before .pre .0)) ∙ sym (c .before .wrong-bounds .ensures) ∙ c .if2 .left
 
 found : (c : tie.After-first-bad) → let bytes = now (c .before .before .before .before .before .before .before .before .args .bytes) in c .first-bad .result ≡ place badRadius (radiiOf bytes)
-found c = let bytes = now (c .before .before .before .before .before .before .before .before .args .bytes) in c .first-bad .ensures ∙ header-radii bytes (c .before .before .before .before .before .before .before .before .pre .0) _ (radii-part bytes (c .before .before .before .before .before .before .before .before .pre .0))
+found c =
+    let s = c .before .before .before .before .before .before .before .before in
+    let bytes = now (s .args .bytes) in
+    let part = radii-part bytes (s .pre .0) in
+    c .first-bad .ensures
+    ∙ first-bad-whole (s .args .header .profile) (s .args .header .range) _ (s .args .header .dim / 2) (ap length part ∙ length-radii bytes (sized (c .before .before .before .before .before .before)) ∙ sym (header-width bytes (s .pre .0)))
+    ∙ header-radii bytes (s .pre .0) _ part
 
 -- no radius offends
 every : (c : tie.Else3) → let bytes = now (c .before .before .before .before .before .before .before .before .before .args .bytes) in pairsOf bytes ≤ c .before .first-bad .result
@@ -75,7 +81,7 @@ part-first-bad-end : tie.Need-part-first-bad-end
 part-first-bad-end c = let w = within (c .before .before .before .before) in omega (arith, w .first, w .second, w .third, w .last)
 
 first-bad-requires : tie.Need-first-bad-requires
-first-bad-requires c κs = let bytes = now (c .before .before .before .before .before .before .before .args .bytes) in let is = c .before .before .before .before .before .before .before .pre .0 in ap length (radii-part bytes is) ∙ length-radii bytes (sized (c .before .before .before .before .before)) ∙ sym (header-width bytes is)
+first-bad-requires c κs = search needs
 
 returns-3 : tie.Need-returns-3
 returns-3 c = sym (payload-radius (now (c .before .before .before .before .before .before .before .before .before .args .bytes)) (sized (c .before .before .before .before .before .before .before)) (bounds (c .before .before .before .before)) (found (c .before)) (omega (arith, c .if3 .taken, header-pairs (now (c .before .before .before .before .before .before .before .before .before .args .bytes)) (c .before .before .before .before .before .before .before .before .before .pre .0))))

@@ -1,0 +1,89 @@
+-- What the writer's codecs answer once their inputs have passed: each payload, and the checks that are left. Assumes nothing.
+use Prim.Native.Nat.{ℕ, _+_, _-_, _*_, _/_, _%_, _^_, _≤_}
+use mathlib.Core.Path.{_≡_, refl, sym, ap, _∙_}
+use mathlib.Core.Bool.{Bool, false}
+use mathlib.Core.List.{List, [], _∷_, _++_}
+use borrow.Author.Tests.{le-ltb, eq-eqb, ne-eqb}
+use lib.Dec.{ltb, eqb}
+use lib.IntN.{ℤ}
+use lib.ListN.{length, length-append}
+use Rattle.float.specs.Bytes.{toLeBytes}
+use Rattle.float.proofs.Bytes.{length-toLeBytes}
+use lib.Ieee.{Float}
+use Rattle.error.specs.Answer.{Answer, value, refused, place, first, each, accepted, done}
+use Rattle.error.proofs.Chains.{first-done}
+use Rattle.bitpack.specs.Padding.{bytesFor}
+use Rattle.bitpack.specs.Packing.{tooLarge, packOf}
+use Rattle.bitpack.specs.Signs.{notSign, packSignsOf}
+use Rattle.radius.specs.Codec.{isLog, widthOf, compressChecks, rangeFor, compressedRange}
+use Rattle.radius.specs.Radii.{badRadius}
+use Rattle.radius.specs.declared.Range.{Range}
+use Rattle.radius.specs.declared.RadiusCodecProfileV1.{RadiusCodecProfileV1}
+use Rattle.radius.specs.declared.RadiusCodecProfileV1.the-variants.{F32, BlockLinearU16, BlockLogU8}
+use Rattle.rotation.specs.Checks.{outsidePowers}
+use Rattle.setup.specs.declared.TurboMode.{TurboMode}
+use Rattle.setup.specs.declared.TurboMode.the-variants.{PolarOnly, PolarWithQjl}
+use Rattle.setup.specs.Setups.{byMode}
+use Rattle.packed.specs.Layout.{headerLength}
+use Rattle.packed.specs.Reading.{outsideBits, outsideProjections}
+use Rattle.writing.specs.Writing.{byProfile, mapFor, countedFor, rangeBytes, indexBytes, signBytes, lengthChecks, fieldChecks}
+
+-- ---- the header's length
+
+pub header-long : (profile : RadiusCodecProfileV1) (mode : TurboMode) → headerLength (mapFor profile mode) ≡ 6 + byProfile profile 0 8 + byMode mode 0 4
+header-long F32 PolarOnly = refl
+header-long F32 PolarWithQjl = refl
+header-long BlockLinearU16 PolarOnly = refl
+header-long BlockLinearU16 PolarWithQjl = refl
+header-long BlockLogU8 PolarOnly = refl
+header-long BlockLogU8 PolarWithQjl = refl
+
+-- ---- the scalars' checks leave those of the lengths
+
+pub fields-rest : (profile : RadiusCodecProfileV1) (dim bits : ℕ) (mode : TurboMode) (m radii indices signs : ℕ)
+    → isLog profile ≡ false → eqb dim 0 ≡ false → eqb (dim % 2) 1 ≡ false → outsidePowers dim ≡ false → outsideBits mode bits ≡ false → outsideProjections mode m ≡ false
+    → first (fieldChecks profile dim bits mode m radii indices signs) accepted ≡ first (lengthChecks (dim / 2) (countedFor mode m) radii indices signs) accepted
+fields-rest profile dim bits mode m radii indices signs a b c d e f = rw (a, b, c, d, e, f)
+
+-- ---- radii
+
+module _ (radii : List Float) (profile : RadiusCodecProfileV1) (room : ℕ) (known : isLog profile ≡ false) (exact : room ≡ widthOf profile * length radii) where
+  pub radii-checked : compressedRange radii profile room ≡ first (each badRadius 16 radii ∷ []) (value (rangeFor profile radii))
+  unfolding compressedRange
+  radii-checked = rw (known, eq-eqb _ _ exact)
+
+  pub radii-pass : ltb (place badRadius radii) (length radii) ≡ false → first (compressChecks radii profile room) accepted ≡ accepted
+  radii-pass good = rw (good, known, eq-eqb _ _ exact)
+
+-- ---- indices
+
+module _ (indices : List ℕ) (bits room : ℕ) (least : 1 ≤ bits) (most : bits ≤ 16) (fits : length indices * bits ≤ 2 ^ 64 - 1) (exact : room ≡ bytesFor (length indices * bits)) where
+  indices-left : packOf indices bits room ≡ first (each (tooLarge bits) 15 indices ∷ []) (value (indexBytes bits indices))
+  unfolding packOf
+  indices-left = rw (le-ltb bits 1 least, le-ltb 16 bits most, le-ltb (2 ^ 64 - 1) (length indices * bits) fits, eq-eqb _ _ exact)
+
+  pub indices-checked : done (packOf indices bits room) ≡ first (each (tooLarge bits) 15 indices ∷ []) accepted
+  indices-checked = ap done indices-left ∙ first-done (each (tooLarge bits) 15 indices ∷ []) (indexBytes bits indices)
+
+  pub indices-pass : ltb (place (tooLarge bits) indices) (length indices) ≡ false → packOf indices bits room ≡ value (indexBytes bits indices)
+  indices-pass good = indices-left ∙ rw good
+
+-- ---- signs
+
+module _ (signs : List ℤ) (room : ℕ) (exact : room ≡ bytesFor (length signs)) where
+  signs-left : packSignsOf signs room ≡ first (each notSign 10 signs ∷ []) (value (signBytes signs))
+  unfolding packSignsOf
+  signs-left = rw (eq-eqb _ _ exact)
+
+  pub signs-checked : done (packSignsOf signs room) ≡ first (each notSign 10 signs ∷ []) accepted
+  signs-checked = ap done signs-left ∙ first-done (each notSign 10 signs ∷ []) (signBytes signs)
+
+  pub signs-pass : ltb (place notSign signs) (length signs) ≡ false → packSignsOf signs room ≡ value (signBytes signs)
+  signs-pass good = signs-left ∙ rw good
+
+-- ---- the range's bytes
+
+pub range-long : (profile : RadiusCodecProfileV1) (range : Range) → length (rangeBytes profile range) ≡ byProfile profile 0 8
+range-long F32 range = refl
+range-long BlockLinearU16 range = length-append (toLeBytes (range .min)) (toLeBytes (range .max)) ∙ rw (length-toLeBytes (range .min), length-toLeBytes (range .max))
+range-long BlockLogU8 range = refl
