@@ -1,16 +1,16 @@
 -- What a header has that passes its checks: its fields are small, so every length and place that follows from them fits. Assumes nothing.
 use Prim.Native.Nat.{ℕ, _+_, _*_, _/_, _%_, _≤_, _<_}
-use mathlib.Core.Path.{_≡_, refl}
+use mathlib.Core.Path.{_≡_, refl, _∙_}
 use mathlib.Core.Bool.{Bool, true, false, cond}
-use mathlib.Core.List.{List}
+use mathlib.Core.List.{List, [], _∷_}
 use native.Mathlib.Nat.{mul-le-mul}
 use native.Mathlib.Omega.{arith}
 use borrow.Author.Tests.{ltb-false, eqb-true, eqb-false, not-false}
 use lib.Count.{ones}
 use lib.Dec.{ltb, eqb}
 use lib.ListN.{length}
-use Rattle.error.specs.Answer.{Answer, value, refused, first, accepted}
-use Rattle.error.proofs.Chains.{first-all, first-accepts, or-false}
+use Rattle.error.specs.Answer.{Answer, value, refused, check, first, accepted}
+use Rattle.error.proofs.Chains.{first-all, first-accepts, or-false, append-refused, append-passed}
 use Rattle.radius.specs.Codec.{widthOf}
 use Rattle.radius.specs.declared.RadiusCodecProfileV1.{RadiusCodecProfileV1}
 use Rattle.radius.specs.declared.RadiusCodecProfileV1.the-variants.{F32, BlockLinearU16, BlockLogU8}
@@ -20,7 +20,7 @@ use Rattle.rotation.specs.Checks.{outsidePowers}
 use Rattle.setup.specs.Setups.{byMode}
 use Rattle.packed.specs.Fields.{mapOf, hasSigns, modeOf, wordAt, projectionsAt, dimOf, bitsOf, projectionsOf}
 use Rattle.packed.specs.Layout.{headerLength}
-use Rattle.packed.specs.Reading.{outsideBits, outsideProjections, headerChecks}
+use Rattle.packed.specs.Reading.{wrongSize, outsideBits, outsideProjections, shapeChecks, headerChecks}
 
 pub record Usable (bytes : List ℕ) : Type 0 where
   pub long : 6 ≤ length bytes
@@ -76,6 +76,15 @@ width-most BlockLogU8 = omega arith
 
 pub product-most : (a b m n : ℕ) → a ≤ m → b ≤ n → a * b ≤ m * n
 product-most a b m n h k = mul-le-mul h k
+
+-- ---- the checks of dimension and bits, and the check behind them
+
+module _ {A : Type 0} (bytes : List ℕ) (a : Answer A) (long : ltb (length bytes) 6 ≡ false) (map : ltb 3 (mapOf bytes) ≡ false) where
+  pub header-shape : {n p : ℕ} → first (shapeChecks (modeOf (mapOf bytes)) (dimOf bytes) (bitsOf bytes)) accepted ≡ refused n p → first (headerChecks bytes) a ≡ refused n p
+  header-shape e = rw (long, map) (append-refused (shapeChecks (modeOf (mapOf bytes)) (dimOf bytes) (bitsOf bytes)) (wrongSize (ltb (length bytes) (headerLength (mapOf bytes))) bytes ∷ check (outsideProjections (modeOf (mapOf bytes)) (projectionsOf bytes)) 8 (projectionsOf bytes) ∷ []) tt a e)
+
+  pub header-cut : first (shapeChecks (modeOf (mapOf bytes)) (dimOf bytes) (bitsOf bytes)) accepted ≡ accepted → ltb (length bytes) (headerLength (mapOf bytes)) ≡ true → first (headerChecks bytes) a ≡ refused 13 (length bytes)
+  header-cut pass e = rw (long, map) (append-passed (shapeChecks (modeOf (mapOf bytes)) (dimOf bytes) (bitsOf bytes)) (wrongSize (ltb (length bytes) (headerLength (mapOf bytes))) bytes ∷ check (outsideProjections (modeOf (mapOf bytes)) (projectionsOf bytes)) 8 (projectionsOf bytes) ∷ []) tt a pass ∙ rw e)
 
 -- ---- the last check, where all before it pass
 

@@ -60,18 +60,19 @@ outsideBits mode bits = ltb bits 1 || ltb (byMode mode 16 15) bits
 abbrev pub outsideProjections : TurboMode → ℕ → Bool
 outsideProjections mode m = byMode mode false (eqb m 0 || ltb 4096 m)
 
+-- '2; 3; 4; 1', in reading and in writing
+abbrev pub shapeChecks : TurboMode → ℕ → ℕ → List Check
+shapeChecks mode dim bits = zeroDimension dim ∷ oddDimension dim ∷ noPower dim ∷ check (outsideBits mode bits) 1 bits ∷ []
+
 -- the checks of the header up to its projections
 abbrev pub headerChecks : List ℕ → List Check
 headerChecks bytes =
     wrongSize (ltb (length bytes) 6) bytes
     ∷ wrongMap bytes
-    ∷ zeroDimension (dimOf bytes)
-    ∷ oddDimension (dimOf bytes)
-    ∷ noPower (dimOf bytes)
-    ∷ check (outsideBits (modeOf (mapOf bytes)) (bitsOf bytes)) 1 (bitsOf bytes)
-    ∷ wrongSize (ltb (length bytes) (headerLength (mapOf bytes))) bytes
+    ∷ shapeChecks (modeOf (mapOf bytes)) (dimOf bytes) (bitsOf bytes)
+    ++ (wrongSize (ltb (length bytes) (headerLength (mapOf bytes))) bytes
     ∷ check (outsideProjections (modeOf (mapOf bytes)) (projectionsOf bytes)) 8 (projectionsOf bytes)
-    ∷ []
+    ∷ [])
 
 -- the checks of the whole length, the range and the payloads. '16: a radius is NaN, infinite or below zero', as it is read: 'A linear radius that
 -- reads as infinite is 16'. The place of 14 is a byte's index in its payload

@@ -27,7 +27,7 @@ ghost use Rattle.radius.specs.Radii.{badRadius};
 ghost use Rattle.packed.specs.Fields.{mapOf, profileOf, modeOf, wordAt, floatAt, boundsOf, projectionsOf};
 ghost use Rattle.packed.specs.Layout.{headerLength, headerOf};
 ghost use Rattle.packed.specs.Radii.{badBounds, wrongBounds, firstBad};
-ghost use Rattle.packed.specs.Reading.{saysReading, outsideBits, outsideProjections, headerChecks, payloadChecks, readOf, radiiPart, indicesPart, signsPart, radiiReadOf, indicesReadOf, signsReadOf};
+ghost use Rattle.packed.specs.Reading.{saysReading, outsideBits, outsideProjections, shapeChecks, headerChecks, payloadChecks, readOf, radiiPart, indicesPart, signsPart, radiiReadOf, indicesReadOf, signsReadOf};
 
 // What a record says before its payloads, and where these stand: each from its own field to the next one, the signs to `end`.
 pub struct Header {
@@ -161,6 +161,37 @@ pub fn read_signs(bytes: &[u8], out: &mut [i8]) -> Outcome
     }
 }
 
+// The checks of a dimension and of polar bits, in reading and in writing.
+pub fn check_shape(mode: TurboMode, dim: usize, bits: u8) -> Outcome
+    ensures { λ r. ⌜ says r ≡ first (shapeChecks mode dim bits) accepted ⌝ }
+{
+    if dim == 0 {
+        return Outcome::Refused {
+            number: ZERO_DIMENSION,
+            place: 0,
+        };
+    }
+    if dim % 2 == 1 {
+        return Outcome::Refused {
+            number: ODD_DIMENSION,
+            place: dim,
+        };
+    }
+    if rotation::outside_powers(dim) {
+        return Outcome::Refused {
+            number: ROTATION_FAILED,
+            place: dim,
+        };
+    }
+    if outside_bits(mode, bits) {
+        return Outcome::Refused {
+            number: INVALID_BIT_WIDTH,
+            place: bits as usize,
+        };
+    }
+    Outcome::Done
+}
+
 // The header's length, by the map byte.
 pub fn header_length(map: u8) -> usize
     ensures { λ r. ⌜ r ≡ headerLength map ⌝ }
@@ -176,19 +207,6 @@ pub fn width_of(profile: RadiusCodecProfileV1) -> usize
         RadiusCodecProfileV1::F32 => 4,
         RadiusCodecProfileV1::BlockLinearU16 => 2,
         RadiusCodecProfileV1::BlockLogU8 => 1,
-    }
-}
-
-// Whether polar bits are outside 1..16, or 16 beside signs.
-pub fn outside_bits(mode: TurboMode, bits: u8) -> bool
-    ensures { λ r. ⌜ r ≡ outsideBits mode bits ⌝ }
-{
-    if bits < 1 {
-        return true;
-    }
-    match mode {
-        TurboMode::PolarOnly => 16 < bits,
-        TurboMode::PolarWithQjl => 15 < bits,
     }
 }
 
@@ -235,31 +253,12 @@ fn check_header(bytes: &[u8]) -> Outcome
             place: map as usize,
         };
     }
-    let dim = get_u32(bytes, 1);
-    if dim == 0 {
-        return Outcome::Refused {
-            number: ZERO_DIMENSION,
-            place: 0,
-        };
-    }
-    if dim % 2 == 1 {
-        return Outcome::Refused {
-            number: ODD_DIMENSION,
-            place: dim,
-        };
-    }
-    if rotation::outside_powers(dim) {
-        return Outcome::Refused {
-            number: ROTATION_FAILED,
-            place: dim,
-        };
-    }
-    let bits = bytes[5];
-    if outside_bits(mode_of(map), bits) {
-        return Outcome::Refused {
-            number: INVALID_BIT_WIDTH,
-            place: bits as usize,
-        };
+    if let Outcome::Refused { number, place } = check_shape(
+        mode_of(map),
+        get_u32(bytes, 1),
+        bytes[5],
+    ) {
+        return Outcome::Refused { number, place };
     }
     if bytes.len() < header_length(map) {
         return Outcome::Refused {
@@ -431,6 +430,19 @@ fn projections_of(bytes: &[u8]) -> usize
         return get_u32(bytes, at);
     }
     0
+}
+
+// Whether polar bits are outside 1..16, or 16 beside signs.
+fn outside_bits(mode: TurboMode, bits: u8) -> bool
+    ensures { λ r. ⌜ r ≡ outsideBits mode bits ⌝ }
+{
+    if bits < 1 {
+        return true;
+    }
+    match mode {
+        TurboMode::PolarOnly => 16 < bits,
+        TurboMode::PolarWithQjl => 15 < bits,
+    }
 }
 
 // Whether linear radii have a range that is refused.

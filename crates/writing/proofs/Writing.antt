@@ -1,7 +1,7 @@
 -- What the writer's codecs answer once their inputs have passed: each payload, and the checks that are left. Assumes nothing.
 use Prim.Native.Nat.{ℕ, _+_, _-_, _*_, _/_, _%_, _^_, _≤_}
 use mathlib.Core.Path.{_≡_, refl, sym, ap, _∙_}
-use mathlib.Core.Bool.{Bool, false}
+use mathlib.Core.Bool.{Bool, true, false}
 use mathlib.Core.List.{List, [], _∷_, _++_}
 use borrow.Author.Tests.{le-ltb, eq-eqb, ne-eqb}
 use lib.Dec.{ltb, eqb}
@@ -10,8 +10,8 @@ use lib.ListN.{length, length-append}
 use Rattle.float.specs.Bytes.{toLeBytes}
 use Rattle.float.proofs.Bytes.{length-toLeBytes}
 use lib.Ieee.{Float}
-use Rattle.error.specs.Answer.{Answer, value, refused, place, first, each, accepted, done}
-use Rattle.error.proofs.Chains.{first-done}
+use Rattle.error.specs.Answer.{value, refused, check, place, first, each, accepted, done}
+use Rattle.error.proofs.Chains.{first-done, append-refused, append-passed}
 use Rattle.bitpack.specs.Padding.{bytesFor}
 use Rattle.bitpack.specs.Packing.{tooLarge, packOf}
 use Rattle.bitpack.specs.Signs.{notSign, packSignsOf}
@@ -20,12 +20,11 @@ use Rattle.radius.specs.Radii.{badRadius}
 use Rattle.radius.specs.declared.Range.{Range}
 use Rattle.radius.specs.declared.RadiusCodecProfileV1.{RadiusCodecProfileV1}
 use Rattle.radius.specs.declared.RadiusCodecProfileV1.the-variants.{F32, BlockLinearU16, BlockLogU8}
-use Rattle.rotation.specs.Checks.{outsidePowers}
 use Rattle.setup.specs.declared.TurboMode.{TurboMode}
 use Rattle.setup.specs.declared.TurboMode.the-variants.{PolarOnly, PolarWithQjl}
 use Rattle.setup.specs.Setups.{byMode}
 use Rattle.packed.specs.Layout.{headerLength}
-use Rattle.packed.specs.Reading.{outsideBits, outsideProjections}
+use Rattle.packed.specs.Reading.{outsideProjections, shapeChecks}
 use Rattle.writing.specs.Writing.{byProfile, mapFor, countedFor, rangeBytes, indexBytes, signBytes, lengthChecks, fieldChecks}
 
 -- ---- the header's length
@@ -40,10 +39,19 @@ header-long BlockLogU8 PolarWithQjl = refl
 
 -- ---- the scalars' checks leave those of the lengths
 
-pub fields-rest : (profile : RadiusCodecProfileV1) (dim bits : ℕ) (mode : TurboMode) (m radii indices signs : ℕ)
-    → isLog profile ≡ false → eqb dim 0 ≡ false → eqb (dim % 2) 1 ≡ false → outsidePowers dim ≡ false → outsideBits mode bits ≡ false → outsideProjections mode m ≡ false
-    → first (fieldChecks profile dim bits mode m radii indices signs) accepted ≡ first (lengthChecks (dim / 2) (countedFor mode m) radii indices signs) accepted
-fields-rest profile dim bits mode m radii indices signs a b c d e f = rw (a, b, c, d, e, f)
+module _ (profile : RadiusCodecProfileV1) (dim bits : ℕ) (mode : TurboMode) (m radii indices signs : ℕ) (known : isLog profile ≡ false) where
+  pub fields-shape : {n p : ℕ} → first (shapeChecks mode dim bits) accepted ≡ refused n p → first (fieldChecks profile dim bits mode m radii indices signs) accepted ≡ refused n p
+  fields-shape e = rw known (append-refused (shapeChecks mode dim bits) (check (outsideProjections mode m) 8 m ∷ lengthChecks (dim / 2) (countedFor mode m) radii indices signs) tt accepted e)
+
+  module _ (pass : first (shapeChecks mode dim bits) accepted ≡ accepted) where
+    left : first (fieldChecks profile dim bits mode m radii indices signs) accepted ≡ first (check (outsideProjections mode m) 8 m ∷ lengthChecks (dim / 2) (countedFor mode m) radii indices signs) accepted
+    left = rw known (append-passed (shapeChecks mode dim bits) (check (outsideProjections mode m) 8 m ∷ lengthChecks (dim / 2) (countedFor mode m) radii indices signs) tt accepted pass)
+
+    pub fields-projections : outsideProjections mode m ≡ true → first (fieldChecks profile dim bits mode m radii indices signs) accepted ≡ refused 8 m
+    fields-projections e = left ∙ rw e
+
+    pub fields-rest : outsideProjections mode m ≡ false → first (fieldChecks profile dim bits mode m radii indices signs) accepted ≡ first (lengthChecks (dim / 2) (countedFor mode m) radii indices signs) accepted
+    fields-rest e = left ∙ rw e
 
 -- ---- radii
 

@@ -18,11 +18,10 @@ use Rattle.radius.specs.Radii.{badRadius}
 use Rattle.radius.specs.declared.Range.{Range}
 use Rattle.radius.specs.declared.RadiusCodecProfileV1.{RadiusCodecProfileV1}
 use Rattle.radius.specs.declared.RadiusCodecProfileV1.the-variants.{F32, BlockLinearU16, BlockLogU8}
-use Rattle.rotation.specs.Checks.{zeroDimension, oddDimension, noPower}
 use Rattle.setup.specs.declared.TurboMode.{TurboMode}
 use Rattle.setup.specs.Setups.{byMode}
 use Rattle.packed.specs.Layout.{headerLength}
-use Rattle.packed.specs.Reading.{outsideBits, outsideProjections}
+use Rattle.packed.specs.Reading.{outsideProjections, shapeChecks}
 
 -- ---- the bytes
 
@@ -85,12 +84,9 @@ lengthChecks pairs m radii indices signs = wrongInput radii pairs ∷ wrongInput
 abbrev pub fieldChecks : RadiusCodecProfileV1 → ℕ → ℕ → TurboMode → ℕ → ℕ → ℕ → ℕ → List Check
 fieldChecks profile dim bits mode m radii indices signs =
     check (isLog profile) 18 0
-    ∷ zeroDimension dim
-    ∷ oddDimension dim
-    ∷ noPower dim
-    ∷ check (outsideBits mode bits) 1 bits
-    ∷ check (outsideProjections mode m) 8 m
-    ∷ lengthChecks (dim / 2) (countedFor mode m) radii indices signs
+    ∷ shapeChecks mode dim bits
+    ++ (check (outsideProjections mode m) 8 m
+    ∷ lengthChecks (dim / 2) (countedFor mode m) radii indices signs)
 
 -- '16 for bad radii, 16 for radii that would read as infinite'
 abbrev pub radiusChecks : RadiusCodecProfileV1 → List Float → List Check

@@ -1,18 +1,15 @@
 // Writing the record that `packed` reads: a polar code and, beside it, a residual sketch, as bytes. Ported from turbo-quant/src/packed.rs and
 // changed: the byte layout is this port's own, inputs and output are lent, refusals are numbers.
 use error::DIMENSION_MISMATCH;
-use error::INVALID_BIT_WIDTH;
 use error::MALFORMED_RADIUS;
-use error::ODD_DIMENSION;
 use error::OUTPUT_LENGTH;
 use error::Outcome;
-use error::ROTATION_FAILED;
 use error::UNDEFINED_PROFILE;
-use error::ZERO_DIMENSION;
 use error::ZERO_PROJECTION_COUNT;
 use radius::Compressed;
 use radius::RadiusCodecProfileV1;
 use radius::Range;
+use setup::Setup;
 use setup::TurboMode;
 ghost use Prim.Native.Nat.{_+_, _-_, _≤_};
 ghost use mathlib.Core.Path.{_≡_};
@@ -28,7 +25,7 @@ ghost use Rattle.bitpack.specs.Signs.{packSignsOf};
 ghost use Rattle.setup.specs.Setups.{byMode};
 ghost use Rattle.radius.specs.Codec.{isLog, compressChecks, rangeFor, bytesFor as radiusBytes};
 ghost use Rattle.packed.specs.Layout.{headerLength};
-ghost use Rattle.writing.specs.Writing.{byProfile, mapFor, countedFor, rangeBytes, projectionBytes, headerBytes, indexBytes, signBytes, lengthChecks, fieldChecks, radiusChecks, indexChecks, signChecks, valueChecks, writeOf};
+ghost use Rattle.writing.specs.Writing.{byProfile, mapFor, rangeBytes, projectionBytes, headerBytes, indexBytes, signBytes, lengthChecks, fieldChecks, radiusChecks, indexChecks, signChecks, valueChecks, writeOf};
 ghost use Rattle.writing.specs.Conditions.{Sized, CodesReady, Payloads};
 
 // Writes a record into exactly the bytes that it needs. Without signs the projections are ignored.
@@ -103,29 +100,8 @@ fn check_fields(
             place: 0,
         };
     }
-    if dim == 0 {
-        return Outcome::Refused {
-            number: ZERO_DIMENSION,
-            place: 0,
-        };
-    }
-    if dim % 2 == 1 {
-        return Outcome::Refused {
-            number: ODD_DIMENSION,
-            place: dim,
-        };
-    }
-    if rotation::outside_powers(dim) {
-        return Outcome::Refused {
-            number: ROTATION_FAILED,
-            place: dim,
-        };
-    }
-    if packed::outside_bits(mode, bits) {
-        return Outcome::Refused {
-            number: INVALID_BIT_WIDTH,
-            place: bits as usize,
-        };
+    if let Outcome::Refused { number, place } = packed::check_shape(mode, dim, bits) {
+        return Outcome::Refused { number, place };
     }
     if packed::outside_projections(mode, projections) {
         return Outcome::Refused {
@@ -133,7 +109,13 @@ fn check_fields(
             place: projections,
         };
     }
-    check_lengths(dim / 2, counted(mode, projections), radii, indices, signs)
+    let needed = setup::counted_projections(Setup {
+        mode,
+        dim,
+        bits,
+        projections,
+    });
+    check_lengths(dim / 2, needed, radii, indices, signs)
 }
 
 // The lengths of radii, indices and signs: one of each for a pair, and a sign for each projection.
@@ -242,16 +224,6 @@ fn is_log(profile: RadiusCodecProfileV1) -> bool
         RadiusCodecProfileV1::F32 => false,
         RadiusCodecProfileV1::BlockLinearU16 => false,
         RadiusCodecProfileV1::BlockLogU8 => true,
-    }
-}
-
-// The projections that count: none without signs.
-fn counted(mode: TurboMode, projections: usize) -> usize
-    ensures { λ r. ⌜ r ≡ countedFor mode projections ⌝ }
-{
-    match mode {
-        TurboMode::PolarOnly => 0,
-        TurboMode::PolarWithQjl => projections,
     }
 }
 

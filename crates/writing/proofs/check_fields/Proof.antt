@@ -1,21 +1,24 @@
 -- `writing::check_fields` meets its contract: a check that passes leaves the rest of the list. Assumes nothing.
 use Prim.Native.Nat.{ℕ, _/_}
-use mathlib.Core.Path.{sym, ap, _∙_}
-use borrow.Author.Tests.{eq-eqb, ne-eqb}
+use mathlib.Core.Path.{_≡_, sym, ap, _∙_}
+use mathlib.Core.Bool.{false}
 use Rattle.error.specs.Answer.{first, accepted}
+use Rattle.error.specs.Outcomes.{says}
+use Rattle.radius.specs.Codec.{isLog}
+use Rattle.packed.specs.Reading.{shapeChecks}
 use Rattle.writing.specs.Writing.{lengthChecks}
-use Rattle.writing.proofs.Writing.{fields-rest}
+use Rattle.writing.proofs.Writing.{fields-shape, fields-projections, fields-rest}
 use borrow.Author.Needs.{needs}
 use Rattle.writing.proofs.check_fields.Statement.{statement}
 use Rattle.writing.proofs.check_fields.Tie as tie
-use Rattle.writing.proofs.check_fields.Reads as reads
-use Rattle.writing.proofs.check_fields.Lts as lts
-use Rattle.writing.proofs.check_lengths.Reads as check-lengths-reads
-use Rattle.writing.proofs.counted.Reads as counted-reads
-use Rattle.writing.proofs.is_log.Reads as is-log-reads
-use Rattle.packed.proofs.outside_bits.Reads as outside-bits-reads
-use Rattle.packed.proofs.outside_projections.Reads as outside-projections-reads
-use Rattle.rotation.proofs.outside_powers.Reads as outside-powers-reads
+
+-- the profile is one that a record has
+known : (c : tie.Else1) → isLog (c .before .before .args .profile) ≡ false
+known c = sym (c .before .is-log .ensures) ∙ c .if1 .left
+
+-- the dimension and the bits have passed
+shaped : (c : tie.After-enum-told) → first (shapeChecks (c .before .before .before .before .before .args .mode) (c .before .before .before .before .before .args .dim) (c .before .before .before .before .before .args .bits)) accepted ≡ accepted
+shaped c = sym (c .before .before .check-shape .ensures) ∙ ap says (c .enum-told .given .1)
 
 is-log-requires : tie.Need-is-log-requires
 is-log-requires c κs = search needs
@@ -23,43 +26,36 @@ is-log-requires c κs = search needs
 returns : tie.Need-returns
 returns c = search needs
 
+check-shape-requires : tie.Need-check-shape-requires
+check-shape-requires c κs = search needs
+
+enum-known-number : tie.Need-enum-known-number
+enum-known-number c = search needs
+
 returns-2 : tie.Need-returns-2
-returns-2 c = simp (sym (c .before .before .is-log .ensures) ∙ c .before .if1 .left, eq-eqb _ _ (c .if2 .taken))
+returns-2 c = sym (fields-shape (c .before .before .before .before .before .before .args .profile) (c .before .before .before .before .before .before .args .dim) (c .before .before .before .before .before .before .args .bits) (c .before .before .before .before .before .before .args .mode) (c .before .before .before .before .before .before .args .projections) (c .before .before .before .before .before .before .args .radii) (c .before .before .before .before .before .before .args .indices) (c .before .before .before .before .before .before .args .signs) (known (c .before .before .before .before)) (sym (c .before .before .before .check-shape .ensures) ∙ ap says (c .before .number .given .1)))
 
-returns-3 : tie.Need-returns-3
-returns-3 c = simp (sym (c .before .before .before .is-log .ensures) ∙ c .before .before .if1 .left, ne-eqb _ _ (c .before .if2 .left), eq-eqb _ _ (c .if3 .taken))
-
-outside-powers-requires : tie.Need-outside-powers-requires
-outside-powers-requires c κs = search needs
-
-returns-4 : tie.Need-returns-4
-returns-4 c = simp (sym (c .before .before .before .before .before .is-log .ensures) ∙ c .before .before .before .before .if1 .left, ne-eqb _ _ (c .before .before .before .if2 .left), ne-eqb _ _ (c .before .before .if3 .left), sym (c .before .outside-powers .ensures) ∙ c .if4 .taken)
-
-outside-bits-requires : tie.Need-outside-bits-requires
-outside-bits-requires c κs = search needs
-
-returns-5 : tie.Need-returns-5
-returns-5 c = simp (sym (c .before .before .before .before .before .before .before .is-log .ensures) ∙ c .before .before .before .before .before .before .if1 .left, ne-eqb _ _ (c .before .before .before .before .before .if2 .left), ne-eqb _ _ (c .before .before .before .before .if3 .left), sym (c .before .before .before .outside-powers .ensures) ∙ c .before .before .if4 .left, sym (c .before .outside-bits .ensures) ∙ c .if5 .taken)
+enum-told : tie.Need-enum-told
+enum-told c = search needs
 
 outside-projections-requires : tie.Need-outside-projections-requires
 outside-projections-requires c κs = search needs
 
-returns-6 : tie.Need-returns-6
-returns-6 c = simp (sym (c .before .before .before .before .before .before .before .before .before .is-log .ensures) ∙ c .before .before .before .before .before .before .before .before .if1 .left, ne-eqb _ _ (c .before .before .before .before .before .before .before .if2 .left), ne-eqb _ _ (c .before .before .before .before .before .before .if3 .left), sym (c .before .before .before .before .before .outside-powers .ensures) ∙ c .before .before .before .before .if4 .left, sym (c .before .before .before .outside-bits .ensures) ∙ c .before .before .if5 .left, sym (c .before .outside-projections .ensures) ∙ c .if6 .taken)
+returns-3 : tie.Need-returns-3
+returns-3 c = sym (fields-projections (c .before .before .before .before .before .before .before .args .profile) (c .before .before .before .before .before .before .before .args .dim) (c .before .before .before .before .before .before .before .args .bits) (c .before .before .before .before .before .before .before .args .mode) (c .before .before .before .before .before .before .before .args .projections) (c .before .before .before .before .before .before .before .args .radii) (c .before .before .before .before .before .before .before .args .indices) (c .before .before .before .before .before .before .before .args .signs) (known (c .before .before .before .before .before)) (shaped (c .before .before)) (sym (c .before .outside-projections .ensures) ∙ c .if2 .taken))
 
-counted-requires : tie.Need-counted-requires
-counted-requires c κs = search needs
+counted-projections-requires : tie.Need-counted-projections-requires
+counted-projections-requires c κs = search needs
 
 check-lengths-requires : tie.Need-check-lengths-requires
 check-lengths-requires c κs = search needs
 
-returns-7 : tie.Need-returns-7
-returns-7 c =
-    let a = c .before .before .before .before .before .before .before .before .before .before .before .before .args in
+returns-4 : tie.Need-returns-4
+returns-4 c =
+    let a = c .before .before .before .before .before .before .before .before .before .args in
     c .check-lengths .ensures
-    ∙ ap (λ (n : ℕ). first (lengthChecks (a .dim / 2) n (a .radii) (a .indices) (a .signs)) accepted) (c .before .counted .ensures)
-    ∙ sym
-    (fields-rest (a .profile) (a .dim) (a .bits) (a .mode) (a .projections) (a .radii) (a .indices) (a .signs) (sym (c .before .before .before .before .before .before .before .before .before .before .before .is-log .ensures) ∙ c .before .before .before .before .before .before .before .before .before .before .if1 .left) (ne-eqb _ _ (c .before .before .before .before .before .before .before .before .before .if2 .left)) (ne-eqb _ _ (c .before .before .before .before .before .before .before .before .if3 .left)) (sym (c .before .before .before .before .before .before .before .outside-powers .ensures) ∙ c .before .before .before .before .before .before .if4 .left) (sym (c .before .before .before .before .before .outside-bits .ensures) ∙ c .before .before .before .before .if5 .left) (sym (c .before .before .before .outside-projections .ensures) ∙ c .before .before .if6 .left))
+    ∙ ap (λ (n : ℕ). first (lengthChecks (a .dim / 2) n (a .radii) (a .indices) (a .signs)) accepted) (c .before .counted-projections .ensures)
+    ∙ sym (fields-rest (c .before .before .before .before .before .before .before .before .before .args .profile) (c .before .before .before .before .before .before .before .before .before .args .dim) (c .before .before .before .before .before .before .before .before .before .args .bits) (c .before .before .before .before .before .before .before .before .before .args .mode) (c .before .before .before .before .before .before .before .before .before .args .projections) (c .before .before .before .before .before .before .before .before .before .args .radii) (c .before .before .before .before .before .before .before .before .before .args .indices) (c .before .before .before .before .before .before .before .before .before .args .signs) (known (c .before .before .before .before .before .before .before)) (shaped (c .before .before .before .before)) (sym (c .before .before .before .outside-projections .ensures) ∙ c .before .before .if2 .left))
 
 pub check-fields-spec : {M : Type 1} → statement M
 check-fields-spec =
@@ -67,14 +63,12 @@ check-fields-spec =
     (tie.spec
     is-log-requires
     returns
+    check-shape-requires
+    enum-known-number
     returns-2
-    returns-3
-    outside-powers-requires
-    returns-4
-    outside-bits-requires
-    returns-5
+    enum-told
     outside-projections-requires
-    returns-6
-    counted-requires
+    returns-3
+    counted-projections-requires
     check-lengths-requires
-    returns-7)
+    returns-4)
