@@ -35,8 +35,8 @@ use Rattle.polar.specs.Exact.{radiusSum}
 use Rattle.polar.proofs.Directions.{within-small, missing-small}
 use Rattle.polar.proofs.Counts.{close-polar-hadamard}
 use Rattle.qjl.proofs.ScaleBound.{close-unit-residual}
-use Rattle.turbo.specs.Scores.{Content, Lent, polarPart, residualPart, scoreOf, exactPolarPart, exactResidualPart, exactScore, polarSize, residualPartSize, sizeOf, perUnit, perOne, perRadius, scaledScore, scaledExact, boundOf}
-use Rattle.turbo.proofs.Scales.{per-one, per-radius, scaled-unit, alone-within, residual-within}
+use Rattle.order.specs.Scores.{Content, Lent, polarPart, residualPart, scoreFrom, scoreOf, exactPolarPart, exactResidualPart, exactScore, polarSize, residualPartSize, sizeOf, perUnit, perOne, perRadius, scaledScore, scaledExact, boundOf}
+use Rattle.order.proofs.Scales.{per-one, per-radius, scaled-unit, alone-within, residual-within}
 
 -- what the checks of setup, query and record leave
 pub record Scorable (s : Setup) (l : Lent) (c : Content) : Type 0 where
@@ -141,7 +141,7 @@ module _ (s : Setup) (l : Lent) (c : Content) (h : Scorable s l c) where
 
   -- Each finite score lies within its bound of its exact score.
   pub score-within : T (finite (scoreOf s l c)) → Near (scaledScore s l c) (scaledExact s l c) (boundOf s l c)
-  unfolding scoreOf exactScore sizeOf boundOf bound-at
+  unfolding scoreOf scoreFrom exactScore sizeOf boundOf bound-at
   score-within known = by-mode (s .mode) refl known
 
 -- Of two records under one setup and query, scores that differ by more than the sum of their bounds have exact scores in the same strict order.

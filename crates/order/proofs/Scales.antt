@@ -5,7 +5,7 @@ use native.Mathlib.Nat.{mul-assoc, mul-le-mul-right, mul-le-mul-left}
 use native.Mathlib.Omega.{arith}
 use Rattle.rounding.specs.Signed.{Diff, _⊙_}
 use Rattle.rounding.specs.Value.{unit}
-use Rattle.turbo.specs.Scores.{perUnit, perOne, perRadius}
+use Rattle.order.specs.Scores.{perUnit, perOne, perRadius}
 
 pub per-unit : perUnit ≡ 2 ^ 23 * (unit * unit * unit)
 unfolding perUnit unit

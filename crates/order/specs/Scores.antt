@@ -15,7 +15,7 @@ use Rattle.setup.specs.Setups.{byMode, countedProjections}
 use Rattle.polar.specs.Polar.{polarSum}
 use Rattle.polar.specs.Exact.{exactPolar, directionSum, radiusSum}
 use Rattle.qjl.specs.Projection.{projected}
-use Rattle.qjl.specs.Score.{scaleOf, residualOf}
+use Rattle.qjl.specs.Score.{scaleOf, unitResidual}
 use Rattle.qjl.specs.Exact.{exactResidual, residualSize}
 
 -- what a record holds, as read from it: a radius and an index for each pair, and its signs
@@ -35,15 +35,23 @@ pub record Lent : Type 0 where
 abbrev pub unitScale : ℕ → Float
 unitScale m = scaleOf m (one false)
 
--- 'The score is the polar sum plus the residual, rounded; in `PolarOnly` it is the polar sum.'
+-- 'The score is the polar sum plus the residual, rounded; in `PolarOnly` it is the polar sum.' From a query that is rotated and projected
+unfoldable pub scoreFrom : Setup → List Float → List Float → List Float → Content → Float
+scoreFrom s directions turned rows c =
+    byMode (s .mode)
+    (polarSum turned directions (c .indices) (c .radii))
+    (add binary32 (polarSum turned directions (c .indices) (c .radii)) (unitResidual (s .projections) rows (c .signs)))
+
+-- the same from a query and what is lent with it
+unfoldable pub scoreOf : Setup → Lent → Content → Float
+scoreOf s l c = scoreFrom s (l .directions) (rotated (s .dim) (l .signs) (l .query)) (projected (s .dim) (s .projections) (l .matrix) (l .query)) c
+
+-- its two parts
 abbrev pub polarPart : Setup → Lent → Content → Float
 polarPart s l c = polarSum (rotated (s .dim) (l .signs) (l .query)) (l .directions) (c .indices) (c .radii)
 
 abbrev pub residualPart : Setup → Lent → Content → Float
-residualPart s l c = residualOf (s .projections) (one false) (projected (s .dim) (s .projections) (l .matrix) (l .query)) (c .signs)
-
-unfoldable pub scoreOf : Setup → Lent → Content → Float
-scoreOf s l c = byMode (s .mode) (polarPart s l c) (add binary32 (polarPart s l c) (residualPart s l c))
+residualPart s l c = unitResidual (s .projections) (projected (s .dim) (s .projections) (l .matrix) (l .query)) (c .signs)
 
 -- ---- 'The exact score replaces each rounded step from query to score by its exact one', in units of 2 ^ -596
 -- 'the sum over pairs of r × (qa × c + qb × s), .. (qa, qb) its two entries of the query rotated without rounding'

@@ -1,0 +1,113 @@
+-- `scoring::polar_part` meets its contract: the parts of the two arrays that were filled are the parts that the sum reads. Assumes nothing.
+use Prim.Native.Nat.{ℕ, _-_}
+use mathlib.Core.Path.{ap, _∙_}
+use mathlib.Core.List.{List, _++_}
+use native.Mathlib.Omega.{arith}
+use borrow.Rule.Slice.PartMut.{postOf}
+use denote.Ref.{now}
+use lib.ListN.{take}
+use lib.Ieee.{Float}
+use Rattle.polar.specs.Polar.{polarSum}
+use Rattle.packed.specs.Reading.{radiiOf, indicesOf, radiiReadOf, indicesReadOf}
+use Rattle.scoring.proofs.Parts.{part-enough, part-filled}
+use Rattle.scoring.proofs.Answers.{radii-filled, indices-filled, pairs-most}
+use borrow.Author.Needs.{needs}
+use Rattle.scoring.proofs.polar_part.Statement.{statement}
+use Rattle.scoring.proofs.polar_part.Tie as tie
+use Rattle.scoring.proofs.polar_part.Reads as reads
+use Rattle.scoring.proofs.polar_part.Lts as lts
+use Rattle.packed.proofs.read_indices.Reads as read-indices-reads
+use Rattle.packed.proofs.read_radii.Reads as read-radii-reads
+use Rattle.polar.proofs.polar_sum.Reads as polar-sum-reads
+use Rattle.scoring.proofs.no_indices.Reads as no-indices-reads
+use Rattle.scoring.proofs.no_radii.Reads as no-radii-reads
+
+no-radii-requires : tie.Need-no-radii-requires
+no-radii-requires c κs = search needs
+
+no-indices-requires : tie.Need-no-indices-requires
+no-indices-requires c κs = search needs
+
+sub-read-radii : tie.Need-sub-read-radii
+sub-read-radii c = search needs
+
+part-radii-start : tie.Need-part-radii-start
+part-radii-start c = search needs
+
+part-radii-end : tie.Need-part-radii-end
+part-radii-end c = let s = c .before .before .before .before .before in let most = pairs-most (now (s .args .bytes)) (s .pre .0) in omega (arith, most, s .pre .1, c .before .no-radii .ok)
+
+read-radii-requires : tie.Need-read-radii-requires
+read-radii-requires c κs = search needs
+
+sub-read-indices : tie.Need-sub-read-indices
+sub-read-indices c = search needs
+
+part-indices-start : tie.Need-part-indices-start
+part-indices-start c = search needs
+
+part-indices-end : tie.Need-part-indices-end
+part-indices-end c = let s = c .before .before .before .before .before .before .before .before in let most = pairs-most (now (s .args .bytes)) (s .pre .0) in omega (arith, most, s .pre .1, c .before .before .before .no-indices .ok)
+
+read-indices-requires : tie.Need-read-indices-requires
+read-indices-requires c κs = search needs
+
+sub-polar-sum : tie.Need-sub-polar-sum
+sub-polar-sum c = search needs
+
+part-polar-sum-start : tie.Need-part-polar-sum-start
+part-polar-sum-start c = search needs
+
+part-polar-sum-end : tie.Need-part-polar-sum-end
+part-polar-sum-end c = let s = c .before .before .before .before .before .before .before .before .before .before .before .before in
+    let most = pairs-most (now (s .args .bytes)) (s .pre .0) in
+    part-enough (s .args .pairs) (c .before .before .before .before .before .before .before .no-indices .result) (omega (arith, most, s .pre .1, c .before .before .before .before .before .before .before .no-indices .ok)) (c .before .before .read-indices .last .1 .0) (postOf 0 (s .args .pairs - 0) (c .before .before .before .before .before .before .before .no-indices .result)) (c .before .before .read-indices .kept .1 .0)
+
+sub-polar-sum-2 : tie.Need-sub-polar-sum-2
+sub-polar-sum-2 c = search needs
+
+part-polar-sum-start-2 : tie.Need-part-polar-sum-start-2
+part-polar-sum-start-2 c = search needs
+
+part-polar-sum-end-2 : tie.Need-part-polar-sum-end-2
+part-polar-sum-end-2 c = let s = c .before .before .before .before .before .before .before .before .before .before .before .before .before .before in
+    let most = pairs-most (now (s .args .bytes)) (s .pre .0) in
+    part-enough (s .args .pairs) (c .before .before .before .before .before .before .before .before .before .before .no-radii .result) (omega (arith, most, s .pre .1, c .before .before .before .before .before .before .before .before .before .before .no-radii .ok)) (c .before .before .before .before .before .before .before .read-radii .last .1 .0) (postOf 0 (s .args .pairs - 0) (c .before .before .before .before .before .before .before .before .before .before .no-radii .result)) (c .before .before .before .before .before .before .before .read-radii .kept .1 .0)
+
+polar-sum-requires : tie.Need-polar-sum-requires
+polar-sum-requires c κs = search needs
+
+returns : tie.Need-returns
+returns c = let s = c .before .before .before .before .before .before .before .before .before .before .before .before .before .before .before .before in
+    let bytes = now (s .args .bytes) in
+    let most = pairs-most bytes (s .pre .0) in
+    let is = part-filled (s .args .pairs) (c .before .before .before .before .before .before .before .before .before .before .before .no-indices .result) (omega (arith, most, s .pre .1, c .before .before .before .before .before .before .before .before .before .before .before .no-indices .ok)) (indicesReadOf bytes) (indicesOf bytes)
+    (ap (indicesReadOf bytes) (s .pre .1) ∙ indices-filled bytes (s .pre .0)) (c .before .before .before .before .before .before .read-indices .last .1 .0) (postOf 0 (s .args .pairs - 0) (c .before .before .before .before .before .before .before .before .before .before .before .no-indices .result)) (c .before .before .before .before .before .before .read-indices .kept .1 .0) (c .before .before .before .before .before .before .read-indices .ensures .1) in
+    let rs = part-filled (s .args .pairs) (c .before .before .before .before .before .before .before .before .before .before .before .before .no-radii .result) (omega (arith, most, s .pre .1, c .before .before .before .before .before .before .before .before .before .before .before .before .no-radii .ok)) (radiiReadOf bytes) (radiiOf bytes)
+    (ap (radiiReadOf bytes) (s .pre .1) ∙ radii-filled bytes (s .pre .0)) (c .before .before .before .before .before .before .before .before .before .read-radii .last .1 .0) (postOf 0 (s .args .pairs - 0) (c .before .before .before .before .before .before .before .before .before .before .before .before .no-radii .result)) (c .before .before .before .before .before .before .before .before .before .read-radii .kept .1 .0) (c .before .before .before .before .before .before .before .before .before .read-radii .ensures .1) in
+    c .polar-sum .ensures
+    ∙ ap (λ (l : List ℕ). polarSum (now (s .args .rotated)) (now (s .args .directions)) l (take (s .args .pairs - 0) (c .before .before .before .before .before .before .before .before .before .read-radii .last .1 .0 ++ postOf 0 (s .args .pairs - 0) (c .before .before .before .before .before .before .before .before .before .before .before .before .no-radii .result)))) is
+    ∙ ap (λ (l : List Float). polarSum (now (s .args .rotated)) (now (s .args .directions)) (indicesOf bytes) l) rs
+
+pub polar-part-spec : {M : Type 1} → statement M
+polar-part-spec =
+    tie.close
+    (tie.spec
+    no-radii-requires
+    no-indices-requires
+    sub-read-radii
+    part-radii-start
+    part-radii-end
+    read-radii-requires
+    sub-read-indices
+    part-indices-start
+    part-indices-end
+    read-indices-requires
+    sub-polar-sum
+    part-polar-sum-start
+    part-polar-sum-end
+    sub-polar-sum-2
+    part-polar-sum-start-2
+    part-polar-sum-end-2
+    polar-sum-requires
+    returns)

@@ -1,0 +1,127 @@
+// A record under a setup: opened, and scored by a query that is rotated and projected.
+// Ported from turbo-quant/src/turbo.rs (`validate_for` and the sums of `inner_product_estimate_prepared`) and changed: the code is a record's bytes, and an
+// error is a number and a place.
+
+use error::DIMENSION_MISMATCH;
+use error::NON_FINITE_SCORE;
+use error::PROFILE_MISMATCH;
+use packed::Reading;
+use qjl::Scored;
+use setup::Setup;
+use setup::TurboMode;
+ghost use mathlib.Core.Path.{_≡_};
+ghost use mathlib.Core.List.{[], _∷_};
+ghost use Rattle.error.specs.Answer.{value, first};
+ghost use Rattle.polar.specs.Polar.{polarSum};
+ghost use Rattle.qjl.specs.Score.{saysScore, badScore, unitResidual};
+ghost use Rattle.packed.specs.Fields.{projectionsOf};
+ghost use Rattle.packed.specs.Layout.{pairsOf, headerOf};
+ghost use Rattle.packed.specs.Reading.{saysReading, readOf, radiiOf, indicesOf, signsOf};
+ghost use Rattle.scoring.specs.Opening.{openOf};
+ghost use Rattle.scoring.specs.Scoring.{recordScoreOf};
+
+// Reads a record and holds it against a setup: its header, where nothing offends.
+pub fn open_record(setup: Setup, bytes: &[u8]) -> Reading
+    ensures { λ r. ⌜ saysReading r ≡ openOf setup (now (bytes .entry)) ⌝ }
+{
+    match packed::read_record(bytes) {
+        Reading::Read(header) => {
+            if header.dim != setup.dim {
+                return Reading::Refused {
+                    number: DIMENSION_MISMATCH,
+                    place: header.dim,
+                };
+            }
+            if header.bits != setup::polar_bits(setup) {
+                return Reading::Refused {
+                    number: PROFILE_MISMATCH,
+                    place: 0,
+                };
+            }
+            if header.projections != setup::counted_projections(setup) {
+                return Reading::Refused {
+                    number: PROFILE_MISMATCH,
+                    place: 0,
+                };
+            }
+            Reading::Read(header)
+        }
+        Reading::Refused { number, place } => Reading::Refused { number, place },
+    }
+}
+
+// The score of a record under a setup, by a query that is rotated and projected. What is missing in either counts as in `polar::polar_sum` and
+// `qjl::sign_sum`.
+pub fn record_score(
+    setup: Setup,
+    directions: &[f32],
+    rotated: &[f32],
+    projected: &[f32],
+    bytes: &[u8],
+) -> Scored
+    ensures { λ r. ⌜ saysScore r ≡ recordScoreOf setup (now (directions .entry)) (now (rotated .entry)) (now (projected .entry)) (now (bytes .entry)) ⌝ }
+{
+    match open_record(setup, bytes) {
+        Reading::Read(header) => {
+            let polar = polar_part(directions, rotated, bytes, header.dim / 2);
+            let mode = setup.mode;
+            match mode {
+                TurboMode::PolarOnly => finite_score(polar),
+                TurboMode::PolarWithQjl => finite_score(
+                    polar + residual_part(projected, bytes, header.projections),
+                ),
+            }
+        }
+        Reading::Refused { number, place } => Scored::Refused { number, place },
+    }
+}
+
+// The polar sum of a record that is read.
+fn polar_part(directions: &[f32], rotated: &[f32], bytes: &[u8], pairs: usize) -> f32
+    requires { ⌜ (readOf (now bytes) ≡ value (headerOf (now bytes))) × (pairs ≡ pairsOf (now bytes)) ⌝ }
+    ensures { λ r. ⌜ r ≡ polarSum (now (rotated .entry)) (now (directions .entry)) (indicesOf (now (bytes .entry))) (radiiOf (now (bytes .entry))) ⌝ }
+{
+    let mut radii = no_radii();
+    let mut indices = no_indices();
+    packed::read_radii(bytes, &mut radii[0..pairs]);
+    packed::read_indices(bytes, &mut indices[0..pairs]);
+    polar::polar_sum(rotated, directions, &indices[0..pairs], &radii[0..pairs])
+}
+
+// The residual of a record that is read, with the source norm 1.0.
+fn residual_part(projected: &[f32], bytes: &[u8], projections: usize) -> f32
+    requires { ⌜ (readOf (now bytes) ≡ value (headerOf (now bytes))) × (projections ≡ projectionsOf (now bytes)) ⌝ }
+    ensures { λ r. ⌜ r ≡ unitResidual (projectionsOf (now (bytes .entry))) (now (projected .entry)) (signsOf (now (bytes .entry))) ⌝ }
+{
+    let mut signs = no_signs();
+    packed::read_signs(bytes, &mut signs[0..projections]);
+    qjl::residual(projections as u16, 1.0, projected, &signs[0..projections])
+}
+
+// A score, or 12 where it is not finite.
+fn finite_score(score: f32) -> Scored
+    ensures { λ r. ⌜ saysScore r ≡ first (badScore score ∷ []) (value score) ⌝ }
+{
+    if float::is_finite(score) {
+        return Scored::Score(score);
+    }
+    Scored::Refused {
+        number: NON_FINITE_SCORE,
+        place: 0,
+    }
+}
+
+// Room for the radii of a record, of which there are at most 2,048.
+fn no_radii() -> [f32; 2048] {
+    [0.0f32; 2048]
+}
+
+// Room for the indices of a record.
+fn no_indices() -> [u16; 2048] {
+    [0u16; 2048]
+}
+
+// Room for the signs of a record, of which there are at most 4,096.
+fn no_signs() -> [i8; 4096] {
+    [0i8; 4096]
+}

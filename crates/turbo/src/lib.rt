@@ -1,1 +1,0 @@
-// The scores of a record: definitions and laws.
