@@ -8,13 +8,13 @@ use borrow.Author.Tests.{eqb-true, not-false}
 use lib.ListN.{length}
 use lib.Ieee.{Float, nan}
 use Rattle.error.specs.Answer.{first, accepted}
-use Rattle.error.proofs.Chains.{first-passes, first-accepts, append-left, append-right}
+use Rattle.error.proofs.Chains.{first-passes, first-accepts, append-left, append-right, append-passed}
 use Rattle.error.proofs.Places.{each-clear}
 use Rattle.rotation.specs.Checks.{badSign}
 use Rattle.setup.specs.declared.Setup.{Setup}
 use Rattle.setup.specs.declared.TurboMode.the-variants.{PolarOnly}
 use Rattle.setup.specs.Setups.{polarBits, countedProjections, directionsNeeded, matrixNeeded}
-use Rattle.setup.specs.Checks.{badDirection, notFinite, scalarChecks, tableChecks, setupChecks, directionChecks}
+use Rattle.setup.specs.Checks.{badDirection, notFinite, scalarChecks, tableChecks, tableChecksButEntries, entryChecks, setupChecks, setupChecksButEntries, directionChecks}
 use Rattle.setup.specs.Accepted.{Usable, Directions, Accepted}
 use Rattle.setup.proofs.Rows.{passes-finite, entry-below}
 use Rattle.setup.proofs.Scalars.{scalars-usable}
@@ -55,6 +55,20 @@ module _ (s : Setup) (signs directions matrix : List Float) where
   setup-directions e =
       let k = first-passes (tableChecks s signs directions matrix) tt (append-right (scalarChecks s) (tableChecks s signs directions matrix) accepted e) in
       first-accepts (directionChecks s directions) accepted (k .1 .0, (k .1 .1 .1 .1 .0, tt))
+
+-- ---- where all pass but the matrix's entries, which are still to be checked
+
+module _ (s : Setup) (signs directions matrix : List Float) (passed : first (setupChecksButEntries s signs directions matrix) accepted ≡ accepted) where
+  pub but-entries-usable : Usable s
+  but-entries-usable = scalars-usable s (append-left (scalarChecks s) (tableChecksButEntries s signs directions matrix) accepted passed)
+
+  pub but-entries-long : length matrix ≡ matrixNeeded s
+  but-entries-long =
+      let k = first-passes (tableChecksButEntries s signs directions matrix) tt (append-right (scalarChecks s) (tableChecksButEntries s signs directions matrix) accepted passed) in
+      eqb-true (length matrix) (matrixNeeded s) (not-false _ (k .1 .1 .0))
+
+  pub but-entries-rest : first (setupChecks s signs directions matrix) accepted ≡ first (entryChecks matrix) accepted
+  but-entries-rest = append-passed (setupChecksButEntries s signs directions matrix) (entryChecks matrix) tt accepted passed
 
 -- ---- what lies within the tables
 

@@ -47,20 +47,30 @@ scalarChecks s =
     ∷ noPower (s .dim)
     ∷ []
 
--- '.. then 5 for signs, directions, matrix, then 10, 7, 9': the tables. 'The first matrix entry, row by row, that is not finite is named':
--- the matrix is lent row by row, so the entry at row r and column c has index r × n + c
-abbrev pub tableChecks : Setup → List Float → List Float → List Float → List Check
-tableChecks s signs directions matrix =
+-- '.. then 5 for signs, directions, matrix, then 10, 7, ..': the tables, but for the matrix's entries
+abbrev pub tableChecksButEntries : Setup → List Float → List Float → List Float → List Check
+tableChecksButEntries s signs directions matrix =
     wrongInput (length signs) (s .dim)
     ∷ wrongInput (length directions) (directionsNeeded s)
     ∷ wrongInput (length matrix) (matrixNeeded s)
     ∷ each badSign 10 signs
     ∷ each badDirection 7 directions
-    ∷ each notFinite 9 matrix
     ∷ []
+
+-- '.. 9': the matrix's entries. 'The first matrix entry, row by row, that is not finite is named': the matrix is lent row by row, so the
+-- entry at row r and column c has index r × n + c
+abbrev pub entryChecks : List Float → List Check
+entryChecks matrix = each notFinite 9 matrix ∷ []
+
+abbrev pub tableChecks : Setup → List Float → List Float → List Float → List Check
+tableChecks s signs directions matrix = tableChecksButEntries s signs directions matrix ++ entryChecks matrix
 
 abbrev pub setupChecks : Setup → List Float → List Float → List Float → List Check
 setupChecks s signs directions matrix = scalarChecks s ++ tableChecks s signs directions matrix
+
+-- the same, but for the matrix's entries, which are checked last
+abbrev pub setupChecksButEntries : Setup → List Float → List Float → List Float → List Check
+setupChecksButEntries s signs directions matrix = scalarChecks s ++ tableChecksButEntries s signs directions matrix
 
 -- of the table of directions alone, where no signs and no matrix are lent
 abbrev pub directionChecks : Setup → List Float → List Check

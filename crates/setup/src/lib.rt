@@ -18,7 +18,7 @@ ghost use lib.ListN.{length};
 ghost use Rattle.error.specs.Answer.{first, place, accepted};
 ghost use Rattle.error.specs.Outcomes.{says};
 ghost use Rattle.setup.specs.Setups.{polarBits, countedProjections};
-ghost use Rattle.setup.specs.Checks.{outsideBits, outsideProjections, badDirection, notFinite, scalarChecks, tableChecks, setupChecks, directionChecks};
+ghost use Rattle.setup.specs.Checks.{outsideBits, outsideProjections, badDirection, notFinite, scalarChecks, tableChecksButEntries, entryChecks, setupChecks, setupChecksButEntries, directionChecks};
 ghost use Rattle.setup.specs.Sweep.{clear};
 ghost use Rattle.setup.specs.Seeds.{hadamardSeed, matrixSeed};
 
@@ -131,6 +131,17 @@ pub fn check_directions(setup: Setup, directions: &[f32]) -> Outcome
 pub fn check_setup(setup: Setup, signs: &[f32], directions: &[f32], matrix: &[f32]) -> Outcome
     ensures { λ r. ⌜ says r ≡ first (setupChecks setup (now (signs .entry)) (now (directions .entry)) (now (matrix .entry))) accepted ⌝ }
 {
+    let checked = check_but_entries(setup, signs, directions, matrix);
+    match checked {
+        Outcome::Refused { number, place } => Outcome::Refused { number, place },
+        Outcome::Done => check_entries(matrix, counted_projections(setup), setup.dim),
+    }
+}
+
+// The checks of a whole setup but for the matrix's entries, which come last.
+pub fn check_but_entries(setup: Setup, signs: &[f32], directions: &[f32], matrix: &[f32]) -> Outcome
+    ensures { λ r. ⌜ says r ≡ first (setupChecksButEntries setup (now (signs .entry)) (now (directions .entry)) (now (matrix .entry))) accepted ⌝ }
+{
     let scalars = check_scalars(setup);
     match scalars {
         Outcome::Refused { number, place } => Outcome::Refused { number, place },
@@ -220,10 +231,10 @@ fn direction_entries(bits: u8) -> usize
     2 * (1usize << bits)
 }
 
-// The checks of the lent tables, under scalars that pass.
+// The checks of the lent tables but for the matrix's entries, under scalars that pass.
 fn check_tables(setup: Setup, signs: &[f32], directions: &[f32], matrix: &[f32]) -> Outcome
     requires { ⌜ first (scalarChecks setup) accepted ≡ accepted ⌝ }
-    ensures { λ r. ⌜ says r ≡ first (tableChecks setup (now (signs .entry)) (now (directions .entry)) (now (matrix .entry))) accepted ⌝ }
+    ensures { λ r. ⌜ says r ≡ first (tableChecksButEntries setup (now (signs .entry)) (now (directions .entry)) (now (matrix .entry))) accepted ⌝ }
 {
     let dim = setup.dim;
     let rows = counted_projections(setup);
@@ -259,12 +270,20 @@ fn check_tables(setup: Setup, signs: &[f32], directions: &[f32], matrix: &[f32])
             place: direction,
         };
     }
+    Outcome::Done
+}
+
+// The check of the matrix's entries: one pass, and a search for the place only where some entry is not finite.
+fn check_entries(matrix: &[f32], rows: usize, columns: usize) -> Outcome
+    requires { ⌜ rows * columns ≡ length (now matrix) ⌝ }
+    ensures { λ r. ⌜ says r ≡ first (entryChecks (now (matrix .entry))) accepted ⌝ }
+{
     if all_finite(matrix) {
         return Outcome::Done;
     }
     Outcome::Refused {
         number: NON_FINITE_MATRIX,
-        place: first_non_finite_entry(matrix, rows, dim),
+        place: first_non_finite_entry(matrix, rows, columns),
     }
 }
 

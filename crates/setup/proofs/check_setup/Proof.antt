@@ -1,47 +1,56 @@
--- `setup::check_setup` meets its contract: the scalars' checks, and then the tables'. Assumes nothing.
-use mathlib.Core.Path.{sym, ap, _∙_}
-use Rattle.error.specs.Answer.{accepted}
-use Rattle.error.specs.Outcomes.{says}
-use Rattle.setup.specs.Checks.{scalarChecks, tableChecks}
-use Rattle.error.proofs.Chains.{append-passed, append-refused}
+-- `setup::check_setup` meets its contract: all checks but those of the matrix's entries, and then those. Assumes nothing.
+use Prim.Native.Nat.{ℕ, _*_}
+use mathlib.Core.Path.{_≡_, sym, ap, _∙_}
 use borrow.Author.Needs.{needs}
+use Rattle.error.specs.Answer.{first, accepted}
+use Rattle.error.specs.Outcomes.{says}
+use Rattle.error.proofs.Chains.{append-refused}
+use Rattle.setup.specs.Checks.{setupChecksButEntries, entryChecks}
+use Rattle.setup.proofs.Accepted.{but-entries-long, but-entries-rest}
 use Rattle.setup.proofs.check_setup.Statement.{statement}
 use Rattle.setup.proofs.check_setup.Tie as tie
 
-check-scalars-requires : tie.Need-check-scalars-requires
-check-scalars-requires c κs = search needs
+-- what the checks leave, where they are done
+passed : (c : tie.After-enum-told) → first (setupChecksButEntries (c .before .before .before .before .before .before .args .setup) (c .before .before .before .before .before .before .args .signs .now) (c .before .before .before .before .before .before .args .directions .now) (c .before .before .before .before .before .before .args .matrix .now)) accepted ≡ accepted
+passed c = sym (c .before .before .check-but-entries .ensures) ∙ ap says (c .enum-told .given .1)
 
-enum-known-scalars : tie.Need-enum-known-scalars
-enum-known-scalars c = search needs
+check-but-entries-requires : tie.Need-check-but-entries-requires
+check-but-entries-requires c κs = search needs
+
+enum-known-checked : tie.Need-enum-known-checked
+enum-known-checked c = search needs
 
 enum-told : tie.Need-enum-told
 enum-told c = search needs
 
-check-tables-requires : tie.Need-check-tables-requires
-check-tables-requires c κs = sym (c .before .before .check-scalars .ensures) ∙ ap says (c .enum-told .given .1)
+counted-projections-requires : tie.Need-counted-projections-requires
+counted-projections-requires c κs = search needs
+
+check-entries-requires : tie.Need-check-entries-requires
+check-entries-requires c κs =
+    let a = c .before .before .before .before .before .before .before .args in
+    ap (λ (n : ℕ). n * a .setup .dim) (c .counted-projections .ensures) ∙ sym (but-entries-long (a .setup) (a .signs .now) (a .directions .now) (a .matrix .now) (passed (c .before)))
 
 returns : tie.Need-returns
 returns c =
     let a = c .before .before .before .before .before .before .before .args in
     sym
-    (append-refused (scalarChecks (a .setup)) (tableChecks (a .setup) (a .signs .now) (a .directions .now) (a .matrix .now)) tt accepted
-    (sym (c .before .before .before .check-scalars .ensures) ∙ ap says (c .before .scalars .given .1)))
+    (append-refused (setupChecksButEntries (a .setup) (a .signs .now) (a .directions .now) (a .matrix .now)) (entryChecks (a .matrix .now)) tt accepted
+    (sym (c .before .before .before .check-but-entries .ensures) ∙ ap says (c .before .checked .given .1)))
 
 returns-2 : tie.Need-returns-2
 returns-2 c =
-    let a = c .before .before .before .before .before .before .before .args in
-    c .check-tables .ensures
-    ∙ sym
-    (append-passed (scalarChecks (a .setup)) (tableChecks (a .setup) (a .signs .now) (a .directions .now) (a .matrix .now)) tt accepted
-    (sym (c .before .before .before .check-scalars .ensures) ∙ ap says (c .before .enum-told .given .1)))
+    let a = c .before .before .before .before .before .before .before .before .args in
+    c .check-entries .ensures ∙ sym (but-entries-rest (a .setup) (a .signs .now) (a .directions .now) (a .matrix .now) (passed (c .before .before)))
 
 pub check-setup-spec : {M : Type 1} → statement M
 check-setup-spec =
     tie.close
     (tie.spec
-    check-scalars-requires
-    enum-known-scalars
+    check-but-entries-requires
+    enum-known-checked
     enum-told
-    check-tables-requires
+    counted-projections-requires
+    check-entries-requires
     returns
     returns-2)

@@ -11,11 +11,10 @@ use Rattle.error.specs.Answer.{place}
 use Rattle.error.proofs.Places.{each-offends, each-passes}
 use Rattle.rotation.specs.Checks.{badSign}
 use Rattle.setup.specs.Setups.{directionsNeeded, matrixNeeded}
-use Rattle.setup.specs.Checks.{badDirection, notFinite}
+use Rattle.setup.specs.Checks.{badDirection}
 use Rattle.setup.specs.Accepted.{Usable}
 use Rattle.setup.proofs.Lengths.{matrix-fits, length-differs, length-meets}
 use Rattle.setup.proofs.Scalars.{scalars-usable}
-use Rattle.setup.proofs.Sweep.{clear-passes, clear-offends}
 use borrow.Author.Needs.{needs}
 use Rattle.setup.proofs.check_tables.Statement.{statement}
 use Rattle.setup.proofs.check_tables.Tie as tie
@@ -83,17 +82,8 @@ first-bad-direction-requires c κs = search needs
 returns-5 : tie.Need-returns-5
 returns-5 c = simp (signs-long (c .before .before .before .before .before .before .before .before), directions-long (c .before .before .before .before .before), matrix-long (c .before .before .before .before), signs-pass (c .before .before), each-offends badDirection _ (c .before .first-bad-direction .ensures) (c .if5 .taken), c .before .first-bad-direction .ensures)
 
-all-finite-requires : tie.Need-all-finite-requires
-all-finite-requires c κs = search needs
-
 returns-6 : tie.Need-returns-6
-returns-6 c = simp (signs-long (c .before .before .before .before .before .before .before .before .before .before), directions-long (c .before .before .before .before .before .before .before), matrix-long (c .before .before .before .before .before .before), signs-pass (c .before .before .before .before), directions-pass (c .before .before), clear-passes notFinite _ (c .before .all-finite .ensures) (c .if6 .taken))
-
-first-non-finite-entry-requires : tie.Need-first-non-finite-entry-requires
-first-non-finite-entry-requires c κs = search needs
-
-returns-7 : tie.Need-returns-7
-returns-7 c = simp (signs-long (c .before .before .before .before .before .before .before .before .before .before .before), directions-long (c .before .before .before .before .before .before .before .before), matrix-long (c .before .before .before .before .before .before .before), signs-pass (c .before .before .before .before .before), directions-pass (c .before .before .before), clear-offends notFinite _ (c .before .before .all-finite .ensures) (c .before .if6 .left), c .first-non-finite-entry .ensures)
+returns-6 c = simp (signs-long (c .before .before .before .before .before .before .before .before), directions-long (c .before .before .before .before .before), matrix-long (c .before .before .before .before), signs-pass (c .before .before), directions-pass c)
 
 pub check-tables-spec : {M : Type 1} → statement M
 check-tables-spec =
@@ -110,7 +100,4 @@ check-tables-spec =
     returns-4
     first-bad-direction-requires
     returns-5
-    all-finite-requires
-    returns-6
-    first-non-finite-entry-requires
-    returns-7)
+    returns-6)
