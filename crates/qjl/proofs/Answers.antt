@@ -3,13 +3,13 @@ use Prim.Native.Nat.{ℕ, _*_, _≤_, _<_}
 use mathlib.Core.Path.{_≡_, refl, sym, ap, _∙_, subst}
 use mathlib.Core.Bool.{true, false}
 use mathlib.Core.List.{List, [], _∷_, map}
-use borrow.Author.Tests.{eqb-true, not-false, eq-eqb, ne-eqb}
-use lib.Dec.{eqb}
+use borrow.Author.Tests.{eqb-true, not-false, eq-eqb, ne-eqb, ltb-false}
+use lib.Dec.{eqb, ltb}
 use lib.IntN.{ℤ}
 use lib.ListN.{length}
 use lib.Ieee.{Float}
 use lib.Ieee.Scale.{finite}
-use Rattle.error.specs.Answer.{value, refused, first, each, place, accepted}
+use Rattle.error.specs.Answer.{Answer, value, refused, first, each, place, accepted, done, after}
 use Rattle.error.proofs.Chains.{first-passed, first-refused, first-passes, append-passed, append-refused, append-left, append-right}
 use Rattle.error.proofs.Places.{each-offends, each-passes}
 use Rattle.rounding.specs.Value.{posZero}
@@ -18,13 +18,15 @@ use Rattle.setup.specs.declared.Setup.{Setup}
 use Rattle.setup.specs.declared.TurboMode.{TurboMode}
 use Rattle.setup.specs.declared.TurboMode.the-variants.{PolarOnly, PolarWithQjl}
 use Rattle.setup.specs.Setups.{byMode, countedProjections}
-use Rattle.setup.specs.Checks.{notFinite, setupChecks}
+use Rattle.setup.specs.Checks.{notFinite, setupChecks, setupChecksButEntries}
 use Rattle.setup.specs.Accepted.{Accepted}
-use Rattle.setup.proofs.Accepted.{setup-accepted}
+use Rattle.setup.proofs.Accepted.{setup-accepted, but-entries-usable, but-entries-long, but-entries-rest}
 use Rattle.qjl.specs.Projection.{projected, projectOf}
 use Rattle.qjl.specs.Filled.{Rowed}
 use Rattle.qjl.specs.Sketch.{signOf, vectorChecks, sketchOf}
 use Rattle.bitpack.specs.Signs.{notSign}
+use Rattle.qjl.proofs.FiniteSums.{matrix-finite, query-finite}
+use Rattle.qjl.proofs.Rows.{above-zero}
 use Rattle.qjl.specs.Score.{unitResidual, signedScore, modeScore, sketchScoreOf}
 
 -- ---- projecting
@@ -141,6 +143,32 @@ module _ (s : Setup) (signs directions matrix vector : List Float) (room : ℕ) 
   sketch-value e c f =
       let h = f ∙ c in
       sketch-rest e ∙ simp (eq-eqb room (countedProjections s) h) (ap (λ (k : ℕ). value (map signOf (projected (s .dim) k matrix vector))) (sym h))
+
+module _ (s : Setup) (signs directions matrix vector : List Float) where
+  -- after a try that left the output as it was
+  pub sketch-again : (mid old new : List ℤ) (said : Answer (Unit {0})) → mid ≡ old
+      → (said ≡ done (sketchOf s signs directions matrix vector (length mid))) × (new ≡ after (sketchOf s signs directions matrix vector (length mid)) mid)
+      → (said ≡ done (sketchOf s signs directions matrix vector (length old))) × (new ≡ after (sketchOf s signs directions matrix vector (length old)) old)
+  sketch-again mid old new said e h =
+      subst (λ (xs : List ℤ). (said ≡ done (sketchOf s signs directions matrix vector (length xs))) × (new ≡ after (sketchOf s signs directions matrix vector (length xs)) xs)) e h
+
+-- ---- a sketch from finite projections
+
+module _ (s : Setup) (signs directions matrix vector : List Float) (room : ℕ) (passed : first (setupChecksButEntries s signs directions matrix) accepted ≡ accepted) where
+  pub shaped-ready : {counted : ℕ} → length vector ≡ s .dim → counted ≡ countedProjections s → room ≡ counted → Rowed (s .dim) matrix vector room × (room ≤ 4096)
+  shaped-ready {counted} e c f =
+      subst (λ (m : ℕ). Rowed (s .dim) matrix vector m × (m ≤ 4096)) (sym (f ∙ c))
+      (record { query-long = e; matrix-long = but-entries-long s signs directions matrix passed }, but-entries-usable s signs directions matrix passed .most-projections)
+
+  pub shaped-value : {counted : ℕ} → length vector ≡ s .dim → counted ≡ countedProjections s → room ≡ counted → (counted ≡ 0 → ⊥)
+      → ltb (place notFinite (projected (s .dim) room matrix vector)) (length (projected (s .dim) room matrix vector)) ≡ false
+      → sketchOf s signs directions matrix vector room ≡ value (map signOf (projected (s .dim) room matrix vector))
+  shaped-value {counted} e c f some clean =
+      let rowed = shaped-ready e c f .0 in
+      let entries : first (setupChecks s signs directions matrix) accepted ≡ accepted = but-entries-rest s signs directions matrix passed ∙ simp (matrix-finite (s .dim) room matrix vector rowed clean) in
+      let above : 0 < room = rw f (above-zero counted some) in
+      let whole = query-finite (s .dim) room matrix vector rowed clean above in
+      sketch-value s signs directions matrix vector room (vector-passed s signs directions matrix vector {i = place notFinite vector} entries e refl (ltb-false _ _ whole)) c f
 
 -- ---- a sketch score
 

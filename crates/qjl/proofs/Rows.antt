@@ -126,7 +126,7 @@ row-within n m long row e l = let h : suc row * n ≤ m * n = mul-le-mul-right n
 pub product-empty : (whole rows columns : ℕ) → columns ≡ 0 → eqb whole 0 ≡ eqb whole (rows * columns)
 product-empty whole rows columns e = sym (ap (λ (k : ℕ). eqb whole (rows * k)) e ∙ ap (eqb whole) (mul-zero rows))
 
-above-zero : (k : ℕ) → (k ≡ 0 → ⊥) → 0 < k
+pub above-zero : (k : ℕ) → (k ≡ 0 → ⊥) → 0 < k
 above-zero zero h = absurd (h refl)
 above-zero (suc k) h = zero-lt-suc k
 

@@ -1,12 +1,14 @@
 -- The sketch of a vector, the sign of each of its projections, and what a call that sketches answers. Quotes are document 01's.
 -- Assumes nothing.
 use Prim.Native.Nat.{ℕ}
-use mathlib.Core.Bool.{cond}
+use mathlib.Core.Path.{_≡_}
+use mathlib.Core.Bool.{Bool, true, false, cond}
 use mathlib.Core.List.{List, [], _∷_, _++_, map}
+use lib.Dec.{ltb}
 use lib.IntN.{ℤ, pos, negsuc}
 use lib.ListN.{length}
 use lib.Ieee.{Float, le}
-use Rattle.error.specs.Answer.{Answer, value, Check, first, each}
+use Rattle.error.specs.Answer.{Answer, value, Check, first, each, place}
 use Rattle.rounding.specs.Value.{posZero}
 use Rattle.error.specs.Checks.{wrongInput, wrongRoom}
 use Rattle.setup.specs.declared.Setup.{Setup}
@@ -32,3 +34,14 @@ sketchOf s signs directions matrix vector room =
     first
     (vectorChecks s signs directions matrix vector ++ wrongRoom room (countedProjections s) ∷ [])
     (value (map signOf (projected (s .dim) (countedProjections s) matrix vector)))
+
+-- what a call leaves that writes the signs of values only where all of the values are finite, and says whether it did
+pub record FiniteSigns (values : List Float) (old : List ℤ) (wrote : Bool) (new : List ℤ) : Type 0 where
+  pub clean : wrote ≡ true → ltb (place notFinite values) (length values) ≡ false
+  pub signs : wrote ≡ true → new ≡ map signOf values
+  pub kept : wrote ≡ false → new ≡ old
+
+-- what a call leaves that writes the answer's value or nothing, and says whether it did
+pub record AtOnce (answer : Answer (List ℤ)) (old : List ℤ) (wrote : Bool) (new : List ℤ) : Type 0 where
+  pub made : wrote ≡ true → answer ≡ value new
+  pub kept : wrote ≡ false → new ≡ old

@@ -21,7 +21,7 @@ ghost use Rattle.error.specs.Outcomes.{says};
 ghost use Rattle.rounding.specs.Sums.{dot};
 ghost use Rattle.qjl.specs.Projection.{projected, projectOf};
 ghost use Rattle.qjl.specs.Filled.{Filled, FourSoFar, FourDots, fourMore, onRow, Rowed};
-ghost use Rattle.qjl.specs.Sketch.{signOf, vectorChecks, sketchOf};
+ghost use Rattle.qjl.specs.Sketch.{signOf, vectorChecks, sketchOf, FiniteSigns, AtOnce};
 ghost use Rattle.bitpack.specs.Signs.{notSign};
 ghost use Rattle.qjl.specs.Score.{saysScore, scaleOf, signSum, residualOf, signedScore, sketchScoreOf};
 
@@ -60,20 +60,10 @@ pub fn sketch(
     ensures { λ r. ⌜ says r ≡ done (sketchOf setup (now (signs .entry)) (now (directions .entry)) (now (matrix .entry)) (now (vector .entry)) (length (now (out .entry)))) ⌝ }
     ensures { λ _. ⌜ now (out .exit) ≡ after (sketchOf setup (now (signs .entry)) (now (directions .entry)) (now (matrix .entry)) (now (vector .entry)) (length (now (out .entry)))) (now (out .entry)) ⌝ }
 {
-    let checked = check_vector(setup, signs, directions, matrix, vector);
-    if let Outcome::Refused { number, place } = checked {
-        return Outcome::Refused { number, place };
+    if sketch_at_once(setup, signs, directions, matrix, vector, out) {
+        return Outcome::Done;
     }
-    let dim = setup.dim;
-    let rows = setup::counted_projections(setup);
-    if out.len() != rows {
-        return Outcome::Refused {
-            number: OUTPUT_LENGTH,
-            place: rows,
-        };
-    }
-    sketch_rows(dim, matrix, vector, out);
-    Outcome::Done
+    sketch_checked(setup, signs, directions, matrix, vector, out)
 }
 
 // The score of a sketch for a query: the residual with the source norm 1.0, and 0 in `PolarOnly`.
@@ -190,6 +180,88 @@ pub fn check_vector(
             place: bad,
         };
     }
+    Outcome::Done
+}
+
+// The sketch where nothing offends and every sum is finite, and else false with nothing written. A finite sum has finite terms only, so
+// the matrix and the vector need no pass of their own.
+fn sketch_at_once(
+    setup: Setup,
+    signs: &[f32],
+    directions: &[f32],
+    matrix: &[f32],
+    vector: &[f32],
+    out: &mut [i8],
+) -> bool
+    ensures { λ r. ⌜ AtOnce (sketchOf setup (now (signs .entry)) (now (directions .entry)) (now (matrix .entry)) (now (vector .entry)) (length (now (out .entry)))) (now (out .entry)) r (now (out .exit)) ⌝ }
+{
+    let checked = setup::check_but_entries(setup, signs, directions, matrix);
+    if let Outcome::Refused { number, place } = checked {
+        return false;
+    }
+    let dim = setup.dim;
+    let rows = setup::counted_projections(setup);
+    if vector.len() != dim {
+        return false;
+    }
+    if rows == 0 {
+        return false;
+    }
+    if out.len() != rows {
+        return false;
+    }
+    sketch_finite(dim, matrix, vector, out)
+}
+
+// The sign of each projection, into the output, where all of them are finite, and else false with nothing written.
+fn sketch_finite(dim: usize, matrix: &[f32], vector: &[f32], out: &mut [i8]) -> bool
+    requires { ⌜ Rowed dim (now matrix) (now vector) (length (now out)) × (length (now out) ≤ 4096) ⌝ }
+    ensures { λ r. ⌜ FiniteSigns (projected dim (length (now (out .entry))) (now (matrix .entry)) (now (vector .entry))) (now (out .entry)) r (now (out .exit)) ⌝ }
+{
+    let rows = out.len();
+    let mut values = zeros();
+    fill(dim, matrix, vector, &mut values[0..rows]);
+    finite_signs_into(&values[0..rows], out)
+}
+
+// The sign of each value, into the output, where all of them are finite, and else false with nothing written.
+fn finite_signs_into(values: &[f32], out: &mut [i8]) -> bool
+    requires { ⌜ length (now out) ≡ length (now values) ⌝ }
+    ensures { λ r. ⌜ FiniteSigns (now (values .entry)) (now (out .entry)) r (now (out .exit)) ⌝ }
+{
+    let bad = setup::first_non_finite(values);
+    if bad < values.len() {
+        return false;
+    }
+    signs_into(values, out);
+    true
+}
+
+// The sketch, check by check.
+fn sketch_checked(
+    setup: Setup,
+    signs: &[f32],
+    directions: &[f32],
+    matrix: &[f32],
+    vector: &[f32],
+    out: &mut [i8],
+) -> Outcome
+    ensures { λ r. ⌜ says r ≡ done (sketchOf setup (now (signs .entry)) (now (directions .entry)) (now (matrix .entry)) (now (vector .entry)) (length (now (out .entry)))) ⌝ }
+    ensures { λ _. ⌜ now (out .exit) ≡ after (sketchOf setup (now (signs .entry)) (now (directions .entry)) (now (matrix .entry)) (now (vector .entry)) (length (now (out .entry)))) (now (out .entry)) ⌝ }
+{
+    let checked = check_vector(setup, signs, directions, matrix, vector);
+    if let Outcome::Refused { number, place } = checked {
+        return Outcome::Refused { number, place };
+    }
+    let dim = setup.dim;
+    let rows = setup::counted_projections(setup);
+    if out.len() != rows {
+        return Outcome::Refused {
+            number: OUTPUT_LENGTH,
+            place: rows,
+        };
+    }
+    sketch_rows(dim, matrix, vector, out);
     Outcome::Done
 }
 
