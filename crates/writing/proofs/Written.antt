@@ -68,14 +68,17 @@ module _ (profile : RadiusCodecProfileV1) (dim bits : ℕ) (mode : TurboMode) (m
 -- ---- the writer's answers
 
 module _ (profile : RadiusCodecProfileV1) (dim bits : ℕ) (mode : TurboMode) (m : ℕ) (radii : List Float) (indices : List ℕ) (signs : List ℤ) (room : ℕ) where
-  pub write-fields : {n p : ℕ} → first (fieldChecks profile dim bits mode m (length radii) (length indices) (length signs)) accepted ≡ refused n p → writeOf profile dim bits mode m radii indices signs room ≡ refused n p
+  -- the scalars and lengths, then the values, then the output's length
+  order : writeOf profile dim bits mode m radii indices signs room ≡ first (fieldChecks profile dim bits mode m (length radii) (length indices) (length signs) ++ (valueChecks profile bits radii indices signs ++ (wrongRoom room (neededFor profile dim bits mode m) ∷ []))) (value (recordOf profile dim bits mode m radii indices signs))
   unfolding writeOf
-  write-fields e = append-refused (fieldChecks profile dim bits mode m (length radii) (length indices) (length signs)) (valueChecks profile bits radii indices signs ++ (wrongRoom room (neededFor profile dim bits mode m) ∷ [])) tt (value (recordOf profile dim bits mode m radii indices signs)) e
+  order = refl
+
+  pub write-fields : {n p : ℕ} → first (fieldChecks profile dim bits mode m (length radii) (length indices) (length signs)) accepted ≡ refused n p → writeOf profile dim bits mode m radii indices signs room ≡ refused n p
+  write-fields e = order ∙ append-refused (fieldChecks profile dim bits mode m (length radii) (length indices) (length signs)) (valueChecks profile bits radii indices signs ++ (wrongRoom room (neededFor profile dim bits mode m) ∷ [])) tt (value (recordOf profile dim bits mode m radii indices signs)) e
 
   module _ (pass : first (fieldChecks profile dim bits mode m (length radii) (length indices) (length signs)) accepted ≡ accepted) where
     values : writeOf profile dim bits mode m radii indices signs room ≡ first (valueChecks profile bits radii indices signs ++ (wrongRoom room (neededFor profile dim bits mode m) ∷ [])) (value (recordOf profile dim bits mode m radii indices signs))
-    unfolding writeOf
-    values = append-passed (fieldChecks profile dim bits mode m (length radii) (length indices) (length signs)) (valueChecks profile bits radii indices signs ++ (wrongRoom room (neededFor profile dim bits mode m) ∷ [])) tt (value (recordOf profile dim bits mode m radii indices signs)) pass
+    values = order ∙ append-passed (fieldChecks profile dim bits mode m (length radii) (length indices) (length signs)) (valueChecks profile bits radii indices signs ++ (wrongRoom room (neededFor profile dim bits mode m) ∷ [])) tt (value (recordOf profile dim bits mode m radii indices signs)) pass
 
     pub write-values : {n p : ℕ} → first (valueChecks profile bits radii indices signs) accepted ≡ refused n p → writeOf profile dim bits mode m radii indices signs room ≡ refused n p
     write-values e = values ∙ append-refused (valueChecks profile bits radii indices signs) (wrongRoom room (neededFor profile dim bits mode m) ∷ []) tt (value (recordOf profile dim bits mode m radii indices signs)) e
