@@ -1,16 +1,20 @@
 // Runs document 01's worked examples through the library and prints each beside what is expected of it.
 use bitpack::Length;
 use error::Outcome;
+use packed::Reading;
 use polar::Angle;
 use radius::Compressed;
 use radius::RadiusCodecProfileV1;
 use radius::Range;
+use setup::TurboMode;
 
 fn main() {
     packing();
     signs();
     numbers();
     radii();
+    record();
+    record_with_signs();
 }
 
 // P1 to P4 and P7, and the lengths.
@@ -124,6 +128,107 @@ fn radii() {
     verdict(b"00000000 33000080, the second is near 2^-25");
 }
 
+// P12, written and read back.
+fn record() {
+    let one = [1.0f32];
+    let index = [1u16];
+    let none = [0i8; 0];
+    let mut made = [0u8; 11];
+    let written = writing::write_record(
+        RadiusCodecProfileV1::F32,
+        2,
+        1,
+        TurboMode::PolarOnly,
+        0,
+        &one,
+        &index,
+        &none,
+        &mut made,
+    );
+    title(b"P12 the record of n 2, 1 bit, radius 1, index 1: ");
+    answer(written, &made);
+    verdict(b"00 02 00 00 00 01 00 00 80 3f 01");
+    header(&made);
+    verdict(b"n 2, 1 bits, 0 projections, radii at 6, indices at 10, signs at 11, end at 11");
+    values(&made);
+    verdict(b"3f800000, which is 1");
+    codes(&made);
+    verdict(b"1");
+    let mut signs = [0i8; 0];
+    title(b"    its signs: ");
+    plus_minus(packed::read_signs(&made, &mut signs), &signs);
+    verdict(b"no signs");
+}
+
+// P13, written and read back.
+fn record_with_signs() {
+    let one = [1.0f32];
+    let index = [1u16];
+    let three = [1i8, -1, 1];
+    let mut made = [0u8; 16];
+    let written = writing::write_record(
+        RadiusCodecProfileV1::F32,
+        2,
+        1,
+        TurboMode::PolarWithQjl,
+        3,
+        &one,
+        &index,
+        &three,
+        &mut made,
+    );
+    title(b"P13 the same with signs (+, -, +): ");
+    answer(written, &made);
+    verdict(b"02 02 00 00 00 01 03 00 00 00 00 00 80 3f 01 05");
+    header(&made);
+    verdict(b"n 2, 1 bits, 3 projections, radii at 10, indices at 14, signs at 15, end at 16");
+    values(&made);
+    verdict(b"3f800000, which is 1");
+    codes(&made);
+    verdict(b"1");
+    let mut signs = [0i8; 3];
+    title(b"    its signs: ");
+    plus_minus(packed::read_signs(&made, &mut signs), &signs);
+    verdict(b"+ - +");
+}
+
+// What the header of a record says, or the record's refusal.
+fn header(made: &[u8]) {
+    title(b"    its header: ");
+    match packed::read_record(made) {
+        Reading::Read(found) => {
+            field(b"n ", found.dim as u64);
+            field(b", ", found.bits as u64);
+            field(b" bits, ", found.projections as u64);
+            field(b" projections, radii at ", found.radii as u64);
+            field(b", indices at ", found.indices as u64);
+            field(b", signs at ", found.signs as u64);
+            field(b", end at ", found.end as u64);
+        }
+        Reading::Refused { number, place } => refusal(number, place),
+    }
+}
+
+// A field of a header, behind what names it.
+fn field(name: &[u8], n: u64) {
+    io::write_all(1, name);
+    io::print_decimal(1, n);
+}
+
+// The radius of a record that has one.
+fn values(made: &[u8]) {
+    let mut radius = [0.0f32; 1];
+    title(b"    its radius: ");
+    floats(packed::read_radii(made, &mut radius), &radius);
+}
+
+// The index of a record that has one.
+fn codes(made: &[u8]) {
+    let mut index = [0u16; 1];
+    title(b"    its index: ");
+    indices(packed::read_indices(made, &mut index), &index);
+}
+
 // The text that names an example.
 fn title(text: &[u8]) {
     io::write_all(1, text);
@@ -187,6 +292,55 @@ fn floats(outcome: Outcome, written: &[f32]) {
         pattern(float::to_bits(written[i]));
         i += 1;
     }
+}
+
+// The indices that a call wrote, or its refusal.
+fn indices(outcome: Outcome, written: &[u16]) {
+    if let Outcome::Refused { number, place } = outcome {
+        refusal(number, place);
+        return;
+    }
+    let mut i = 0;
+    while i < written.len() {
+        if 0 < i {
+            io::write_all(1, b" ");
+        }
+        io::print_decimal(1, wide_index(written[i]));
+        i += 1;
+    }
+}
+
+fn wide_index(index: u16) -> u64 {
+    index as u64
+}
+
+// The signs that a call wrote, + or -, or its refusal.
+fn plus_minus(outcome: Outcome, written: &[i8]) {
+    if let Outcome::Refused { number, place } = outcome {
+        refusal(number, place);
+        return;
+    }
+    let mut i = 0;
+    while i < written.len() {
+        if 0 < i {
+            io::write_all(1, b" ");
+        }
+        sign(written[i]);
+        i += 1;
+    }
+}
+
+// A sign, or the mark of what is none.
+fn sign(s: i8) {
+    if s == 1 {
+        io::write_all(1, b"+");
+        return;
+    }
+    if s == -1 {
+        io::write_all(1, b"-");
+        return;
+    }
+    io::write_all(1, b"?");
 }
 
 // A length, or its refusal.

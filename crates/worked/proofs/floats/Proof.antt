@@ -17,62 +17,48 @@ Inv-loop written i₀ t6 i = i ≤ length written
 abbrev μ-loop : tie.MeasureT-loop
 μ-loop written i₀ t6 i = length written - i
 
--- src/show.rt:57:31
 enum-known-outcome : tie.Need-enum-known-outcome Inv-loop μ-loop
 enum-known-outcome c = search needs
 
--- src/show.rt:58:9
 refusal-requires : tie.Need-refusal-requires Inv-loop μ-loop
 refusal-requires c κs = search needs
 
--- src/show.rt:59:9
 returns : tie.Need-returns Inv-loop μ-loop
 returns c = search needs
 
 enum-told : tie.Need-enum-told Inv-loop μ-loop
 enum-told c = search needs
 
--- src/show.rt:62:5
 loop-holds : tie.Need-loop-holds Inv-loop μ-loop
 loop-holds c = search needs
 
--- src/show.rt:64:30
 slice-aggregate-write-all : tie.Need-slice-aggregate-write-all Inv-loop μ-loop
 slice-aggregate-write-all c = search needs
 
--- src/show.rt:64:13
 write-all-requires : tie.Need-write-all-requires Inv-loop μ-loop
 write-all-requires c κs = search needs
 
--- src/show.rt:66:32
 mul-to-bits : tie.Need-mul-to-bits Inv-loop μ-loop
 mul-to-bits c = search needs
 
--- src/show.rt:66:32
 shared-slice-read-to-bits : tie.Need-shared-slice-read-to-bits Inv-loop μ-loop
 shared-slice-read-to-bits c = search needs
 
--- src/show.rt:66:17
 to-bits-requires : tie.Need-to-bits-requires Inv-loop μ-loop
 to-bits-requires c κs = search needs
 
--- src/show.rt:66:9
 pattern-requires : tie.Need-pattern-requires Inv-loop μ-loop
 pattern-requires c κs = search needs
 
--- src/show.rt:67:9
 add-i : tie.Need-add-i Inv-loop μ-loop
 add-i c = search needs
 
--- src/show.rt:62:5
 loop-less : tie.Need-loop-less Inv-loop μ-loop
 loop-less c = search needs
 
--- src/show.rt:62:5
 loop-again : tie.Need-loop-again Inv-loop μ-loop
 loop-again c = search needs
 
--- src/show.rt:56:1
 returns-2 : tie.Need-returns-2 Inv-loop μ-loop
 returns-2 c = search needs
 
