@@ -1,0 +1,12 @@
+pub mod Ranges
+pub mod Inputs
+pub mod Fields
+pub mod Payloads
+pub mod WrittenAccepted
+pub mod RoundTrip
+pub mod Parts
+pub mod TakenApart
+pub mod Rewritten
+pub mod NotBelow
+pub mod LinearRadius
+pub mod LinearRecord

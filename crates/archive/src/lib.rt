@@ -1,0 +1,1 @@
+// Round trips of a record: laws over the reader and the writer.
