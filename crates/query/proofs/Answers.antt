@@ -100,21 +100,6 @@ module _ (s : Setup) (signs directions matrix query : List Float) (passed : firs
 -- ---- preparing
 
 module _ (s : Setup) (signs directions matrix query : List Float) (rotated projected : List Float) where
-  -- a query that is refused
-  module _ {number place : ℕ} (e : first (vectorChecks s signs directions matrix query) accepted ≡ refused number place) where
-    pub rotated-refused : rotatedOf s signs directions matrix query (length rotated) (length projected) ≡ refused number place
-    unfolding rotatedOf
-    rotated-refused = append-refused (vectorChecks s signs directions matrix query) (handedChecks (s .dim) (countedProjections s) (rotatedQuery s signs query) (projectedQuery s matrix query) (length rotated) (length projected)) tt _ e
-
-    pub projected-refused : projectedOf s signs directions matrix query (length rotated) (length projected) ≡ refused number place
-    unfolding projectedOf
-    projected-refused = append-refused (vectorChecks s signs directions matrix query) (handedChecks (s .dim) (countedProjections s) (rotatedQuery s signs query) (projectedQuery s matrix query) (length rotated) (length projected)) tt _ e
-
-    pub prepare-refused : (refused number place ≡ done (rotatedOf s signs directions matrix query (length rotated) (length projected)))
-        × ((rotated ≡ after (rotatedOf s signs directions matrix query (length rotated) (length projected)) rotated)
-        × (projected ≡ after (projectedOf s signs directions matrix query (length rotated) (length projected)) projected))
-    prepare-refused = (sym (done-refused _ rotated-refused), (sym (after-refused _ rotated rotated-refused), sym (after-refused _ projected projected-refused)))
-
   -- a query that has passed its checks: what is handed over decides
   module _ (e : first (vectorChecks s signs directions matrix query) accepted ≡ accepted) where
     pub rotated-passed : rotatedOf s signs directions matrix query (length rotated) (length projected)
@@ -135,3 +120,18 @@ module _ (s : Setup) (signs directions matrix query : List Float) (rotated proje
       h .answer ∙ sym (ap done rotated-passed ∙ first-done (handedChecks (s .dim) (countedProjections s) (rotatedQuery s signs query) (projectedQuery s matrix query) (length rotated) (length projected)) (rotatedQuery s signs query)),
       (h .rotated-after ∙ sym (ap (λ (a : Answer (List Float)). after a rotated) rotated-passed), h .projected-after ∙ sym (ap (λ (a : Answer (List Float)). after a projected) projected-passed)),
     )
+
+  -- a query that is refused
+  module _ {number place : ℕ} (e : first (vectorChecks s signs directions matrix query) accepted ≡ refused number place) where
+    pub rotated-refused : rotatedOf s signs directions matrix query (length rotated) (length projected) ≡ refused number place
+    unfolding rotatedOf
+    rotated-refused = append-refused (vectorChecks s signs directions matrix query) (handedChecks (s .dim) (countedProjections s) (rotatedQuery s signs query) (projectedQuery s matrix query) (length rotated) (length projected)) tt _ e
+
+    pub projected-refused : projectedOf s signs directions matrix query (length rotated) (length projected) ≡ refused number place
+    unfolding projectedOf
+    projected-refused = append-refused (vectorChecks s signs directions matrix query) (handedChecks (s .dim) (countedProjections s) (rotatedQuery s signs query) (projectedQuery s matrix query) (length rotated) (length projected)) tt _ e
+
+    pub prepare-refused : (refused number place ≡ done (rotatedOf s signs directions matrix query (length rotated) (length projected)))
+        × ((rotated ≡ after (rotatedOf s signs directions matrix query (length rotated) (length projected)) rotated)
+        × (projected ≡ after (projectedOf s signs directions matrix query (length rotated) (length projected)) projected))
+    prepare-refused = (sym (done-refused _ rotated-refused), (sym (after-refused _ rotated rotated-refused), sym (after-refused _ projected projected-refused)))
