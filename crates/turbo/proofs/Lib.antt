@@ -1,0 +1,4 @@
+pub mod Demand
+pub mod Answers
+pub mod Prepared
+pub mod Norms

@@ -1,0 +1,40 @@
+-- `turbo::inner_product_estimate_prepared` meets its contract: a prepared query that passes its checks is scored. Assumes nothing.
+use mathlib.Core.Path.{sym, ap, _∙_}
+use borrow.Author.Needs.{needs}
+use Rattle.error.specs.Outcomes.{says}
+use Rattle.turbo.proofs.Answers.{prepared-refused, prepared-passed}
+use Rattle.turbo.proofs.inner_product_estimate_prepared.Statement.{statement}
+use Rattle.turbo.proofs.inner_product_estimate_prepared.Tie as tie
+
+check-prepared-requires : tie.Need-check-prepared-requires
+check-prepared-requires c κs = search needs
+
+enum-known-checked : tie.Need-enum-known-checked
+enum-known-checked c = search needs
+
+returns : tie.Need-returns
+returns c = let k = c .before .before .before in
+    let a = k .before .before .before .before .before .args in
+    sym (prepared-refused (a .setup) (a .directions .now) (a .rotated .now) (a .projected .now) (a .bytes .now) (sym (k .check-prepared .ensures) ∙ ap says (c .before .checked .given .1)))
+
+enum-told : tie.Need-enum-told
+enum-told c = search needs
+
+record-score-requires : tie.Need-record-score-requires
+record-score-requires c κs = search needs
+
+returns-2 : tie.Need-returns-2
+returns-2 c = let k = c .before .before .before in
+    let a = k .before .before .before .before .before .args in
+    c .record-score .ensures ∙ sym (prepared-passed (a .setup) (a .directions .now) (a .rotated .now) (a .projected .now) (a .bytes .now) (sym (k .check-prepared .ensures) ∙ ap says (c .before .enum-told .given .1)))
+
+pub inner-product-estimate-prepared-spec : {M : Type 1} → statement M
+inner-product-estimate-prepared-spec =
+    tie.close
+    (tie.spec
+    check-prepared-requires
+    enum-known-checked
+    returns
+    enum-told
+    record-score-requires
+    returns-2)

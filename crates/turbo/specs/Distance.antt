@@ -1,0 +1,33 @@
+-- The squared distance of a record from a query. Document 01: 'both squared norms, less 2 × score, and 0 where that is not greater than zero, minus infinity
+-- included, or is NaN; plus infinity is 12.' 'A distance adds its own 12 last.' Assumes nothing.
+use Prim.Native.Nat.{ℕ}
+use mathlib.Core.Bool.{false, cond}
+use mathlib.Core.List.{List, [], _∷_, _++_}
+use lib.IntN.{pos}
+use lib.Ieee.{Float, fin, binary32, add, sub, mul, lt}
+use Rattle.error.specs.Answer.{Answer, value, Check, first}
+use Rattle.rounding.specs.Sums.{dot}
+use Rattle.rounding.specs.Value.{posZero}
+use Rattle.setup.specs.declared.Setup.{Setup}
+use Rattle.qjl.specs.Score.{badScore}
+use Rattle.packed.specs.Reading.{radiiOf}
+use Rattle.order.specs.Scores.{Lent}
+use Rattle.turbo.specs.Estimates.{estimate, estimateChecks}
+
+-- a squared norm: 'Sums run in index order from +0.0.'
+abbrev pub squaredNorm : List Float → Float
+squaredNorm xs = dot xs xs
+
+-- 'both squared norms, less 2 × score', each step rounded: the query's and the radii's
+unfoldable pub apart : List Float → List Float → Float → Float
+apart query radii score = sub binary32 (add binary32 (squaredNorm query) (squaredNorm radii)) (mul binary32 (fin false 1 (pos 1)) score)
+
+-- '0 where that is not greater than zero, minus infinity included, or is NaN'
+unfoldable pub cutAtZero : Float → Float
+cutAtZero x = cond (lt posZero x) x posZero
+
+abbrev pub distance : Setup → Lent → List ℕ → Float
+distance s l bytes = cutAtZero (apart (l .query) (radiiOf bytes) (estimate s l bytes))
+
+unfoldable pub distanceOf : Setup → Lent → List ℕ → Answer Float
+distanceOf s l bytes = first (estimateChecks s l bytes ++ (badScore (distance s l bytes) ∷ [])) (value (distance s l bytes))
