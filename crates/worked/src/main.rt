@@ -1,11 +1,13 @@
-// Runs document 01's worked examples through the library and prints each beside what is expected of it.
+// Runs document 01's worked examples through the library and prints each beside what is expected of it; then a small whole job: an archive under a query.
 use bitpack::Length;
 use error::Outcome;
 use packed::Reading;
 use polar::Angle;
+use qjl::Scored;
 use radius::Compressed;
 use radius::RadiusCodecProfileV1;
 use radius::Range;
+use setup::Setup;
 use setup::TurboMode;
 
 fn main() {
@@ -15,6 +17,7 @@ fn main() {
     radii();
     record();
     record_with_signs();
+    job();
 }
 
 // P1 to P4 and P7, and the lengths.
@@ -227,6 +230,270 @@ fn codes(made: &[u8]) {
     let mut index = [0u16; 1];
     title(b"    its index: ");
     indices(packed::read_indices(made, &mut index), &index);
+}
+
+// A small whole job: an archive of four records, in both modes and both radius forms, and a damaged copy, under a query.
+fn job() {
+    title(b"\nAn archive under the query (1, 2, 3, 4), n 4, rotation signs (+, -, +, +)\n");
+    prepared_query();
+    plain_records();
+    records_with_signs();
+}
+
+// The setups: 2 bits without residual, and 3 bits of which one is a sketch of 3 projections.
+fn plain() -> Setup {
+    Setup {
+        mode: TurboMode::PolarOnly,
+        dim: 4,
+        bits: 2,
+        projections: 0,
+    }
+}
+
+fn residual() -> Setup {
+    Setup {
+        mode: TurboMode::PolarWithQjl,
+        dim: 4,
+        bits: 3,
+        projections: 3,
+    }
+}
+
+// What the host lends: signs, the directions of 2 bits, three rows of a matrix; and the query.
+fn turns() -> [f32; 4] {
+    [1.0f32, -1.0, 1.0, 1.0]
+}
+
+fn compass() -> [f32; 8] {
+    [-1.0f32, 0.0, 0.0, -1.0, 1.0, 0.0, 0.0, 1.0]
+}
+
+fn rows() -> [f32; 12] {
+    [
+        0.5f32,
+        -1.0,
+        0.25,
+        2.0,
+        1.0,
+        1.0,
+        -0.5,
+        0.75,
+        -2.0,
+        0.125,
+        1.5,
+        -1.0,
+    ]
+}
+
+fn asked() -> [f32; 4] {
+    [1.0f32, 2.0, 3.0, 4.0]
+}
+
+// The query, rotated and projected.
+fn prepared_query() {
+    let signs = turns();
+    let directions = compass();
+    let matrix = rows();
+    let query = asked();
+    let mut rotated = [0.0f32; 4];
+    let mut projected = [0.0f32; 3];
+    let made = query::prepare_query(
+        residual(),
+        &signs,
+        &directions,
+        &matrix,
+        &query,
+        &mut rotated,
+        &mut projected,
+    );
+    title(b"    rotated: ");
+    floats(made, &rotated);
+    verdict(b"40400000 3f800000 c0800000 40000000, which is (3, 1, -4, 2)");
+    title(b"    projected: ");
+    floats(made, &projected);
+    verdict(b"40e80000 40900000 bfa00000, which is (7.25, 4.5, -1.25)");
+}
+
+// Records without signs, a damaged one, and one under a setup that is not its own.
+fn plain_records() {
+    let none = [0i8; 0];
+    let mut first = [0u8; 15];
+    let mut second = [0u8; 19];
+    let one_two = [1.0f32, 2.0];
+    let half = [0.5f32, 1.5];
+    let up = [2u16, 3];
+    let down = [0u16, 1];
+    let wrote = writing::write_record(
+        RadiusCodecProfileV1::F32,
+        4,
+        2,
+        TurboMode::PolarOnly,
+        0,
+        &one_two,
+        &up,
+        &none,
+        &mut first,
+    );
+    title(b"R1  radii (1, 2), F32: ");
+    answer(wrote, &first);
+    verdict(b"00 04 00 00 00 02 00 00 80 3f 00 00 00 40 0e");
+    score_plain(&first);
+    verdict(b"40e00000, which is 7");
+    distance_plain(&first);
+    verdict(b"41a80000, which is 21");
+    decoded_plain(&first);
+    verdict(b"3fc00000 3f000000 bf000000 3fc00000, which is (1.5, 0.5, -0.5, 1.5)");
+    let also = writing::write_record(
+        RadiusCodecProfileV1::BlockLinearU16,
+        4,
+        2,
+        TurboMode::PolarOnly,
+        0,
+        &half,
+        &down,
+        &none,
+        &mut second,
+    );
+    title(b"R2  radii (0.5, 1.5), linear: ");
+    answer(also, &second);
+    verdict(b"01 04 00 00 00 02 00 00 00 3f 00 00 c0 3f 00 00 ff ff 04");
+    score_plain(&second);
+    verdict(b"c0900000, which is -4.5");
+    distance_plain(&second);
+    verdict(b"42260000, which is 41.5");
+    first[14] = 0x8E;
+    title(b"R1 with a padding bit set\n");
+    score_plain(&first);
+    verdict(b"refused 14 at 0");
+    title(b"R2 under the setup with residual\n");
+    score_residual(&second);
+    verdict(b"refused 20 at 0");
+}
+
+// Records with signs.
+fn records_with_signs() {
+    let mut third = [0u8; 20];
+    let mut fourth = [0u8; 24];
+    let one_two = [1.0f32, 2.0];
+    let quarter = [0.25f32, 3.0];
+    let up = [2u16, 3];
+    let back = [3u16, 2];
+    let alternating = [1i8, -1, 1];
+    let late = [-1i8, -1, 1];
+    let wrote = writing::write_record(
+        RadiusCodecProfileV1::F32,
+        4,
+        2,
+        TurboMode::PolarWithQjl,
+        3,
+        &one_two,
+        &up,
+        &alternating,
+        &mut third,
+    );
+    title(b"R3  R1 with signs (+, -, +): ");
+    answer(wrote, &third);
+    verdict(b"02 04 00 00 00 02 03 00 00 00 00 00 80 3f 00 00 00 40 0e 05");
+    score_residual(&third);
+    verdict(b"40f40d93, which is near 7.6267");
+    distance_residual(&third);
+    verdict(b"419df936, which is near 19.7467");
+    score_prepared(&third);
+    verdict(b"40f40d93, the same");
+    let also = writing::write_record(
+        RadiusCodecProfileV1::BlockLinearU16,
+        4,
+        2,
+        TurboMode::PolarWithQjl,
+        3,
+        &quarter,
+        &back,
+        &late,
+        &mut fourth,
+    );
+    title(b"R4  radii (0.25, 3), linear, with signs (-, -, +): ");
+    answer(also, &fourth);
+    verdict(b"03 04 00 00 00 02 00 00 80 3e 00 00 40 40 03 00 00 00 00 00 ff ff 0b 04");
+    score_residual(&fourth);
+    verdict(b"c18972bf, which is near -17.181");
+    distance_residual(&fourth);
+    verdict(b"4292d960, which is near 73.4246");
+}
+
+// The score of a record under the setup without residual.
+fn score_plain(made: &[u8]) {
+    let signs = turns();
+    let directions = compass();
+    let none = [0.0f32; 0];
+    let query = asked();
+    title(b"    its score: ");
+    scored(turbo::inner_product_estimate(plain(), &signs, &directions, &none, &query, made));
+}
+
+// Its distance from the query.
+fn distance_plain(made: &[u8]) {
+    let signs = turns();
+    let directions = compass();
+    let none = [0.0f32; 0];
+    let query = asked();
+    title(b"    its distance: ");
+    scored(turbo::l2_distance_estimate(plain(), &signs, &directions, &none, &query, made));
+}
+
+// The vector that it stands for.
+fn decoded_plain(made: &[u8]) {
+    let signs = turns();
+    let directions = compass();
+    let none = [0.0f32; 0];
+    let mut vector = [0.0f32; 4];
+    title(b"    decoded: ");
+    floats(
+        decode::decode_approximate(plain(), &signs, &directions, &none, made, &mut vector),
+        &vector,
+    );
+}
+
+// The score of a record under the setup with residual.
+fn score_residual(made: &[u8]) {
+    let signs = turns();
+    let directions = compass();
+    let matrix = rows();
+    let query = asked();
+    title(b"    its score: ");
+    scored(turbo::inner_product_estimate(residual(), &signs, &directions, &matrix, &query, made));
+}
+
+// Its distance from the query.
+fn distance_residual(made: &[u8]) {
+    let signs = turns();
+    let directions = compass();
+    let matrix = rows();
+    let query = asked();
+    title(b"    its distance: ");
+    scored(turbo::l2_distance_estimate(residual(), &signs, &directions, &matrix, &query, made));
+}
+
+// The score of a record by the prepared query.
+fn score_prepared(made: &[u8]) {
+    let directions = compass();
+    let rotated = [3.0f32, 1.0, -4.0, 2.0];
+    let projected = [7.25f32, 4.5, -1.25];
+    title(b"    its score by the prepared query: ");
+    scored(turbo::inner_product_estimate_prepared(
+        residual(),
+        &directions,
+        &rotated,
+        &projected,
+        made,
+    ));
+}
+
+// A score's pattern, or its refusal.
+fn scored(answer: Scored) {
+    match answer {
+        Scored::Score(x) => pattern(float::to_bits(x)),
+        Scored::Refused { number, place } => refusal(number, place),
+    }
 }
 
 // The text that names an example.
