@@ -236,8 +236,11 @@ fn codes(made: &[u8]) {
 fn job() {
     title(b"\nAn archive under the query (1, 2, 3, 4), n 4, rotation signs (+, -, +, +)\n");
     prepared_query();
-    plain_records();
-    records_with_signs();
+    first_record();
+    second_record();
+    damaged_record();
+    third_record();
+    fourth_record();
 }
 
 // The setups: 2 bits without residual, and 3 bits of which one is a sketch of 3 projections.
@@ -314,109 +317,122 @@ fn prepared_query() {
     verdict(b"40e80000 40900000 bfa00000, which is (7.25, 4.5, -1.25)");
 }
 
-// Records without signs, a damaged one, and one under a setup that is not its own.
-fn plain_records() {
+// Radii as they are, without signs.
+fn first_record() {
     let none = [0i8; 0];
-    let mut first = [0u8; 15];
-    let mut second = [0u8; 19];
-    let one_two = [1.0f32, 2.0];
-    let half = [0.5f32, 1.5];
-    let up = [2u16, 3];
-    let down = [0u16, 1];
+    let radii = [1.0f32, 2.0];
+    let indices = [2u16, 3];
+    let mut made = [0u8; 15];
     let wrote = writing::write_record(
         RadiusCodecProfileV1::F32,
         4,
         2,
         TurboMode::PolarOnly,
         0,
-        &one_two,
-        &up,
+        &radii,
+        &indices,
         &none,
-        &mut first,
+        &mut made,
     );
     title(b"R1  radii (1, 2), F32: ");
-    answer(wrote, &first);
+    answer(wrote, &made);
     verdict(b"00 04 00 00 00 02 00 00 80 3f 00 00 00 40 0e");
-    score_plain(&first);
+    score_plain(&made);
     verdict(b"40e00000, which is 7");
-    distance_plain(&first);
+    distance_plain(&made);
     verdict(b"41a80000, which is 21");
-    decoded_plain(&first);
+    decoded_plain(&made);
     verdict(b"3fc00000 3f000000 bf000000 3fc00000, which is (1.5, 0.5, -0.5, 1.5)");
-    let also = writing::write_record(
+}
+
+// Linear radii, without signs.
+fn second_record() {
+    let none = [0i8; 0];
+    let radii = [0.5f32, 1.5];
+    let indices = [0u16, 1];
+    let mut made = [0u8; 19];
+    let wrote = writing::write_record(
         RadiusCodecProfileV1::BlockLinearU16,
         4,
         2,
         TurboMode::PolarOnly,
         0,
-        &half,
-        &down,
+        &radii,
+        &indices,
         &none,
-        &mut second,
+        &mut made,
     );
     title(b"R2  radii (0.5, 1.5), linear: ");
-    answer(also, &second);
+    answer(wrote, &made);
     verdict(b"01 04 00 00 00 02 00 00 00 3f 00 00 c0 3f 00 00 ff ff 04");
-    score_plain(&second);
+    score_plain(&made);
     verdict(b"c0900000, which is -4.5");
-    distance_plain(&second);
+    distance_plain(&made);
     verdict(b"42260000, which is 41.5");
-    first[14] = 0x8E;
-    title(b"R1 with a padding bit set\n");
-    score_plain(&first);
-    verdict(b"refused 14 at 0");
-    title(b"R2 under the setup with residual\n");
-    score_residual(&second);
+    title(b"    under the setup with residual\n");
+    score_residual(&made);
     verdict(b"refused 20 at 0");
 }
 
-// Records with signs.
-fn records_with_signs() {
-    let mut third = [0u8; 20];
-    let mut fourth = [0u8; 24];
-    let one_two = [1.0f32, 2.0];
-    let quarter = [0.25f32, 3.0];
-    let up = [2u16, 3];
-    let back = [3u16, 2];
-    let alternating = [1i8, -1, 1];
-    let late = [-1i8, -1, 1];
+// R1 with a padding bit set.
+fn damaged_record() {
+    let damaged = [0u8, 4, 0, 0, 0, 2, 0, 0, 0x80, 0x3F, 0, 0, 0, 0x40, 0x8E];
+    title(b"R1 with a padding bit set\n");
+    score_plain(&damaged);
+    verdict(b"refused 14 at 0");
+}
+
+// Radii as they are, with signs.
+fn third_record() {
+    let radii = [1.0f32, 2.0];
+    let indices = [2u16, 3];
+    let signs = [1i8, -1, 1];
+    let mut made = [0u8; 20];
     let wrote = writing::write_record(
         RadiusCodecProfileV1::F32,
         4,
         2,
         TurboMode::PolarWithQjl,
         3,
-        &one_two,
-        &up,
-        &alternating,
-        &mut third,
+        &radii,
+        &indices,
+        &signs,
+        &mut made,
     );
     title(b"R3  R1 with signs (+, -, +): ");
-    answer(wrote, &third);
+    answer(wrote, &made);
     verdict(b"02 04 00 00 00 02 03 00 00 00 00 00 80 3f 00 00 00 40 0e 05");
-    score_residual(&third);
+    score_residual(&made);
     verdict(b"40f40d93, which is near 7.6267");
-    distance_residual(&third);
+    distance_residual(&made);
     verdict(b"419df936, which is near 19.7467");
-    score_prepared(&third);
+    score_prepared(&made);
     verdict(b"40f40d93, the same");
-    let also = writing::write_record(
+}
+
+// Linear radii, with signs.
+fn fourth_record() {
+    let radii = [0.25f32, 3.0];
+    let indices = [3u16, 2];
+    let signs = [-1i8, -1, 1];
+    let mut made = [0u8; 24];
+    let wrote = writing::write_record(
         RadiusCodecProfileV1::BlockLinearU16,
         4,
         2,
         TurboMode::PolarWithQjl,
         3,
-        &quarter,
-        &back,
-        &late,
-        &mut fourth,
+        &radii,
+        &indices,
+        &signs,
+        &mut made,
     );
     title(b"R4  radii (0.25, 3), linear, with signs (-, -, +): ");
-    answer(also, &fourth);
+    answer(wrote, &made);
     verdict(b"03 04 00 00 00 02 00 00 80 3e 00 00 40 40 03 00 00 00 00 00 ff ff 0b 04");
-    score_residual(&fourth);
+    score_residual(&made);
     verdict(b"c18972bf, which is near -17.181");
-    distance_residual(&fourth);
+    distance_residual(&made);
     verdict(b"4292d960, which is near 73.4246");
 }
 
