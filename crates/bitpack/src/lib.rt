@@ -241,7 +241,20 @@ fn unpack_words(packed: &[u8], bits: u8, out: &mut [u16])
     ensures { λ r. ⌜ now (out .exit) ≡ digits (2 ^ bits) (length (now (out .entry))) (number 256 (now (packed .entry))) ⌝ }
 {
     let eights = unpack_narrow(packed, bits, out);
-    unpack_rest(packed, bits, out, eights);
+    let width = bits as u64;
+    let mask = (1u64 << width) - 1;
+    let mut acc: u64 = 0;
+    let mut held: u64 = 0;
+    let mut at = eights * bits as usize;
+    let mut i = 8 * eights;
+    while i < out.len() {
+        let filled = refill(packed, width, acc, held, at);
+        out[i] = (filled.acc & mask) as u16;
+        acc = filled.acc >> width;
+        held = filled.held - width;
+        at = filled.at;
+        i += 1;
+    }
 }
 
 // Writes eights where eight indices take at most eight bytes, and says how many. A width that stands in the call is a
@@ -300,27 +313,6 @@ fn put_four(out: &mut [u16], at: usize, word: u64, width: u64)
     out[at + 1] = (second & low) as u16;
     out[at + 2] = (third & low) as u16;
     out[at + 3] = (fourth & low) as u16;
-}
-
-// Writes the indices that follow so many eights, one by one.
-fn unpack_rest(packed: &[u8], bits: u8, out: &mut [u16], eights: usize)
-    requires { ⌜ (Unpackable (now packed) bits (length (now out))) × (Eights (now packed) bits (length (now out)) (now out) eights) ⌝ }
-    ensures { λ r. ⌜ now (out .exit) ≡ digits (2 ^ bits) (length (now (out .entry))) (number 256 (now (packed .entry))) ⌝ }
-{
-    let width = bits as u64;
-    let mask = (1u64 << width) - 1;
-    let mut acc: u64 = 0;
-    let mut held: u64 = 0;
-    let mut at = eights * bits as usize;
-    let mut i = 8 * eights;
-    while i < out.len() {
-        let filled = refill(packed, width, acc, held, at);
-        out[i] = (filled.acc & mask) as u16;
-        acc = filled.acc >> width;
-        held = filled.held - width;
-        at = filled.at;
-        i += 1;
-    }
 }
 
 // Reads on until at least `width` bits are held: four bytes at once where there are four.
