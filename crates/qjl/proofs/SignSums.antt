@@ -1,6 +1,6 @@
--- The sum of sign times projected value, found by a loop, and root(PI / 2) as a pattern. Assumes nothing.
+-- The sum of sign times projected value, found by a loop, the residual from its factors, and root(PI / 2) as a pattern. Assumes nothing.
 use Prim.Native.Nat.{ℕ, _+_, _≤_, _<_}
-use mathlib.Core.Path.{_≡_, refl}
+use mathlib.Core.Path.{_≡_, refl, ap, _∙_}
 use mathlib.Core.List.{List, map}
 use native.Mathlib.Numerals.{add-one}
 use lib.IntN.{ℤ, pos}
@@ -9,13 +9,18 @@ use lib.Seq.{drop-cons}
 use lib.Ieee.{Float, nan, binary32, add, mul, div, ofInt, ofBits}
 use Rattle.float.specs.SquareRoot.{squareRoot}
 use Rattle.rounding.specs.Sums.{running, products}
-use Rattle.qjl.specs.Score.{root}
+use Rattle.qjl.specs.Score.{root, scaleOf, signSum, residualOf}
 use Rattle.qjl.proofs.Rows.{nothing-left}
 
 -- the root's pattern
 pub root-pattern : ofBits binary32 0x3FA0_6C99 ≡ root
 unfolding root squareRoot div ofBits
 root-pattern = refl
+
+-- the residual from its two factors
+pub residual-product : (m : ℕ) (norm : Float) (values : List Float) (signs : List ℤ) {a b : Float} → a ≡ scaleOf m norm → b ≡ signSum signs values → mul binary32 a b ≡ residualOf m norm values signs
+unfolding residualOf
+residual-product m norm values signs {a} {b} e f = ap (λ (x : Float). mul binary32 x b) e ∙ ap (mul binary32 (scaleOf m norm)) f
 
 module _ (signs : List ℤ) (values : List Float) (i : ℕ) (acc : Float) where
   pub sign-more : i < length signs → i < length values

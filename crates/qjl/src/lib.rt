@@ -20,7 +20,7 @@ ghost use Rattle.error.specs.Answer.{first, place, accepted, done, after};
 ghost use Rattle.error.specs.Outcomes.{says};
 ghost use Rattle.rounding.specs.Sums.{dot};
 ghost use Rattle.qjl.specs.Projection.{projected, projectOf};
-ghost use Rattle.qjl.specs.Filled.{Filled, FourSoFar, FourDots, fourMore, onRow, Rowed};
+ghost use Rattle.qjl.specs.Filled.{Filled, SoFar, FourSoFar, FourDots, fourMore, onRow, Rowed};
 ghost use Rattle.qjl.specs.Sketch.{signOf, vectorChecks, sketchOf, FiniteSigns, AtOnce};
 ghost use Rattle.bitpack.specs.Signs.{notSign};
 ghost use Rattle.qjl.specs.Score.{saysScore, scaleOf, signSum, residualOf, signedScore, sketchScoreOf};
@@ -375,7 +375,7 @@ fn fill_rest(dim: usize, matrix: &[f32], query: &[f32], out: &mut [f32], start: 
 {
     let mut row = start;
     while row < out.len() {
-        out[row] = row_dot(matrix, row * dim, query);
+        out[row] = row_end(matrix, row * dim, query, 0, 0.0);
         row += 1;
     }
 }
@@ -385,7 +385,17 @@ fn row_dots(matrix: &[f32], from: usize, query: &[f32]) -> Four
     requires { ⌜ from + 4 * length (now query) ≤ length (now matrix) ⌝ }
     ensures { λ r. ⌜ FourDots (now (matrix .entry)) (now (query .entry)) from (r .a) (r .b) (r .c) (r .d) ⌝ }
 {
-    row_dots_rest(matrix, from, query, row_blocks(matrix, from, query))
+    let columns = query.len();
+    let second = from + columns;
+    let third = second + columns;
+    let fourth = third + columns;
+    let begun = row_blocks(matrix, from, query);
+    Four {
+        a: row_end(matrix, from, query, begun.column, begun.a),
+        b: row_end(matrix, second, query, begun.column, begun.b),
+        c: row_end(matrix, third, query, begun.column, begun.c),
+        d: row_end(matrix, fourth, query, begun.column, begun.d),
+    }
 }
 
 // The same sums as far as whole blocks of four columns go.
@@ -423,38 +433,13 @@ fn four_more(matrix: &[f32], at: usize, query: &[f32], column: usize, sum: f32) 
     three + matrix[at + 3] * query[column + 3]
 }
 
-// The sums of four rows to their end, from the column that they have reached.
-fn row_dots_rest(matrix: &[f32], from: usize, query: &[f32], begun: Begun) -> Four
-    requires { ⌜ (from + 4 * length (now query) ≤ length (now matrix)) × FourSoFar (now matrix) (now query) from (begun .column) (begun .a) (begun .b) (begun .c) (begun .d) ⌝ }
-    ensures { λ r. ⌜ FourDots (now (matrix .entry)) (now (query .entry)) from (r .a) (r .b) (r .c) (r .d) ⌝ }
-{
-    let columns = query.len();
-    let second = from + columns;
-    let third = second + columns;
-    let fourth = third + columns;
-    let mut a = begun.a;
-    let mut b = begun.b;
-    let mut c = begun.c;
-    let mut d = begun.d;
-    let mut column = begun.column;
-    while column < columns {
-        let q = query[column];
-        a = a + matrix[from + column] * q;
-        b = b + matrix[second + column] * q;
-        c = c + matrix[third + column] * q;
-        d = d + matrix[fourth + column] * q;
-        column += 1;
-    }
-    Four { a, b, c, d }
-}
-
-// The sum of the products of the query with the entries of the matrix from an index on.
-fn row_dot(matrix: &[f32], from: usize, query: &[f32]) -> f32
-    requires { ⌜ from + length (now query) ≤ length (now matrix) ⌝ }
+// The sum of the products of the query with the entries of a row, from the column on that the sum has reached.
+fn row_end(matrix: &[f32], from: usize, query: &[f32], column: usize, begun: f32) -> f32
+    requires { ⌜ (from + length (now query) ≤ length (now matrix)) × ((column ≤ length (now query)) × SoFar (now matrix) (now query) from column begun) ⌝ }
     ensures { λ r. ⌜ r ≡ dot (drop from (now (matrix .entry))) (now (query .entry)) ⌝ }
 {
-    let mut sum = 0.0f32;
-    let mut i = 0;
+    let mut sum = begun;
+    let mut i = column;
     while i < query.len() {
         sum = sum + matrix[from + i] * query[i];
         i += 1;

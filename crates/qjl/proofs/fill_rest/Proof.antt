@@ -3,8 +3,9 @@ use Prim.Native.Nat.{_+_, _*_, _-_, _≤_, _<_}
 use native.Mathlib.Omega.{arith}
 use borrow.Author.Needs.{scaled-fits}
 use lib.ListN.{length}
+use lib.Ieee.{ofBits}
 use Rattle.qjl.specs.Filled.{Filled, onRow}
-use Rattle.qjl.proofs.Rows.{row-within}
+use Rattle.qjl.proofs.Rows.{dot-start, row-within}
 use Rattle.qjl.proofs.Filling.{filled-start, filled-more, filled-done}
 use Rattle.qjl.proofs.fill_rest.Statement.{statement}
 use Rattle.qjl.proofs.fill_rest.Tie as tie
@@ -25,11 +26,14 @@ within c =
 loop-holds : tie.Need-loop-holds Inv-loop μ-loop
 loop-holds c = (omega arith, (c .before .before .before .pre .1, filled-start _ _ _))
 
-mul-row-dot : tie.Need-mul-row-dot Inv-loop μ-loop
-mul-row-dot c = record { fits = omega (arith, within c, c .before .before .before .before .before .good .1 .0 .0) }
+mul-row-end : tie.Need-mul-row-end Inv-loop μ-loop
+mul-row-end c = record { fits = omega (arith, within c, c .before .before .before .before .before .good .1 .0 .0) }
 
-row-dot-requires : tie.Need-row-dot-requires Inv-loop μ-loop
-row-dot-requires c κs = omega (arith, within c, c .before .before .before .before .before .pre .0 .query-long)
+row-end-requires : tie.Need-row-end-requires Inv-loop μ-loop
+unfolding ofBits
+row-end-requires c κs =
+    let s = c .before .before .before .before .before in
+    (omega (arith, within c, s .pre .0 .query-long), (omega arith, dot-start (s .args .matrix .now) (s .args .query .now) (c .before .loop .row * s .args .dim)))
 
 mul-out : tie.Need-mul-out Inv-loop μ-loop
 mul-out c = scaled-fits _ (length (c .before .before .before .before .before .before .args .out .now)) 4 (omega (arith, c .before .before .loop .inv .1 .1 .long, c .before .loop-test .taken)) (c .before .before .before .before .before .before .good .1 .1 .1 .0 .1)
@@ -47,7 +51,7 @@ loop-again : tie.Need-loop-again Inv-loop μ-loop
 loop-again c =
     let l = c .before .before .loop in
     let inside : l .row < length (c .before .before .before .before .before .before .args .out .now) = omega (arith, c .before .loop-test .taken, l .inv .1 .1 .long) in
-    (omega (arith, l .inv .0), (omega (arith, inside), filled-more _ _ (l .row) _ _ _ (c .row-dot .ensures) (l .inv .0) inside (l .inv .1 .1)))
+    (omega (arith, l .inv .0), (omega (arith, inside), filled-more _ _ (l .row) _ _ _ (c .row-end .ensures) (l .inv .0) inside (l .inv .1 .1)))
 
 same-length : tie.Need-same-length Inv-loop μ-loop
 same-length c = c .before .loop .inv .1 .1 .long
@@ -62,8 +66,8 @@ fill-rest-spec =
     Inv-loop
     μ-loop
     loop-holds
-    mul-row-dot
-    row-dot-requires
+    mul-row-end
+    row-end-requires
     mul-out
     slice-write-out
     add-row

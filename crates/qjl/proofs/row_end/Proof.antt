@@ -1,23 +1,21 @@
--- `qjl::row_dot` meets its contract: the loop keeps the dot product as the running sum and what is left of both lists. Assumes nothing.
+-- `qjl::row_end` meets its contract: the loop keeps the dot product as the running sum and what is left of both lists. Assumes nothing.
 use Prim.Native.Nat.{_-_, _≤_}
 use native.Mathlib.Omega.{arith}
 use borrow.Author.Needs.{scaled-fits}
 use lib.ListN.{length}
-use lib.Ieee.{ofBits}
 use Rattle.qjl.specs.Filled.{SoFar}
-use Rattle.qjl.proofs.Rows.{dot-start, dot-more, dot-end}
-use Rattle.qjl.proofs.row_dot.Statement.{statement}
-use Rattle.qjl.proofs.row_dot.Tie as tie
+use Rattle.qjl.proofs.Rows.{dot-more, dot-end}
+use Rattle.qjl.proofs.row_end.Statement.{statement}
+use Rattle.qjl.proofs.row_end.Tie as tie
 
 abbrev Inv-loop : tie.InvT-loop
-Inv-loop matrix from query sum₀ i₀ sum i = (i ≤ length query) × SoFar matrix query from i sum
+Inv-loop matrix from query column begun sum₀ i₀ sum i = (i ≤ length query) × SoFar matrix query from i sum
 
 abbrev μ-loop : tie.MeasureT-loop
-μ-loop matrix from query sum₀ i₀ sum i = length query - i
+μ-loop matrix from query column begun sum₀ i₀ sum i = length query - i
 
 loop-holds : tie.Need-loop-holds Inv-loop μ-loop
-unfolding ofBits
-loop-holds c = (omega arith, dot-start (c .args .matrix .now) (c .args .query .now) (c .args .from))
+loop-holds c = c .pre .1
 
 add-sum : tie.Need-add-sum Inv-loop μ-loop
 add-sum c = omega arith
@@ -49,8 +47,8 @@ loop-again c =
 returns : tie.Need-returns Inv-loop μ-loop
 returns c = dot-end _ _ _ _ _ (c .loop-test .left) (c .before .loop .inv .1)
 
-pub row-dot-spec : {M : Type 1} → statement M
-row-dot-spec =
+pub row-end-spec : {M : Type 1} → statement M
+row-end-spec =
     tie.close
     (tie.spec
     Inv-loop
