@@ -1,15 +1,16 @@
 -- `setup::check_scalars` meets its contract: a check that passes leaves the rest of the list. Assumes nothing.
-use mathlib.Core.Path.{sym, _∙_}
+use mathlib.Core.Path.{refl, sym, _∙_}
 use borrow.Author.Tests.{eq-eqb, ne-eqb}
 use borrow.Author.Needs.{needs}
+use Rattle.setup.proofs.Steps.{stops, goes-on}
 use Rattle.setup.proofs.check_scalars.Statement.{statement}
 use Rattle.setup.proofs.check_scalars.Tie as tie
 
 returns : tie.Need-returns
-returns c = simp (eq-eqb _ _ (c .if1 .taken))
+returns c = stops _ _ _ (eq-eqb _ _ (c .if1 .taken))
 
 returns-2 : tie.Need-returns-2
-returns-2 c = simp (ne-eqb _ _ (c .before .if1 .left), eq-eqb _ _ (c .if2 .taken))
+returns-2 c = goes-on _ _ _ (ne-eqb _ _ (c .before .if1 .left)) (stops _ _ _ (eq-eqb _ _ (c .if2 .taken)))
 
 outside-bits-requires : tie.Need-outside-bits-requires
 outside-bits-requires c κs = search needs
@@ -18,22 +19,22 @@ cast-t6 : tie.Need-cast-t6
 cast-t6 c = search needs
 
 returns-3 : tie.Need-returns-3
-returns-3 c = simp (ne-eqb _ _ (c .before .before .before .before .if1 .left), ne-eqb _ _ (c .before .before .before .if2 .left), sym (c .before .before .outside-bits .ensures) ∙ c .before .if3 .taken)
+returns-3 c = goes-on _ _ _ (ne-eqb _ _ (c .before .before .before .before .if1 .left)) (goes-on _ _ _ (ne-eqb _ _ (c .before .before .before .if2 .left)) (stops _ _ _ (sym (c .before .before .outside-bits .ensures) ∙ c .before .if3 .taken)))
 
 outside-projections-requires : tie.Need-outside-projections-requires
 outside-projections-requires c κs = search needs
 
 returns-4 : tie.Need-returns-4
-returns-4 c = simp (ne-eqb _ _ (c .before .before .before .before .before .if1 .left), ne-eqb _ _ (c .before .before .before .before .if2 .left), sym (c .before .before .before .outside-bits .ensures) ∙ c .before .before .if3 .left, sym (c .before .outside-projections .ensures) ∙ c .if4 .taken)
+returns-4 c = goes-on _ _ _ (ne-eqb _ _ (c .before .before .before .before .before .if1 .left)) (goes-on _ _ _ (ne-eqb _ _ (c .before .before .before .before .if2 .left)) (goes-on _ _ _ (sym (c .before .before .before .outside-bits .ensures) ∙ c .before .before .if3 .left) (stops _ _ _ (sym (c .before .outside-projections .ensures) ∙ c .if4 .taken))))
 
 outside-powers-requires : tie.Need-outside-powers-requires
 outside-powers-requires c κs = search needs
 
 returns-5 : tie.Need-returns-5
-returns-5 c = simp (ne-eqb _ _ (c .before .before .before .before .before .before .before .if1 .left), ne-eqb _ _ (c .before .before .before .before .before .before .if2 .left), sym (c .before .before .before .before .before .outside-bits .ensures) ∙ c .before .before .before .before .if3 .left, sym (c .before .before .before .outside-projections .ensures) ∙ c .before .before .if4 .left, sym (c .before .outside-powers .ensures) ∙ c .if5 .taken)
+returns-5 c = goes-on _ _ _ (ne-eqb _ _ (c .before .before .before .before .before .before .before .if1 .left)) (goes-on _ _ _ (ne-eqb _ _ (c .before .before .before .before .before .before .if2 .left)) (goes-on _ _ _ (sym (c .before .before .before .before .before .outside-bits .ensures) ∙ c .before .before .before .before .if3 .left) (goes-on _ _ _ (sym (c .before .before .before .outside-projections .ensures) ∙ c .before .before .if4 .left) (stops _ _ _ (sym (c .before .outside-powers .ensures) ∙ c .if5 .taken)))))
 
 returns-6 : tie.Need-returns-6
-returns-6 c = simp (ne-eqb _ _ (c .before .before .before .before .before .before .before .if1 .left), ne-eqb _ _ (c .before .before .before .before .before .before .if2 .left), sym (c .before .before .before .before .before .outside-bits .ensures) ∙ c .before .before .before .before .if3 .left, sym (c .before .before .before .outside-projections .ensures) ∙ c .before .before .if4 .left, sym (c .before .outside-powers .ensures) ∙ c .if5 .left)
+returns-6 c = goes-on _ _ _ (ne-eqb _ _ (c .before .before .before .before .before .before .before .if1 .left)) (goes-on _ _ _ (ne-eqb _ _ (c .before .before .before .before .before .before .if2 .left)) (goes-on _ _ _ (sym (c .before .before .before .before .before .outside-bits .ensures) ∙ c .before .before .before .before .if3 .left) (goes-on _ _ _ (sym (c .before .before .before .outside-projections .ensures) ∙ c .before .before .if4 .left) (goes-on _ _ _ (sym (c .before .outside-powers .ensures) ∙ c .if5 .left) refl))))
 
 pub check-scalars-spec : {M : Type 1} → statement M
 check-scalars-spec =
