@@ -8,9 +8,9 @@ use native.Mathlib.Omega.{arith}
 use borrow.Author.Tests.{le-ltb, ltb-false, eq-eqb, eqb-true, ne-eqb, eqb-false, not-false}
 use lib.Count.{ones}
 use lib.Dec.{ltb, eqb}
-use lib.ListN.{length, getD}
+use lib.ListN.{length}
 use lib.Ieee.{nan}
-use Rattle.error.specs.Answer.{value, first}
+use Rattle.error.specs.Answer.{value}
 use Rattle.error.proofs.Chains.{first-all, first-accepts, or-false, first-value}
 use Rattle.error.proofs.Places.{each-clear, each-none}
 use Rattle.bitpack.proofs.Differs.{differs-same, differs-not}
@@ -19,7 +19,7 @@ use Rattle.radius.specs.declared.RadiusCodecProfileV1.the-variants.{F32, BlockL
 use Rattle.setup.specs.declared.TurboMode.the-variants.{PolarOnly, PolarWithQjl}
 use Rattle.packed.specs.declared.Header.{Header}
 use Rattle.radius.specs.Radii.{badRadius}
-use Rattle.packed.specs.Fields.{mapOf, hasRange, hasSigns, profileOf, dimOf, bitsOf, boundsOf, projectionsOf}
+use Rattle.packed.specs.Fields.{mapOf, hasRange, hasSigns, dimOf, bitsOf, boundsOf, projectionsOf}
 use Rattle.packed.specs.Layout.{headerLength, totalOf, headerOf}
 use Rattle.packed.specs.Radii.{badBounds, wrongBounds}
 use Rattle.packed.specs.Reading.{radiiOf, outsideBits, outsideProjections, recordChecks, readOf}

@@ -13,7 +13,7 @@ use Rattle.bitpack.specs.Padding.{padded}
 use Rattle.radius.specs.Chunks.{chunks}
 use Rattle.radius.specs.Radii.{zeroFloat, oneFloat}
 use Rattle.radius.specs.Linear.{restored, linearRadius}
-use Rattle.radius.specs.declared.RadiusCodecProfileV1.the-variants.{F32, BlockLinearU16}
+use Rattle.radius.specs.declared.RadiusCodecProfileV1.the-variants.{F32}
 use Rattle.setup.specs.declared.TurboMode.the-variants.{PolarOnly, PolarWithQjl}
 use Rattle.packed.specs.Fields.{boundsOf, projectionsOf}
 use Rattle.packed.specs.Layout.{radiiBytes, indicesBytes, signsBytes, headerOf}

@@ -6,7 +6,7 @@ use mathlib.Core.List.{List, [], _∷_}
 use native.Mathlib.Omega.{arith}
 use borrow.Author.Tests.{lt-ltb, le-ltb, eq-eqb, ne-eqb}
 use lib.ListN.{length}
-use Rattle.error.specs.Answer.{value, refused, place, first, accepted}
+use Rattle.error.specs.Answer.{refused, place, first, accepted}
 use Rattle.bitpack.specs.Padding.{bytesFor, wrongPadding, paddingOf}
 use Rattle.error.proofs.Chains.{append-refused, append-passed}
 use Rattle.radius.specs.Codec.{widthOf, radiiFor}

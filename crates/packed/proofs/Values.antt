@@ -1,18 +1,17 @@
 -- Reading values out of an accepted record: the codecs' own answers are then the record's values, or 6. Assumes nothing.
 use Prim.Native.Nat.{ℕ, _-_, _*_, _/_, _^_, _≤_}
-use mathlib.Core.Path.{_≡_, refl, sym, ap, _∙_}
+use mathlib.Core.Path.{_≡_, sym, ap, _∙_}
 use mathlib.Core.Bool.{Bool, true, false, not, cond, _||_}
 use mathlib.Core.List.{List, [], _∷_, _++_, map}
 use native.Mathlib.Omega.{arith}
 use borrow.Author.Tests.{le-ltb, eq-eqb}
 use lib.Dec.{ltb}
 use lib.ListN.{length}
-use lib.Ieee.{Float, lt}
+use lib.Ieee.{lt}
 use lib.Ieee.Scale.{finite}
-use Rattle.error.specs.Answer.{Answer, value, refused, place, first}
-use Rattle.error.proofs.Chains.{first-all, first-accepts, append-passed, append-refused}
+use Rattle.error.specs.Answer.{value, refused, place, first}
+use Rattle.error.proofs.Chains.{first-all, append-passed, append-refused}
 use Rattle.error.specs.Checks.{wrongRoom}
-use Rattle.bitpack.proofs.Differs.{differs-not}
 use Rattle.digits.specs.Digits.{number, digits}
 use Rattle.bitpack.specs.Padding.{bytesFor, padded}
 use Rattle.bitpack.specs.Packing.{unpackOf}
@@ -20,14 +19,12 @@ use Rattle.bitpack.specs.Signs.{signOf, unpackSignsOf}
 use Rattle.radius.specs.Codec.{widthOf, radiiFor, decompressOf}
 use Rattle.radius.specs.Radii.{badRadius, badRange}
 use Rattle.radius.specs.declared.Range.{Range}
-use Rattle.radius.specs.declared.RadiusCodecProfileV1.{RadiusCodecProfileV1}
 use Rattle.radius.specs.declared.RadiusCodecProfileV1.the-variants.{F32, BlockLinearU16}
 use Rattle.packed.specs.declared.Header.{Header}
 use Rattle.packed.specs.Fields.{mapOf, hasRange, profileOf, bitsOf, boundsOf, projectionsOf}
-use Rattle.packed.specs.Layout.{pairsOf, radiiLength, indicesUsed, totalOf, radiiBytes, indicesBytes, signsBytes, headerOf}
+use Rattle.packed.specs.Layout.{pairsOf, radiiBytes, indicesBytes, signsBytes, headerOf}
 use Rattle.packed.specs.Radii.{badBounds, wrongBounds}
 use Rattle.packed.specs.Reading.{radiiOf, indicesOf, signsOf, recordChecks, readOf, radiiReadOf, indicesReadOf, signsReadOf}
-use Rattle.packed.specs.Accepted.{Accepted}
 use Rattle.packed.proofs.Accepted.{read-accepts, read-header}
 use Rattle.packed.proofs.Headers.{product-most}
 use Rattle.packed.proofs.Parts.{length-radii, length-indices, length-signs}

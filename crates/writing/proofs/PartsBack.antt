@@ -1,18 +1,17 @@
 -- The payloads of a record that was written are read back as they were written: their places follow from the header's fields. Assumes nothing.
 use Prim.Native.Nat.{ℕ, _+_, _*_, _/_, _^_, _<_}
-use mathlib.Core.Path.{_≡_, refl, sym, ap, _∙_}
-use mathlib.Core.Bool.{true, false}
-use mathlib.Core.List.{List, [], _∷_, _++_}
+use mathlib.Core.Path.{_≡_, refl, ap, _∙_}
+use mathlib.Core.Bool.{false}
+use mathlib.Core.List.{List, _++_}
 use native.Mathlib.Omega.{arith}
 use lib.IntN.{ℤ}
-use lib.ListN.{length, take, drop, length-append}
+use lib.ListN.{length, take}
 use lib.Seq.{take-at, drop-at}
 use lib.Ieee.{Float}
 use Rattle.digits.specs.Digits.{digits}
 use Rattle.digits.proofs.Laws.{length-digits}
 use Rattle.float.specs.Bytes.{toLeBytes}
 use Rattle.float.proofs.Bytes.{length-toLeBytes}
-use Rattle.bitpack.specs.Padding.{bytesFor}
 use Rattle.radius.specs.Codec.{isLog, widthOf, rangeFor, bytesFor as radiusBytes}
 use Rattle.radius.specs.Linear.{linearBytes}
 use Rattle.radius.specs.Radii.{rangeOf}

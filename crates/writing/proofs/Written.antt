@@ -1,22 +1,22 @@
 -- The writer's answers, case by case, as the code comes to them; and what inputs have whose scalars and lengths pass. Assumes nothing.
-use Prim.Native.Nat.{ℕ, _+_, _*_, _/_, _%_, _≤_}
-use mathlib.Core.Path.{_≡_, refl, sym, ap, _∙_}
-use mathlib.Core.Bool.{Bool, true, false, not}
+use Prim.Native.Nat.{ℕ, _+_, _*_, _/_, _≤_}
+use mathlib.Core.Path.{_≡_, refl, _∙_}
+use mathlib.Core.Bool.{true, false, not}
 use mathlib.Core.List.{List, [], _∷_, _++_}
 use native.Mathlib.Omega.{arith}
-use borrow.Author.Tests.{ltb-false, lt-ltb, le-ltb, eqb-true, eq-eqb, ne-eqb, not-false}
+use borrow.Author.Tests.{ltb-false, eq-eqb, ne-eqb}
 use lib.Count.{ones}
 use lib.Dec.{ltb, eqb}
 use lib.IntN.{ℤ}
 use lib.ListN.{length}
 use lib.Ieee.{Float}
-use Rattle.error.specs.Answer.{Answer, value, refused, place, first, each, accepted}
+use Rattle.error.specs.Answer.{value, refused, place, first, each, accepted}
 use Rattle.error.proofs.Chains.{first-all, first-accepts, append-refused, append-passed, first-value, or-false}
 use Rattle.error.specs.Checks.{wrongRoom}
 use Rattle.bitpack.proofs.Differs.{differs-same}
 use Rattle.bitpack.specs.Padding.{bytesFor}
 use Rattle.float.specs.Bytes.{ofLeBytes}
-use Rattle.radius.specs.Codec.{isLog, widthOf, compressChecks, rangeFor, radiiFor, bytesFor as radiusBytes, compressedRange, compressedBytes}
+use Rattle.radius.specs.Codec.{isLog, widthOf, compressChecks, rangeFor, bytesFor as radiusBytes, compressedRange, compressedBytes}
 use Rattle.radius.specs.Linear.{linearRadius}
 use Rattle.radius.specs.Radii.{badRadius}
 use Rattle.radius.specs.declared.Range.{Range}
@@ -25,11 +25,10 @@ use Rattle.radius.specs.declared.RadiusCodecProfileV1.the-variants.{F32, BlockL
 use Rattle.radius.proofs.Chunks.{chunks-length}
 use Rattle.setup.specs.declared.TurboMode.{TurboMode}
 use Rattle.setup.specs.declared.TurboMode.the-variants.{PolarOnly, PolarWithQjl}
-use Rattle.setup.specs.Setups.{byMode}
 use Rattle.packed.specs.Layout.{headerLength}
 use Rattle.packed.specs.Reading.{outsideBits, outsideProjections}
 use Rattle.writing.specs.Writing.{mapFor, countedFor, recordOf, neededFor, readBack, fieldChecks, radiusChecks, valueChecks, writeOf}
-use Rattle.writing.specs.Conditions.{Codes, Sized}
+use Rattle.writing.specs.Conditions.{Sized}
 
 -- ---- what the scalars and the lengths tell
 

@@ -1,7 +1,7 @@
 -- `packed::read_record` meets its contract: the header's checks, then the payloads'. Assumes nothing.
 use mathlib.Core.Path.{sym, ap, _∙_}
 use denote.Ref.{now}
-use Rattle.error.specs.Answer.{value, accepted}
+use Rattle.error.specs.Answer.{value}
 use Rattle.error.specs.Outcomes.{says}
 use Rattle.error.proofs.Chains as chains
 use Rattle.error.proofs.Chains.{append-refused, append-passed}

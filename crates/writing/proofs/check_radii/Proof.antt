@@ -6,7 +6,6 @@ use native.Mathlib.Omega.{arith}
 use borrow.Author.Tests.{lt-ltb, le-ltb}
 use denote.Ref.{now}
 use lib.ListN.{length, take, drop, length-append}
-use lib.Ieee.{Float}
 use Rattle.error.specs.Answer.{Answer, value, place, each, accepted, after}
 use Rattle.error.proofs.Chains.{append-refused}
 use Rattle.radius.specs.Codec.{widthOf, rangeFor, radiiFor, bytesFor, compressedRange}

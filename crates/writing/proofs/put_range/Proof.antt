@@ -1,6 +1,6 @@
 -- `writing::put_range` meets its contract, by the profile. Assumes nothing.
 use Prim.Native.Nat.{ℕ}
-use mathlib.Core.Path.{sym, ap, _∙_}
+use mathlib.Core.Path.{ap, _∙_}
 use mathlib.Core.List.{List, _++_}
 use denote.Ref.{now}
 use native.Mathlib.Omega.{arith}

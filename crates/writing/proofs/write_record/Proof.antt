@@ -10,7 +10,7 @@ use Rattle.error.specs.Answer.{first, accepted}
 use Rattle.error.specs.Outcomes.{says}
 use Rattle.error.proofs.Answers.{both-refused, both-value}
 use Rattle.bitpack.specs.Padding.{bytesFor}
-use Rattle.radius.specs.Codec.{widthOf, rangeFor}
+use Rattle.radius.specs.Codec.{rangeFor}
 use Rattle.radius.specs.declared.Range.{Range}
 use Rattle.packed.specs.Layout.{headerLength}
 use Rattle.writing.specs.Writing.{mapFor, headerBytes, recordOf, neededFor, fieldChecks, valueChecks}
