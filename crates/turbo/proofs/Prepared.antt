@@ -58,7 +58,7 @@ module _ (s : Setup) (l : Lent) (passed : first (queryChecks s (l .signs) (l .di
         (differs-not (length (projectedQuery s (l .matrix) (l .query))) (countedProjections s) (projected-length (s .dim) (countedProjections s) (l .matrix) (l .query)), k),
       )
 
-  -- 'prepare once, score many': by the prepared query each record has the same answer, value or refusal
+  -- Prepared once, a query gives each record the answer that it has without: a value or a refusal.
   pub estimate-equal-prepared : (bytes : List ℕ) → estimatePreparedOf s (l .directions) (rotatedQuery s (l .signs) (l .query)) (projectedQuery s (l .matrix) (l .query)) bytes ≡ estimateOf s l bytes
   estimate-equal-prepared bytes =
       prepared-passed s (l .directions) (rotatedQuery s (l .signs) (l .query)) (projectedQuery s (l .matrix) (l .query)) bytes passed-ready ∙ sym (estimate-passed s l bytes passed)

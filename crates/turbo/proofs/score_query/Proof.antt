@@ -107,7 +107,7 @@ part-record-score-end : tie.Need-part-record-score-end
 part-record-score-end c = let p = c .before .before .before .before .before in
     let a = p .before .before .before .before .before .before .before .before .before .before .before .args in
     let xs = p .before .before .before .before .zeros .result in
-    part-enough (a .setup .dim) xs (room (p .before .before .before)) (p .prepare-query .last .1 .1 .1 .1 .1 .0) (postOf 0 (a .setup .dim - 0) xs) (p .prepare-query .kept .1 .1 .1 .1 .1 .0)
+    omega (arith, part-enough (a .setup .dim) xs (room (p .before .before .before)) (p .prepare-query .last .1 .1 .1 .1 .1 .0) (postOf 0 (a .setup .dim - 0) xs) (p .prepare-query .kept .1 .1 .1 .1 .1 .0))
 
 sub-record-score-2 : tie.Need-sub-record-score-2
 sub-record-score-2 c = search needs
@@ -119,7 +119,7 @@ part-record-score-end-2 : tie.Need-part-record-score-end-2
 part-record-score-end-2 c = let p = c .before .before .before .before .before .before .before in
     let m = p .before .before .before .before .before .counted-projections .result in
     let xs = p .before .before .before .zeros2 .result in
-    part-enough m xs (space (p .before .before .before)) (p .prepare-query .last .1 .1 .1 .1 .1 .1 .0) (postOf 0 (m - 0) xs) (p .prepare-query .kept .1 .1 .1 .1 .1 .1 .0)
+    omega (arith, part-enough m xs (space (p .before .before .before)) (p .prepare-query .last .1 .1 .1 .1 .1 .1 .0) (postOf 0 (m - 0) xs) (p .prepare-query .kept .1 .1 .1 .1 .1 .1 .0))
 
 record-score-requires : tie.Need-record-score-requires
 record-score-requires c κs = search needs
