@@ -66,8 +66,8 @@ fn read_pairs(directions: &[f32], bytes: &[u8], values: &mut [f32])
     let pairs = values.len() / 2;
     let mut radii = no_radii();
     let mut indices = no_indices();
-    packed::read_radii(bytes, &mut radii[0..pairs]);
-    packed::read_indices(bytes, &mut indices[0..pairs]);
+    parts::read_radii(bytes, &mut radii[0..pairs]);
+    parts::read_indices(bytes, &mut indices[0..pairs]);
     polar::polar_pairs(directions, &indices[0..pairs], &radii[0..pairs], values);
 }
 

@@ -3,6 +3,4 @@ pub mod Headers
 pub mod Parts
 pub mod Payloads
 pub mod Accepted
-pub mod Values
-pub mod Handed
 pub mod Examples

@@ -17,7 +17,7 @@ ghost use Prim.Native.Nat.{_+_, _*_, _≤_};
 ghost use mathlib.Core.Path.{_≡_};
 ghost use mathlib.Core.List.{map};
 ghost use lib.ListN.{length, take, drop};
-ghost use Rattle.error.specs.Answer.{first, place, accepted, done, after};
+ghost use Rattle.error.specs.Answer.{first, place, accepted};
 ghost use Rattle.error.specs.Outcomes.{says};
 ghost use Rattle.float.specs.Bytes.{ofLeBytes};
 ghost use Rattle.radius.specs.Chunks.{chunks};
@@ -27,7 +27,7 @@ ghost use Rattle.radius.specs.Radii.{badRadius};
 ghost use Rattle.packed.specs.Fields.{mapOf, profileOf, modeOf, wordAt, floatAt, boundsOf, projectionsOf};
 ghost use Rattle.packed.specs.Layout.{headerLength, headerOf};
 ghost use Rattle.packed.specs.Radii.{badBounds, wrongBounds, firstBad};
-ghost use Rattle.packed.specs.Reading.{saysReading, outsideBits, outsideProjections, shapeChecks, headerChecks, payloadChecks, readOf, radiiPart, indicesPart, signsPart, radiiReadOf, indicesReadOf, signsReadOf};
+ghost use Rattle.packed.specs.Reading.{saysReading, outsideBits, outsideProjections, shapeChecks, headerChecks, payloadChecks, readOf};
 
 // What a record says before its payloads, and where these stand: each from its own field to the next one, the signs to `end`.
 pub struct Header {
@@ -61,104 +61,6 @@ pub fn read_record(bytes: &[u8]) -> Reading
         return Reading::Refused { number, place };
     }
     Reading::Read(found)
-}
-
-// The part of the record that holds the radii; empty where the record is refused.
-pub fn radii_part(bytes: &[u8]) -> &[u8]
-    ensures { λ r. ⌜ now r ≡ radiiPart (now (bytes .entry)) ⌝ }
-{
-    match read_record(bytes) {
-        Reading::Read(header) => {
-            let start = header.radii;
-            let stop = header.indices;
-            &bytes[start..stop]
-        }
-        Reading::Refused {
-            number: _,
-            place: _,
-        } => &bytes[0..0],
-    }
-}
-
-// The part of the record that holds the indices; empty where the record is refused.
-pub fn indices_part(bytes: &[u8]) -> &[u8]
-    ensures { λ r. ⌜ now r ≡ indicesPart (now (bytes .entry)) ⌝ }
-{
-    match read_record(bytes) {
-        Reading::Read(header) => {
-            let start = header.indices;
-            let stop = header.signs;
-            &bytes[start..stop]
-        }
-        Reading::Refused {
-            number: _,
-            place: _,
-        } => &bytes[0..0],
-    }
-}
-
-// The part of the record that holds the signs; empty where the record is refused or has none.
-pub fn signs_part(bytes: &[u8]) -> &[u8]
-    ensures { λ r. ⌜ now r ≡ signsPart (now (bytes .entry)) ⌝ }
-{
-    match read_record(bytes) {
-        Reading::Read(header) => {
-            let start = header.signs;
-            let stop = header.end;
-            &bytes[start..stop]
-        }
-        Reading::Refused {
-            number: _,
-            place: _,
-        } => &bytes[0..0],
-    }
-}
-
-// The radii of a record, as they are read: one for each pair.
-pub fn read_radii(bytes: &[u8], out: &mut [f32]) -> Outcome
-    ensures said { λ r. ⌜ says r ≡ done (radiiReadOf (now (bytes .entry)) (length (now (out .entry)))) ⌝ }
-    ensures left { λ r. ⌜ now (out .exit) ≡ after (radiiReadOf (now (bytes .entry)) (length (now (out .entry)))) (now (out .entry)) ⌝ }
-{
-    match read_record(bytes) {
-        Reading::Read(header) => {
-            let from = header.radii;
-            let to = header.indices;
-            let profile = header.profile;
-            let range = header.range;
-            radius::decompress(profile, header.dim / 2, range, &bytes[from..to], out)
-        }
-        Reading::Refused { number, place } => Outcome::Refused { number, place },
-    }
-}
-
-// The indices of a record: one for each pair.
-pub fn read_indices(bytes: &[u8], out: &mut [u16]) -> Outcome
-    ensures said { λ r. ⌜ says r ≡ done (indicesReadOf (now (bytes .entry)) (length (now (out .entry)))) ⌝ }
-    ensures left { λ r. ⌜ now (out .exit) ≡ after (indicesReadOf (now (bytes .entry)) (length (now (out .entry)))) (now (out .entry)) ⌝ }
-{
-    match read_record(bytes) {
-        Reading::Read(header) => {
-            let from = header.indices;
-            let to = header.signs;
-            bitpack::unpack_indices(&bytes[from..to], header.dim / 2, header.bits, out)
-        }
-        Reading::Refused { number, place } => Outcome::Refused { number, place },
-    }
-}
-
-// The signs of a record: one for each projection, none without them.
-pub fn read_signs(bytes: &[u8], out: &mut [i8]) -> Outcome
-    ensures said { λ r. ⌜ says r ≡ done (signsReadOf (now (bytes .entry)) (length (now (out .entry)))) ⌝ }
-    ensures left { λ r. ⌜ now (out .exit) ≡ after (signsReadOf (now (bytes .entry)) (length (now (out .entry)))) (now (out .entry)) ⌝ }
-{
-    match read_record(bytes) {
-        Reading::Read(header) => {
-            let from = header.signs;
-            let to = header.end;
-            bitpack::unpack_signs(&bytes[from..to], header.projections, out)
-        }
-        Reading::Refused { number, place } => Outcome::Refused { number, place },
-    }
 }
 
 // The checks of a dimension and of polar bits, in reading and in writing.

@@ -83,8 +83,8 @@ fn polar_part(directions: &[f32], rotated: &[f32], bytes: &[u8], pairs: usize) -
 {
     let mut radii = no_radii();
     let mut indices = no_indices();
-    packed::read_radii(bytes, &mut radii[0..pairs]);
-    packed::read_indices(bytes, &mut indices[0..pairs]);
+    parts::read_radii(bytes, &mut radii[0..pairs]);
+    parts::read_indices(bytes, &mut indices[0..pairs]);
     polar::polar_sum(rotated, directions, &indices[0..pairs], &radii[0..pairs])
 }
 
@@ -94,7 +94,7 @@ fn residual_part(projected: &[f32], bytes: &[u8], projections: usize) -> f32
     ensures { λ r. ⌜ r ≡ unitResidual (projectionsOf (now (bytes .entry))) (now (projected .entry)) (signsOf (now (bytes .entry))) ⌝ }
 {
     let mut signs = no_signs();
-    packed::read_signs(bytes, &mut signs[0..projections]);
+    parts::read_signs(bytes, &mut signs[0..projections]);
     qjl::residual(projections as u16, 1.0, projected, &signs[0..projections])
 }
 

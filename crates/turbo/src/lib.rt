@@ -162,7 +162,7 @@ fn radii_norm(bytes: &[u8], pairs: usize) -> f32
     ensures { λ r. ⌜ r ≡ squaredNorm (radiiOf (now (bytes .entry))) ⌝ }
 {
     let mut radii = no_radii();
-    packed::read_radii(bytes, &mut radii[0..pairs]);
+    parts::read_radii(bytes, &mut radii[0..pairs]);
     squared_norm(&radii[0..pairs])
 }
 

@@ -159,7 +159,7 @@ fn record() {
     verdict(b"1");
     let mut signs = [0i8; 0];
     title(b"    its signs: ");
-    plus_minus(packed::read_signs(&made, &mut signs), &signs);
+    plus_minus(parts::read_signs(&made, &mut signs), &signs);
     verdict(b"no signs");
 }
 
@@ -191,7 +191,7 @@ fn record_with_signs() {
     verdict(b"1");
     let mut signs = [0i8; 3];
     title(b"    its signs: ");
-    plus_minus(packed::read_signs(&made, &mut signs), &signs);
+    plus_minus(parts::read_signs(&made, &mut signs), &signs);
     verdict(b"+ - +");
 }
 
@@ -222,14 +222,14 @@ fn field(name: &[u8], n: u64) {
 fn values(made: &[u8]) {
     let mut radius = [0.0f32; 1];
     title(b"    its radius: ");
-    floats(packed::read_radii(made, &mut radius), &radius);
+    floats(parts::read_radii(made, &mut radius), &radius);
 }
 
 // The index of a record that has one.
 fn codes(made: &[u8]) {
     let mut index = [0u16; 1];
     title(b"    its index: ");
-    indices(packed::read_indices(made, &mut index), &index);
+    indices(parts::read_indices(made, &mut index), &index);
 }
 
 // A small whole job: an archive of four records, in both modes and both radius forms, and a damaged copy, under a query.

@@ -16,8 +16,8 @@ use Rattle.scoring.proofs.polar_part.Statement.{statement}
 use Rattle.scoring.proofs.polar_part.Tie as tie
 use Rattle.scoring.proofs.polar_part.Reads as reads
 use Rattle.scoring.proofs.polar_part.Lts as lts
-use Rattle.packed.proofs.read_indices.Reads as read-indices-reads
-use Rattle.packed.proofs.read_radii.Reads as read-radii-reads
+use Rattle.parts.proofs.read_indices.Reads as read-indices-reads
+use Rattle.parts.proofs.read_radii.Reads as read-radii-reads
 use Rattle.polar.proofs.polar_sum.Reads as polar-sum-reads
 use Rattle.scoring.proofs.no_indices.Reads as no-indices-reads
 use Rattle.scoring.proofs.no_radii.Reads as no-radii-reads

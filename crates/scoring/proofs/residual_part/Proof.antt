@@ -16,7 +16,7 @@ use Rattle.scoring.proofs.residual_part.Statement.{statement}
 use Rattle.scoring.proofs.residual_part.Tie as tie
 use Rattle.scoring.proofs.residual_part.Reads as reads
 use Rattle.scoring.proofs.residual_part.Lts as lts
-use Rattle.packed.proofs.read_signs.Reads as read-signs-reads
+use Rattle.parts.proofs.read_signs.Reads as read-signs-reads
 use Rattle.qjl.proofs.residual.Reads as residual-reads
 use Rattle.scoring.proofs.no_signs.Reads as no-signs-reads
 

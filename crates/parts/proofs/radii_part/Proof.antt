@@ -1,18 +1,18 @@
--- `packed::radii_part` meets its contract: the part that the header of an accepted record gives, or nothing. Assumes nothing.
+-- `parts::radii_part` meets its contract: the part that the header of an accepted record gives, or nothing. Assumes nothing.
 use mathlib.Core.Path.{_≡_, sym, ap, _∙_}
 use denote.Ref.{now}
 use native.Mathlib.Omega.{arith}
 use lib.ListN.{length}
 use Rattle.error.specs.Answer.{value}
 use Rattle.packed.specs.Reading.{saysReading, readOf}
 use Rattle.packed.proofs.Parts.{Ordered}
-use Rattle.packed.proofs.Handed.{read-within, radii-handed, radii-withheld}
+use Rattle.parts.proofs.Handed.{read-within, radii-handed, radii-withheld}
 use borrow.Author.Needs.{needs}
-use Rattle.packed.proofs.radii_part.Statement.{statement}
-use Rattle.packed.proofs.radii_part.Tie as tie
-use Rattle.packed.proofs.radii_part.Reads as reads
-use Rattle.packed.proofs.radii_part.Lts as lts
+use Rattle.parts.proofs.radii_part.Statement.{statement}
+use Rattle.parts.proofs.radii_part.Tie as tie
+use Rattle.parts.proofs.radii_part.Reads as reads
+use Rattle.parts.proofs.radii_part.Lts as lts
 use Rattle.packed.proofs.read_record.Reads as read-record-reads
 
 -- the header that was read
 read : (c : tie.After-known-told) → readOf (now (c .before .before .before .before .before .args .bytes)) ≡ value (c .before .header .given .0 .0)

@@ -1,4 +1,4 @@
--- `packed::read_signs` meets its contract: the codec's answer on the part of an accepted record is the record's. Assumes nothing.
+-- `parts::read_signs` meets its contract: the codec's answer on the part of an accepted record is the record's. Assumes nothing.
 use mathlib.Core.Path.{_≡_, sym, ap, _∙_}
 use mathlib.Core.List.{List}
 use denote.Ref.{now}
@@ -7,18 +7,18 @@ use lib.IntN.{ℤ}
 use lib.ListN.{length}
 use Rattle.error.specs.Answer.{Answer, value, done, after}
 use Rattle.error.proofs.Answers.{both-refused}
 use Rattle.packed.specs.Reading.{saysReading, readOf}
 use Rattle.packed.proofs.Accepted.{read-header}
 use Rattle.packed.proofs.Parts.{Ordered, signs-part}
-use Rattle.packed.proofs.Handed.{read-within}
-use Rattle.packed.proofs.Values.{read-signs, signs-refused}
+use Rattle.parts.proofs.Handed.{read-within}
+use Rattle.parts.proofs.Values.{read-signs, signs-refused}
 use borrow.Author.Needs.{needs}
-use Rattle.packed.proofs.read_signs.Statement.{statement}
-use Rattle.packed.proofs.read_signs.Tie as tie
-use Rattle.packed.proofs.read_signs.Reads as reads
-use Rattle.packed.proofs.read_signs.Lts as lts
+use Rattle.parts.proofs.read_signs.Statement.{statement}
+use Rattle.parts.proofs.read_signs.Tie as tie
+use Rattle.parts.proofs.read_signs.Reads as reads
+use Rattle.parts.proofs.read_signs.Lts as lts
 use Rattle.bitpack.proofs.unpack_signs.Reads as unpack-signs-reads
 use Rattle.packed.proofs.read_record.Reads as read-record-reads
 
 -- the header that was read
 read : (c : tie.After-known-told) → readOf (now (c .before .before .before .before .before .args .bytes)) ≡ value (c .before .header .given .0 .0)
