@@ -1,0 +1,215 @@
+-- No call refuses with the number 0, so that a caller tells a refusal by its number alone. Assumes nothing.
+use Prim.Native.Nat.{ℕ, zero, suc, _*_}
+use mathlib.Core.Path.{_≡_, refl}
+use mathlib.Core.Bool.{Bool, true, false}
+use mathlib.Core.List.{List, [], _∷_, _++_}
+use native.Mathlib.Omega.{arith}
+use lib.IntN.{ℤ}
+use lib.ListN.{length}
+use lib.Ieee.{Float}
+use Rattle.error.specs.Answer.{Answer, value, refused, Check, check, first, each, accepted}
+use Rattle.error.specs.Checks.{wrongBits, wrongRoom, wrongIndex, wrongInput}
+use Rattle.error.proofs.Chains.{value-not-refused}
+use Rattle.bitpack.specs.Padding.{bytesFor, wrongLength, wrongPadding, paddingOf}
+use Rattle.bitpack.specs.Packing.{overflow, tooLarge, packedLen, packOf, unpackOf}
+use Rattle.bitpack.specs.Signs.{notSign, packSignsOf, unpackSignsOf}
+use Rattle.codebook.specs.Codebook.{wrongBounds, wrongValue, uniformOf, levelsOf, quantizeOf, midpointOf}
+use Rattle.polar.specs.Angle.{angleOf}
+use Rattle.radius.specs.Codec.{isLog, compressChecks, compressedRange, radiiFor, decompressChecks, decompressOf, encodedBytes}
+use Rattle.radius.specs.declared.Range.{Range}
+use Rattle.radius.specs.declared.RadiusCodecProfileV1.{RadiusCodecProfileV1}
+use Rattle.radius.specs.declared.RadiusCodecProfileV1.the-variants.{F32, BlockLinearU16, BlockLogU8}
+use Rattle.rotation.specs.Checks.{rotationChecks}
+use Rattle.rotation.specs.Rotation.{applied, appliedInverse}
+use Rattle.setup.specs.declared.Setup.{Setup}
+use Rattle.setup.specs.declared.TurboMode.{TurboMode}
+use Rattle.setup.specs.declared.TurboMode.the-variants.{PolarOnly, PolarWithQjl}
+use Rattle.setup.specs.Setups.{countedProjections}
+use Rattle.setup.specs.Checks.{setupChecks}
+use Rattle.qjl.specs.Projection.{projected}
+use Rattle.qjl.specs.Sketch.{vectorChecks, sketchOf}
+use Rattle.qjl.specs.Score.{signedChecks, unitResidual, badScore, signedScore, modeScore, sketchScoreOf}
+use Rattle.packed.specs.Layout.{pairsOf}
+use Rattle.packed.specs.Fields.{projectionsOf}
+use Rattle.packed.specs.Reading.{recordChecks, readOf, radiiReadOf, indicesReadOf, signsReadOf}
+use Rattle.writing.specs.Writing.{fieldChecks, valueChecks, neededFor, writeOf}
+use Rattle.query.specs.Query.{prepareChecks, rotatedOf}
+use Rattle.order.specs.Scores.{Lent}
+use Rattle.scoring.specs.Scoring.{recordScoreChecks}
+use Rattle.turbo.specs.Estimates.{estimateChecks, estimateOf, readyChecks, estimatePreparedOf}
+use Rattle.turbo.specs.Distance.{distance, distanceOf}
+use Rattle.decode.specs.Decode.{decodeChecks, decodeOf}
+
+-- whether every check of a list has a number above 0
+abbrev above : List Check → Bool
+above [] = true
+above (check offends zero p ∷ cs) = false
+above (check offends (suc n) p ∷ cs) = above cs
+
+-- not refused with the number 0
+abbrev pub Numbered : {A : Type 0} → Answer A → Type 0
+Numbered a = (p : ℕ) → a ≡ refused 0 p → ⊥
+
+unequal : {X : Type 0} → false ≡ true → X
+unequal e = let z : _≡_ {A = ℕ} 0 1 = cc in absurd (omega arith)
+
+pub value-numbered : {A : Type 0} (x : A) → Numbered (value x)
+value-numbered x p e = value-not-refused e
+
+pub first-numbered : {A : Type 0} (cs : List Check) (a : Answer A) → above cs ≡ true → Numbered a → Numbered (first cs a)
+first-numbered [] a t end p e = end p e
+first-numbered (check true zero q ∷ cs) a t end p e = unequal t
+first-numbered (check true (suc n) q ∷ cs) a t end p e = let z : suc n ≡ 0 = cc in absurd (omega arith)
+first-numbered (check false zero q ∷ cs) a t end p e = unequal t
+first-numbered (check false (suc n) q ∷ cs) a t end p e = first-numbered cs a t end p e
+
+-- a chain with a value at its end
+chain : {A : Type 0} (cs : List Check) (x : A) → above cs ≡ true → Numbered (first cs (value x))
+chain cs x t = first-numbered cs (value x) t (value-numbered x)
+
+-- ---- bits
+
+pub packed-len-numbered : (count bits : ℕ) → Numbered (packedLen count bits)
+unfolding packedLen
+packed-len-numbered count bits = chain (wrongBits bits ∷ overflow count bits ∷ []) _ refl
+
+pub pack-numbered : (indices : List ℕ) (bits room : ℕ) → Numbered (packOf indices bits room)
+unfolding packOf
+pack-numbered indices bits room =
+    chain (wrongBits bits ∷ overflow (length indices) bits ∷ each (tooLarge bits) 15 indices ∷ wrongRoom room (bytesFor (length indices * bits)) ∷ []) _ refl
+
+pub unpack-numbered : (packed : List ℕ) (count bits room : ℕ) → Numbered (unpackOf packed count bits room)
+unfolding unpackOf
+unpack-numbered packed count bits room =
+    chain (wrongBits bits ∷ overflow count bits ∷ wrongLength packed (count * bits) ∷ wrongPadding packed (count * bits) ∷ wrongRoom room count ∷ []) _ refl
+
+pub pack-signs-numbered : (signs : List ℤ) (room : ℕ) → Numbered (packSignsOf signs room)
+unfolding packSignsOf
+pack-signs-numbered signs room = chain (each notSign 10 signs ∷ wrongRoom room (bytesFor (length signs)) ∷ []) _ refl
+
+pub unpack-signs-numbered : (packed : List ℕ) (count room : ℕ) → Numbered (unpackSignsOf packed count room)
+unfolding unpackSignsOf
+unpack-signs-numbered packed count room = chain (wrongLength packed count ∷ wrongPadding packed count ∷ wrongRoom room count ∷ []) _ refl
+
+pub padding-numbered : (packed : List ℕ) (used : ℕ) → Numbered (paddingOf packed used)
+unfolding paddingOf
+padding-numbered packed used = chain (wrongLength packed used ∷ wrongPadding packed used ∷ []) _ refl
+
+-- ---- codebook and angle
+
+pub uniform-numbered : (bits : ℕ) (lo hi : Float) → Numbered (uniformOf bits lo hi)
+unfolding uniformOf
+uniform-numbered bits lo hi = chain (wrongBits bits ∷ wrongBounds lo hi ∷ []) _ refl
+
+pub levels-numbered : (bits : ℕ) (lo hi : Float) → Numbered (levelsOf bits lo hi)
+unfolding levelsOf
+levels-numbered bits lo hi = chain (wrongBits bits ∷ wrongBounds lo hi ∷ []) _ refl
+
+pub quantize-numbered : (bits : ℕ) (lo hi x : Float) → Numbered (quantizeOf bits lo hi x)
+unfolding quantizeOf
+quantize-numbered bits lo hi x = chain (wrongBits bits ∷ wrongBounds lo hi ∷ wrongValue x ∷ []) _ refl
+
+pub midpoint-numbered : (bits : ℕ) (lo hi : Float) (index : ℕ) → Numbered (midpointOf bits lo hi index)
+unfolding midpointOf
+midpoint-numbered bits lo hi index = chain (wrongBits bits ∷ wrongBounds lo hi ∷ wrongIndex bits index ∷ []) _ refl
+
+pub angle-numbered : (bits index : ℕ) → Numbered (angleOf bits index)
+unfolding angleOf
+angle-numbered bits index = chain (wrongBits bits ∷ wrongIndex bits index ∷ []) _ refl
+
+-- ---- radii
+
+pub compress-numbered : (radii : List Float) (profile : RadiusCodecProfileV1) (room : ℕ) → Numbered (compressedRange radii profile room)
+unfolding compressedRange
+compress-numbered radii profile room = chain (compressChecks radii profile room) _ refl
+
+pub decompress-numbered : (profile : RadiusCodecProfileV1) (count : ℕ) (range : Range) (payload : List ℕ) (room : ℕ) → Numbered (decompressOf profile count range payload room)
+unfolding decompressOf
+decompress-numbered F32 count range payload room = chain (decompressChecks F32 count range payload room) _ refl
+decompress-numbered BlockLinearU16 count range payload room = chain (decompressChecks BlockLinearU16 count range payload room) _ refl
+decompress-numbered BlockLogU8 count range payload room = chain (decompressChecks BlockLogU8 count range payload room) (radiiFor BlockLogU8 count range payload) refl
+
+pub encoded-numbered : (profile : RadiusCodecProfileV1) (payload : List ℕ) → Numbered (encodedBytes profile payload)
+unfolding encodedBytes
+encoded-numbered profile payload = chain (check (isLog profile) 18 0 ∷ []) _ refl
+
+-- ---- rotation, setup and sketch
+
+pub apply-numbered : (n : ℕ) (signs xs : List Float) (room : ℕ) → Numbered (applied n signs xs room)
+unfolding applied
+apply-numbered n signs xs room = chain (rotationChecks n signs (length xs) room) _ refl
+
+pub inverse-numbered : (n : ℕ) (signs xs : List Float) (room : ℕ) → Numbered (appliedInverse n signs xs room)
+unfolding appliedInverse
+inverse-numbered n signs xs room = chain (rotationChecks n signs (length xs) room) _ refl
+
+module _ (s : Setup) (signs directions matrix : List Float) where
+  pub setup-numbered : Numbered (first (setupChecks s signs directions matrix) accepted)
+  setup-numbered = chain (setupChecks s signs directions matrix) _ refl
+
+  pub sketch-numbered : (vector : List Float) (room : ℕ) → Numbered (sketchOf s signs directions matrix vector room)
+  unfolding sketchOf
+  sketch-numbered vector room = chain (vectorChecks s signs directions matrix vector ++ wrongRoom room (countedProjections s) ∷ []) _ refl
+
+  pub prepare-numbered : (query : List Float) (room space : ℕ) → Numbered (rotatedOf s signs directions matrix query room space)
+  unfolding rotatedOf
+  prepare-numbered query room space = chain (prepareChecks s signs directions matrix query room space) _ refl
+
+  pub decode-numbered : (bytes : List ℕ) (room : ℕ) → Numbered (decodeOf s signs directions matrix bytes room)
+  unfolding decodeOf
+  decode-numbered bytes room = chain (decodeChecks s signs directions matrix bytes room) _ refl
+
+mode-score-numbered : (mode : TurboMode) (n m : ℕ) (matrix query : List Float) (signs : List ℤ) → Numbered (modeScore mode n m matrix query signs)
+unfolding modeScore signedScore
+mode-score-numbered PolarOnly n m matrix query signs = chain (wrongInput (length signs) 0 ∷ []) _ refl
+mode-score-numbered PolarWithQjl n m matrix query signs =
+    chain (signedChecks m (projected n m matrix query) signs (unitResidual m (projected n m matrix query) signs)) _ refl
+
+pub sketch-score-numbered : (s : Setup) (signs directions matrix query : List Float) (sketch : List ℤ) → Numbered (sketchScoreOf s signs directions matrix query sketch)
+unfolding sketchScoreOf
+sketch-score-numbered s signs directions matrix query sketch =
+    first-numbered (vectorChecks s signs directions matrix query) _ refl (mode-score-numbered (s .mode) (s .dim) (s .projections) matrix query sketch)
+
+-- ---- record
+
+pub write-numbered : (profile : RadiusCodecProfileV1) (dim bits : ℕ) (mode : TurboMode) (m : ℕ) (radii : List Float) (indices : List ℕ) (signs : List ℤ) (room : ℕ)
+    → Numbered (writeOf profile dim bits mode m radii indices signs room)
+unfolding writeOf
+write-numbered profile dim bits mode m radii indices signs room =
+    chain
+    (fieldChecks profile dim bits mode m (length radii) (length indices) (length signs)
+    ++ valueChecks profile bits radii indices signs
+    ++ (wrongRoom room (neededFor profile dim bits mode m) ∷ []))
+    _ refl
+
+pub read-numbered : (bytes : List ℕ) → Numbered (readOf bytes)
+unfolding readOf
+read-numbered bytes = chain (recordChecks bytes) _ refl
+
+pub read-radii-numbered : (bytes : List ℕ) (room : ℕ) → Numbered (radiiReadOf bytes room)
+unfolding radiiReadOf
+read-radii-numbered bytes room = chain (recordChecks bytes ++ (wrongRoom room (pairsOf bytes) ∷ [])) _ refl
+
+pub read-indices-numbered : (bytes : List ℕ) (room : ℕ) → Numbered (indicesReadOf bytes room)
+unfolding indicesReadOf
+read-indices-numbered bytes room = chain (recordChecks bytes ++ (wrongRoom room (pairsOf bytes) ∷ [])) _ refl
+
+pub read-signs-numbered : (bytes : List ℕ) (room : ℕ) → Numbered (signsReadOf bytes room)
+unfolding signsReadOf
+read-signs-numbered bytes room = chain (recordChecks bytes ++ (wrongRoom room (projectionsOf bytes) ∷ [])) _ refl
+
+-- ---- scores
+
+module _ (s : Setup) (l : Lent) (bytes : List ℕ) where
+  pub estimate-numbered : Numbered (estimateOf s l bytes)
+  unfolding estimateOf
+  estimate-numbered = chain (estimateChecks s l bytes) _ refl
+
+  pub distance-numbered : Numbered (distanceOf s l bytes)
+  unfolding distanceOf
+  distance-numbered = chain (estimateChecks s l bytes ++ (badScore (distance s l bytes) ∷ [])) _ refl
+
+pub estimate-prepared-numbered : (s : Setup) (directions turned rows : List Float) (bytes : List ℕ) → Numbered (estimatePreparedOf s directions turned rows bytes)
+unfolding estimatePreparedOf
+estimate-prepared-numbered s directions turned rows bytes =
+    chain (readyChecks s directions turned rows ++ recordScoreChecks s directions turned rows bytes) _ refl

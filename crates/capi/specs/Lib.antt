@@ -1,0 +1,3 @@
+pub mod Told
+pub mod Codes
+pub mod Spans

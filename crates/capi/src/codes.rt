@@ -1,0 +1,63 @@
+// The cases of an enum by their numbers on the C side, and structs by their fields.
+use radius::RadiusCodecProfileV1;
+use setup::Setup;
+use setup::TurboMode;
+ghost use mathlib.Core.Path.{_≡_};
+ghost use Rattle.capi.specs.Codes.{modeOf, profileOf, setupOf, modeNumber, profileNumber};
+
+// The mode of a number: 0 is `PolarOnly`, every other one `PolarWithQjl`.
+pub fn mode(code: u8) -> TurboMode
+    ensures { λ r. ⌜ r ≡ modeOf code ⌝ }
+{
+    if code == 0 {
+        return TurboMode::PolarOnly;
+    }
+    TurboMode::PolarWithQjl
+}
+
+// The profile of a number: 0 is `F32`, 1 `BlockLinearU16`, every other one `BlockLogU8`.
+pub fn profile(code: u8) -> RadiusCodecProfileV1
+    ensures { λ r. ⌜ r ≡ profileOf code ⌝ }
+{
+    if code == 0 {
+        return RadiusCodecProfileV1::F32;
+    }
+    if code == 1 {
+        return RadiusCodecProfileV1::BlockLinearU16;
+    }
+    RadiusCodecProfileV1::BlockLogU8
+}
+
+// The scalars of a setup.
+pub fn setup(code: u8, dim: usize, bits: u8, projections: usize) -> Setup
+    ensures { λ r. ⌜ r ≡ setupOf code dim bits projections ⌝ }
+{
+    let chosen = mode(code);
+    Setup {
+        mode: chosen,
+        dim,
+        bits,
+        projections,
+    }
+}
+
+// The number of a mode.
+pub fn mode_number(mode: TurboMode) -> u8
+    ensures { λ r. ⌜ r ≡ modeNumber mode ⌝ }
+{
+    match mode {
+        TurboMode::PolarOnly => 0,
+        TurboMode::PolarWithQjl => 1,
+    }
+}
+
+// The number of a profile.
+pub fn profile_number(profile: RadiusCodecProfileV1) -> u8
+    ensures { λ r. ⌜ r ≡ profileNumber profile ⌝ }
+{
+    match profile {
+        RadiusCodecProfileV1::F32 => 0,
+        RadiusCodecProfileV1::BlockLinearU16 => 1,
+        RadiusCodecProfileV1::BlockLogU8 => 2,
+    }
+}

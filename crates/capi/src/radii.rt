@@ -1,0 +1,78 @@
+// Radii in bytes and back. A profile is a number: 0 is F32, 1 BlockLinearU16, every other one BlockLogU8.
+use crate::answers::tell;
+use crate::answers::tell_encoded;
+use crate::answers::tell_range;
+use crate::codes;
+use radius::Range;
+ghost use mathlib.Core.Path.{_≡_};
+ghost use lib.ListN.{length};
+ghost use Rattle.error.specs.Answer.{done, after};
+ghost use Rattle.radius.specs.Codec.{compressedRange, compressedBytes, decompressOf, encodedBytes};
+ghost use Rattle.capi.specs.Told.{said, told, part};
+ghost use Rattle.capi.specs.Codes.{profileOf, rangeOf, minOf, maxOf};
+
+// Compresses radii into exactly the bytes that they need, and answers their range.
+#[no_mangle]
+pub extern "C" fn foldrima_compress(
+    radii: &[f32],
+    profile: u8,
+    out: &mut [u8],
+    number: &mut u32,
+    place: &mut usize,
+    min: &mut f32,
+    max: &mut f32,
+)
+    ensures answer { λ _. ⌜ said (now (number .exit)) (now (place .exit)) ≡ told (compressedRange (now (radii .entry)) (profileOf profile) (length (now (out .entry)))) ⌝ }
+    ensures least { λ _. ⌜ now (min .exit) ≡ after (part minOf (compressedRange (now (radii .entry)) (profileOf profile) (length (now (out .entry))))) (now (min .entry)) ⌝ }
+    ensures greatest { λ _. ⌜ now (max .exit) ≡ after (part maxOf (compressedRange (now (radii .entry)) (profileOf profile) (length (now (out .entry))))) (now (max .entry)) ⌝ }
+    ensures left { λ _. ⌜ now (out .exit) ≡ after (compressedBytes (now (radii .entry)) (profileOf profile) (length (now (out .entry)))) (now (out .entry)) ⌝ }
+{
+    let chosen = codes::profile(profile);
+    tell_range(
+        radius::compress(radii, chosen, out),
+        number,
+        place,
+        min,
+        max,
+    );
+}
+
+// Decompresses `count` radii.
+#[no_mangle]
+pub extern "C" fn foldrima_decompress(
+    profile: u8,
+    count: usize,
+    min: f32,
+    max: f32,
+    payload: &[u8],
+    out: &mut [f32],
+    number: &mut u32,
+    place: &mut usize,
+)
+    ensures answer { λ _. ⌜ said (now (number .exit)) (now (place .exit)) ≡ told (done (decompressOf (profileOf profile) count (rangeOf min max) (now (payload .entry)) (length (now (out .entry))))) ⌝ }
+    ensures left { λ _. ⌜ now (out .exit) ≡ after (decompressOf (profileOf profile) count (rangeOf min max) (now (payload .entry)) (length (now (out .entry)))) (now (out .entry)) ⌝ }
+{
+    let chosen = codes::profile(profile);
+    let range = Range { min, max };
+    tell(
+        radius::decompress(chosen, count, range, payload, out),
+        number,
+        place,
+    );
+}
+
+// The bytes of a payload with the range that goes with it.
+#[no_mangle]
+pub extern "C" fn foldrima_encoded_bytes(
+    profile: u8,
+    payload: &[u8],
+    number: &mut u32,
+    place: &mut usize,
+    value: &mut usize,
+)
+    ensures answer { λ _. ⌜ said (now (number .exit)) (now (place .exit)) ≡ told (encodedBytes (profileOf profile) (now (payload .entry))) ⌝ }
+    ensures left { λ _. ⌜ now (value .exit) ≡ after (encodedBytes (profileOf profile) (now (payload .entry))) (now (value .entry)) ⌝ }
+{
+    let chosen = codes::profile(profile);
+    tell_encoded(radius::encoded_bytes(chosen, payload), number, place, value);
+}

@@ -1,0 +1,159 @@
+// Scores of a record by a query or by a prepared one, the distance, and the decoding. A setup's scalars are passed one by one; a mode is a number: 0 is
+// PolarOnly, every other one PolarWithQjl.
+use crate::answers::tell;
+use crate::answers::tell_score;
+use crate::codes;
+ghost use mathlib.Core.Path.{_≡_};
+ghost use lib.ListN.{length};
+ghost use Rattle.error.specs.Answer.{done, after};
+ghost use Rattle.query.specs.Query.{rotatedOf, projectedOf};
+ghost use Rattle.turbo.specs.Estimates.{estimateOf, estimatePreparedOf};
+ghost use Rattle.turbo.specs.Distance.{distanceOf};
+ghost use Rattle.decode.specs.Decode.{decodeOf};
+ghost use Rattle.capi.specs.Told.{said, told};
+ghost use Rattle.capi.specs.Codes.{setupOf, lentOf};
+
+// A query rotated and projected once for many records; neither output is written unless both fit.
+#[no_mangle]
+pub extern "C" fn foldrima_prepare_query(
+    mode: u8,
+    dim: usize,
+    bits: u8,
+    projections: usize,
+    signs: &[f32],
+    directions: &[f32],
+    matrix: &[f32],
+    query: &[f32],
+    rotated: &mut [f32],
+    projected: &mut [f32],
+    number: &mut u32,
+    place: &mut usize,
+)
+    ensures answer { λ _. ⌜ said (now (number .exit)) (now (place .exit)) ≡ told (done (rotatedOf (setupOf mode dim bits projections) (now (signs .entry)) (now (directions .entry)) (now (matrix .entry)) (now (query .entry)) (length (now (rotated .entry))) (length (now (projected .entry))))) ⌝ }
+    ensures turned { λ _. ⌜ now (rotated .exit) ≡ after (rotatedOf (setupOf mode dim bits projections) (now (signs .entry)) (now (directions .entry)) (now (matrix .entry)) (now (query .entry)) (length (now (rotated .entry))) (length (now (projected .entry)))) (now (rotated .entry)) ⌝ }
+    ensures rows { λ _. ⌜ now (projected .exit) ≡ after (projectedOf (setupOf mode dim bits projections) (now (signs .entry)) (now (directions .entry)) (now (matrix .entry)) (now (query .entry)) (length (now (rotated .entry))) (length (now (projected .entry)))) (now (projected .entry)) ⌝ }
+{
+    let scalars = codes::setup(mode, dim, bits, projections);
+    tell(
+        query::prepare_query(
+            scalars,
+            signs,
+            directions,
+            matrix,
+            query,
+            rotated,
+            projected,
+        ),
+        number,
+        place,
+    );
+}
+
+// The estimated inner product of a query and the vector that a record stands for.
+#[no_mangle]
+pub extern "C" fn foldrima_inner_product_estimate(
+    mode: u8,
+    dim: usize,
+    bits: u8,
+    projections: usize,
+    signs: &[f32],
+    directions: &[f32],
+    matrix: &[f32],
+    query: &[f32],
+    bytes: &[u8],
+    number: &mut u32,
+    place: &mut usize,
+    value: &mut f32,
+)
+    ensures answer { λ _. ⌜ said (now (number .exit)) (now (place .exit)) ≡ told (estimateOf (setupOf mode dim bits projections) (lentOf (now (signs .entry)) (now (directions .entry)) (now (matrix .entry)) (now (query .entry))) (now (bytes .entry))) ⌝ }
+    ensures left { λ _. ⌜ now (value .exit) ≡ after (estimateOf (setupOf mode dim bits projections) (lentOf (now (signs .entry)) (now (directions .entry)) (now (matrix .entry)) (now (query .entry))) (now (bytes .entry))) (now (value .entry)) ⌝ }
+{
+    let scalars = codes::setup(mode, dim, bits, projections);
+    tell_score(
+        turbo::inner_product_estimate(scalars, signs, directions, matrix, query, bytes),
+        number,
+        place,
+        value,
+    );
+}
+
+// The estimated squared distance of a query from the vector that a record stands for.
+#[no_mangle]
+pub extern "C" fn foldrima_l2_distance_estimate(
+    mode: u8,
+    dim: usize,
+    bits: u8,
+    projections: usize,
+    signs: &[f32],
+    directions: &[f32],
+    matrix: &[f32],
+    query: &[f32],
+    bytes: &[u8],
+    number: &mut u32,
+    place: &mut usize,
+    value: &mut f32,
+)
+    ensures answer { λ _. ⌜ said (now (number .exit)) (now (place .exit)) ≡ told (distanceOf (setupOf mode dim bits projections) (lentOf (now (signs .entry)) (now (directions .entry)) (now (matrix .entry)) (now (query .entry))) (now (bytes .entry))) ⌝ }
+    ensures left { λ _. ⌜ now (value .exit) ≡ after (distanceOf (setupOf mode dim bits projections) (lentOf (now (signs .entry)) (now (directions .entry)) (now (matrix .entry)) (now (query .entry))) (now (bytes .entry))) (now (value .entry)) ⌝ }
+{
+    let scalars = codes::setup(mode, dim, bits, projections);
+    tell_score(
+        turbo::l2_distance_estimate(scalars, signs, directions, matrix, query, bytes),
+        number,
+        place,
+        value,
+    );
+}
+
+// The estimated inner product by a query that is prepared.
+#[no_mangle]
+pub extern "C" fn foldrima_inner_product_estimate_prepared(
+    mode: u8,
+    dim: usize,
+    bits: u8,
+    projections: usize,
+    directions: &[f32],
+    rotated: &[f32],
+    projected: &[f32],
+    bytes: &[u8],
+    number: &mut u32,
+    place: &mut usize,
+    value: &mut f32,
+)
+    ensures answer { λ _. ⌜ said (now (number .exit)) (now (place .exit)) ≡ told (estimatePreparedOf (setupOf mode dim bits projections) (now (directions .entry)) (now (rotated .entry)) (now (projected .entry)) (now (bytes .entry))) ⌝ }
+    ensures left { λ _. ⌜ now (value .exit) ≡ after (estimatePreparedOf (setupOf mode dim bits projections) (now (directions .entry)) (now (rotated .entry)) (now (projected .entry)) (now (bytes .entry))) (now (value .entry)) ⌝ }
+{
+    let scalars = codes::setup(mode, dim, bits, projections);
+    tell_score(
+        turbo::inner_product_estimate_prepared(scalars, directions, rotated, projected, bytes),
+        number,
+        place,
+        value,
+    );
+}
+
+// The vector that a record stands for, into the output.
+#[no_mangle]
+pub extern "C" fn foldrima_decode_approximate(
+    mode: u8,
+    dim: usize,
+    bits: u8,
+    projections: usize,
+    signs: &[f32],
+    directions: &[f32],
+    matrix: &[f32],
+    bytes: &[u8],
+    out: &mut [f32],
+    number: &mut u32,
+    place: &mut usize,
+)
+    ensures answer { λ _. ⌜ said (now (number .exit)) (now (place .exit)) ≡ told (done (decodeOf (setupOf mode dim bits projections) (now (signs .entry)) (now (directions .entry)) (now (matrix .entry)) (now (bytes .entry)) (length (now (out .entry))))) ⌝ }
+    ensures left { λ _. ⌜ now (out .exit) ≡ after (decodeOf (setupOf mode dim bits projections) (now (signs .entry)) (now (directions .entry)) (now (matrix .entry)) (now (bytes .entry)) (length (now (out .entry)))) (now (out .entry)) ⌝ }
+{
+    let scalars = codes::setup(mode, dim, bits, projections);
+    tell(
+        decode::decode_approximate(scalars, signs, directions, matrix, bytes, out),
+        number,
+        place,
+    );
+}

@@ -1,0 +1,127 @@
+// The rotation, the check of a setup, and the sketch with its score. A setup's scalars are passed one by one; a mode is a number: 0 is PolarOnly, every
+// other one PolarWithQjl.
+use crate::answers::tell;
+use crate::answers::tell_score;
+use crate::codes;
+ghost use mathlib.Core.Path.{_≡_};
+ghost use lib.ListN.{length};
+ghost use Rattle.error.specs.Answer.{first, accepted, done, after};
+ghost use Rattle.rotation.specs.Rotation.{applied, appliedInverse};
+ghost use Rattle.setup.specs.Checks.{setupChecks};
+ghost use Rattle.qjl.specs.Sketch.{sketchOf};
+ghost use Rattle.qjl.specs.Score.{sketchScoreOf};
+ghost use Rattle.capi.specs.Told.{said, told};
+ghost use Rattle.capi.specs.Codes.{setupOf};
+
+// The rotation of the input into the output.
+#[no_mangle]
+pub extern "C" fn foldrima_apply(
+    dim: usize,
+    signs: &[f32],
+    input: &[f32],
+    output: &mut [f32],
+    number: &mut u32,
+    place: &mut usize,
+)
+    ensures answer { λ _. ⌜ said (now (number .exit)) (now (place .exit)) ≡ told (done (applied dim (now (signs .entry)) (now (input .entry)) (length (now (output .entry))))) ⌝ }
+    ensures left { λ _. ⌜ now (output .exit) ≡ after (applied dim (now (signs .entry)) (now (input .entry)) (length (now (output .entry)))) (now (output .entry)) ⌝ }
+{
+    tell(rotation::apply(dim, signs, input, output), number, place);
+}
+
+// The inverse rotation of the input into the output.
+#[no_mangle]
+pub extern "C" fn foldrima_apply_inverse(
+    dim: usize,
+    signs: &[f32],
+    input: &[f32],
+    output: &mut [f32],
+    number: &mut u32,
+    place: &mut usize,
+)
+    ensures answer { λ _. ⌜ said (now (number .exit)) (now (place .exit)) ≡ told (done (appliedInverse dim (now (signs .entry)) (now (input .entry)) (length (now (output .entry))))) ⌝ }
+    ensures left { λ _. ⌜ now (output .exit) ≡ after (appliedInverse dim (now (signs .entry)) (now (input .entry)) (length (now (output .entry)))) (now (output .entry)) ⌝ }
+{
+    tell(
+        rotation::apply_inverse(dim, signs, input, output),
+        number,
+        place,
+    );
+}
+
+// The checks of a setup.
+#[no_mangle]
+pub extern "C" fn foldrima_check_setup(
+    mode: u8,
+    dim: usize,
+    bits: u8,
+    projections: usize,
+    signs: &[f32],
+    directions: &[f32],
+    matrix: &[f32],
+    number: &mut u32,
+    place: &mut usize,
+)
+    ensures { λ _. ⌜ said (now (number .exit)) (now (place .exit)) ≡ told (first (setupChecks (setupOf mode dim bits projections) (now (signs .entry)) (now (directions .entry)) (now (matrix .entry))) accepted) ⌝ }
+{
+    let scalars = codes::setup(mode, dim, bits, projections);
+    tell(
+        setup::check_setup(scalars, signs, directions, matrix),
+        number,
+        place,
+    );
+}
+
+// The sketch of a vector, into the output.
+#[no_mangle]
+pub extern "C" fn foldrima_sketch(
+    mode: u8,
+    dim: usize,
+    bits: u8,
+    projections: usize,
+    signs: &[f32],
+    directions: &[f32],
+    matrix: &[f32],
+    vector: &[f32],
+    out: &mut [i8],
+    number: &mut u32,
+    place: &mut usize,
+)
+    ensures answer { λ _. ⌜ said (now (number .exit)) (now (place .exit)) ≡ told (done (sketchOf (setupOf mode dim bits projections) (now (signs .entry)) (now (directions .entry)) (now (matrix .entry)) (now (vector .entry)) (length (now (out .entry))))) ⌝ }
+    ensures left { λ _. ⌜ now (out .exit) ≡ after (sketchOf (setupOf mode dim bits projections) (now (signs .entry)) (now (directions .entry)) (now (matrix .entry)) (now (vector .entry)) (length (now (out .entry)))) (now (out .entry)) ⌝ }
+{
+    let scalars = codes::setup(mode, dim, bits, projections);
+    tell(
+        qjl::sketch(scalars, signs, directions, matrix, vector, out),
+        number,
+        place,
+    );
+}
+
+// The score of lent sketch signs.
+#[no_mangle]
+pub extern "C" fn foldrima_sketch_score(
+    mode: u8,
+    dim: usize,
+    bits: u8,
+    projections: usize,
+    signs: &[f32],
+    directions: &[f32],
+    matrix: &[f32],
+    query: &[f32],
+    sketch: &[i8],
+    number: &mut u32,
+    place: &mut usize,
+    value: &mut f32,
+)
+    ensures answer { λ _. ⌜ said (now (number .exit)) (now (place .exit)) ≡ told (sketchScoreOf (setupOf mode dim bits projections) (now (signs .entry)) (now (directions .entry)) (now (matrix .entry)) (now (query .entry)) (now (sketch .entry))) ⌝ }
+    ensures left { λ _. ⌜ now (value .exit) ≡ after (sketchScoreOf (setupOf mode dim bits projections) (now (signs .entry)) (now (directions .entry)) (now (matrix .entry)) (now (query .entry)) (now (sketch .entry))) (now (value .entry)) ⌝ }
+{
+    let scalars = codes::setup(mode, dim, bits, projections);
+    tell_score(
+        qjl::sketch_score(scalars, signs, directions, matrix, query, sketch),
+        number,
+        place,
+        value,
+    );
+}

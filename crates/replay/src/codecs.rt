@@ -1,0 +1,171 @@
+// The cases of packing, the codebook, radii and single numbers: each answers whether the call does what the list says.
+
+use super::frame;
+use super::same;
+use bitpack::Length;
+use codebook::Dequantized;
+use codebook::LevelCount;
+use codebook::Made;
+use codebook::Quantized;
+use codebook::ScalarCodebook;
+use polar::Angle;
+use radius::Compressed;
+use radius::Range;
+
+pub fn packed_len(case: &[u8; 1024]) -> bool {
+    match bitpack::packed_len(frame::first_number(case) as usize, frame::bits(case)) {
+        Length::Bytes(n) => same::number(case, n as u64),
+        Length::Refused { number, place } => same::refused(case, number, place),
+    }
+}
+
+pub fn pack_indices(case: &[u8; 1024]) -> bool {
+    let indices = frame::indices(case, frame::INDICES);
+    let count = frame::count(case, frame::INDICES);
+    let room = frame::room(case);
+    let mut out = frame::blank_bytes();
+    let given = bitpack::pack_indices(&indices[0..count], frame::bits(case), &mut out[0..room]);
+    same::outcome(case, given) && same::bytes(case, frame::BYTES, &out)
+}
+
+pub fn unpack_indices(case: &[u8; 1024]) -> bool {
+    let packed = frame::bytes(case, frame::BYTES);
+    let length = frame::count(case, frame::BYTES);
+    let count = frame::first_number(case) as usize;
+    let room = frame::room(case);
+    let mut out = frame::blank_indices();
+    let given = bitpack::unpack_indices(
+        &packed[0..length],
+        count,
+        frame::bits(case),
+        &mut out[0..room],
+    );
+    same::outcome(case, given) && same::indices(case, frame::INDICES, &out)
+}
+
+pub fn pack_signs(case: &[u8; 1024]) -> bool {
+    let signs = frame::signs(case, frame::SKETCH);
+    let count = frame::count(case, frame::SKETCH);
+    let room = frame::room(case);
+    let mut out = frame::blank_bytes();
+    let given = bitpack::pack_signs(&signs[0..count], &mut out[0..room]);
+    same::outcome(case, given) && same::bytes(case, frame::BYTES, &out)
+}
+
+pub fn unpack_signs(case: &[u8; 1024]) -> bool {
+    let packed = frame::bytes(case, frame::BYTES);
+    let length = frame::count(case, frame::BYTES);
+    let count = frame::first_number(case) as usize;
+    let room = frame::room(case);
+    let mut out = frame::blank_signs();
+    let given = bitpack::unpack_signs(&packed[0..length], count, &mut out[0..room]);
+    same::outcome(case, given) && same::signs(case, frame::SKETCH, &out)
+}
+
+pub fn validate_padding_zero(case: &[u8; 1024]) -> bool {
+    let packed = frame::bytes(case, frame::BYTES);
+    let length = frame::count(case, frame::BYTES);
+    let used = frame::first_number(case) as usize;
+    same::outcome(
+        case,
+        bitpack::validate_padding_zero(&packed[0..length], used),
+    )
+}
+
+fn book(case: &[u8; 1024]) -> ScalarCodebook {
+    ScalarCodebook {
+        bits: frame::bits(case),
+        min: frame::min(case),
+        max: frame::max(case),
+    }
+}
+
+pub fn codebook_uniform(case: &[u8; 1024]) -> bool {
+    match ScalarCodebook::uniform(frame::bits(case), frame::min(case), frame::max(case)) {
+        Made::Codebook(made) => {
+            let bits = made.bits;
+            let mut bounds = frame::blank_floats();
+            bounds[0] = made.min;
+            bounds[1] = made.max;
+            same::number(case, bits as u64) && same::floats(case, frame::FLOATS, &bounds)
+        }
+        Made::Refused { number, place } => same::refused(case, number, place),
+    }
+}
+
+pub fn codebook_levels(case: &[u8; 1024]) -> bool {
+    match book(case).levels() {
+        LevelCount::Levels(n) => same::number(case, n as u64),
+        LevelCount::Refused { number, place } => same::refused(case, number, place),
+    }
+}
+
+pub fn codebook_quantize(case: &[u8; 1024]) -> bool {
+    match book(case).quantize(frame::value(case)) {
+        Quantized::Index(n) => same::number(case, n as u64),
+        Quantized::Refused { number, place } => same::refused(case, number, place),
+    }
+}
+
+pub fn codebook_midpoint(case: &[u8; 1024]) -> bool {
+    match book(case).dequantize_midpoint(frame::index(case)) {
+        Dequantized::Midpoint(x) => same::value(case, x),
+        Dequantized::Refused { number, place } => same::refused(case, number, place),
+    }
+}
+
+pub fn compress(case: &[u8; 1024]) -> bool {
+    let radii = frame::floats(case, frame::VECTOR);
+    let count = frame::count(case, frame::VECTOR);
+    let room = frame::room(case);
+    let mut out = frame::blank_bytes();
+    let given = radius::compress(&radii[0..count], frame::profile(case), &mut out[0..room]);
+    compressed(case, given) && same::bytes(case, frame::BYTES, &out)
+}
+
+// Whether the list says this range, or this refusal.
+fn compressed(case: &[u8; 1024], given: Compressed) -> bool {
+    match given {
+        Compressed::Made(range) => {
+            let mut bounds = frame::blank_floats();
+            bounds[0] = range.min;
+            bounds[1] = range.max;
+            same::accepted(case) && same::floats(case, frame::FLOATS, &bounds)
+        }
+        Compressed::Refused { number, place } => same::refused(case, number, place),
+    }
+}
+
+pub fn decompress(case: &[u8; 1024]) -> bool {
+    let payload = frame::bytes(case, frame::BYTES);
+    let length = frame::count(case, frame::BYTES);
+    let count = frame::first_number(case) as usize;
+    let room = frame::room(case);
+    let mut out = frame::blank_floats();
+    let given = radius::decompress(
+        frame::profile(case),
+        count,
+        frame::range(case),
+        &payload[0..length],
+        &mut out[0..room],
+    );
+    same::outcome(case, given) && same::floats(case, frame::FLOATS, &out)
+}
+
+pub fn root(case: &[u8; 1024]) -> bool {
+    same::value(case, float::sqrt(frame::value(case)))
+}
+
+pub fn dequantize_angle(case: &[u8; 1024]) -> bool {
+    match polar::dequantize_angle(frame::bits(case), frame::index(case)) {
+        Angle::Radians(x) => same::value(case, x),
+        Angle::Refused { number, place } => same::refused(case, number, place),
+    }
+}
+
+pub fn seeds(case: &[u8; 1024]) -> bool {
+    let seed = frame::first_number(case);
+    same::accepted(case)
+        && setup::hadamard_seed(seed) == frame::second_number(case)
+        && setup::matrix_seed(seed) == frame::third_number(case)
+}

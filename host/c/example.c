@@ -1,0 +1,41 @@
+/*
+ * Packs three indices, writes a record, scores it, and is refused once.
+ *
+ *     rt staticlib capi
+ *     cc -I include host/c/example.c target/staticlib/libcapi.a -o example && ./example
+ */
+#include <stdio.h>
+
+#include "foldrima.h"
+
+int main(void)
+{
+    uint32_t number;
+    size_t place;
+
+    const uint16_t indices[3] = {1, 2, 3};
+    uint8_t packed[1];
+    foldrima_pack_indices(indices, 3, 2, packed, 1, &number, &place);
+    printf("packed: %u %zu, %02X\n", number, place, packed[0]);
+
+    /* Dimension 2, 1 bit: one radius, one index. */
+    const float radius[1] = {1.0f};
+    const uint16_t index[1] = {1};
+    const int8_t none[1] = {0};
+    uint8_t record[11];
+    foldrima_write_record(0, 2, 1, 0, 0, radius, 1, index, 1, none, 0, record, 11, &number, &place);
+    printf("record: %u %zu,", number, place);
+    for (int i = 0; i < 11; i++)
+        printf(" %02X", record[i]);
+
+    /* Indices 0 and 1 stand for the angles -PI and 0. */
+    const float signs[2] = {1.0f, 1.0f}, directions[4] = {-1.0f, 0.0f, 1.0f, 0.0f}, matrix[1] = {0.0f}, query[2] = {3.0f, 4.0f};
+    float score = -1.0f;
+    foldrima_inner_product_estimate(0, 2, 1, 0, signs, 2, directions, 4, matrix, 0, query, 2, record, 11, &number, &place, &score);
+    printf("\nscore: %u %zu, %.6f\n", number, place, score);
+
+    /* A record cut short: 13 at the length found, and the score stays. */
+    foldrima_inner_product_estimate(0, 2, 1, 0, signs, 2, directions, 4, matrix, 0, query, 2, record, 10, &number, &place, &score);
+    printf("refused: %u %zu, %.6f\n", number, place, score);
+    return 0;
+}

@@ -1,0 +1,197 @@
+/*
+ * The C functions of the proved port of turbo-quant, one for each public call.
+ *
+ * Nothing checks this header against crates/capi; a signature here must be that of the function of the same name there.
+ *
+ * Slices. A slice is a pointer and a length in elements. Lend a valid, aligned pointer also where the length is 0. Memory that a call writes (a pointer
+ * that is not const) must overlap nothing else that the call is lent.
+ *
+ * Answers. *number is the refusal's number (FOLDRIMA_..) and *place its place; both are 0 where nothing is refused, and no refusal has the number 0. A
+ * refusal writes to no other memory: *value and every output keep what they held.
+ *
+ * Outputs. A lent output must have exactly the needed length, else 6 with the needed length as the place, after all other checks.
+ *
+ * Numbers for cases. mode: 0 is PolarOnly, every other number PolarWithQjl. profile: 0 is F32, 1 BlockLinearU16, every other number BlockLogU8, which is
+ * refused (18).
+ *
+ * Setups. A setup is mode, dim, bits (the total) and projections, and lent beside them signs (dim entries, each -1 or 1), directions (cosine and sine of
+ * the angle of each index, 2 * 2^polar bits entries) and matrix (projections * dim entries, row by row; none in PolarOnly). Polar bits are the total,
+ * less 1 in PolarWithQjl. Every call that takes a setup checks it first.
+ */
+#ifndef FOLDRIMA_H
+#define FOLDRIMA_H
+
+#include <stddef.h>
+#include <stdint.h>
+
+#ifdef __cplusplus
+extern "C" {
+#endif
+
+/* ---- the refusals */
+
+#define FOLDRIMA_INVALID_BIT_WIDTH 1      /* bits outside 1..16, or total bits below 2 in residual mode; place: the bits */
+#define FOLDRIMA_ZERO_DIMENSION 2         /* dimension 0; place 0 */
+#define FOLDRIMA_ODD_DIMENSION 3          /* odd dimension; place: the dimension */
+#define FOLDRIMA_ROTATION_FAILED 4        /* an even dimension that is no power of two, or above 4,096; place: the dimension */
+#define FOLDRIMA_DIMENSION_MISMATCH 5     /* an input's length, or a record's dimension, is not the setup's; place: what was found */
+#define FOLDRIMA_OUTPUT_LENGTH 6          /* an output isn't exactly the needed length; place: the needed length */
+#define FOLDRIMA_INVALID_DIRECTION 7      /* a direction entry is not finite or outside -1..1; place: its index */
+#define FOLDRIMA_ZERO_PROJECTION_COUNT 8  /* in residual mode, projections 0 or above 4,096; place: the count */
+#define FOLDRIMA_NON_FINITE_MATRIX 9      /* a matrix entry is not finite; place: its index */
+#define FOLDRIMA_MALFORMED_SIGN 10        /* a sign is neither -1 nor 1; place: its index */
+#define FOLDRIMA_NON_FINITE_INPUT 11      /* a value is not finite, in the vector, rotated or projected; place: its index there */
+#define FOLDRIMA_NON_FINITE_SCORE 12      /* a score or distance is not finite; place 0 */
+#define FOLDRIMA_MALFORMED_LENGTH 13      /* byte length wrong; place: the length found */
+#define FOLDRIMA_MALFORMED_PADDING 14     /* padding bits not zero; place: that byte's index in its payload */
+#define FOLDRIMA_MALFORMED_INDEX 15       /* an index at or above 2^bits; place: its index, or 0 for a single one */
+#define FOLDRIMA_MALFORMED_RADIUS 16      /* a radius is NaN, infinite or below zero; place: its index */
+#define FOLDRIMA_MALFORMED_RANGE 17       /* a bound not finite, or min above max; for a codebook also min equal to max; place 0 */
+#define FOLDRIMA_UNDEFINED_PROFILE 18     /* a map bit not defined, or BlockLogU8; place: the map byte, or 0 */
+#define FOLDRIMA_LENGTH_OVERFLOW 19       /* count times bits exceeds the largest size_t; place 0 */
+#define FOLDRIMA_PROFILE_MISMATCH 20      /* a record's bits or projections are not the setup's; place 0 */
+
+/* ---- setup */
+
+/* Whether a setup is accepted: 2, 3, 1, 8, 4, 5 for signs, directions, matrix, 10, 7, 9. */
+void foldrima_check_setup(uint8_t mode, size_t dim, uint8_t bits, size_t projections, const float *signs, size_t signs_len, const float *directions,
+                          size_t directions_len, const float *matrix, size_t matrix_len, uint32_t *number, size_t *place);
+
+/* The seed of the host's generator of rotation signs: seed + A11CE55ED5A5EED5 modulo 2^64. */
+uint64_t foldrima_hadamard_seed(uint64_t seed);
+
+/* The seed of the host's generator of matrix entries: seed + CAFEBABE00000001 + DEADBEEF12345678 modulo 2^64. */
+uint64_t foldrima_matrix_seed(uint64_t seed);
+
+/* ---- bits */
+
+/* The bytes that count indices of so many bits take: 1, 19. */
+void foldrima_packed_len(size_t count, uint8_t bits, uint32_t *number, size_t *place, size_t *value);
+
+/* Packs indices, the first from bit 0 of byte 0 upward: 1, 19, 15, 6. */
+void foldrima_pack_indices(const uint16_t *indices, size_t indices_len, uint8_t bits, uint8_t *out, size_t out_len, uint32_t *number, size_t *place);
+
+/* Unpacks count indices: 1, 19, 13, 14, 6. */
+void foldrima_unpack_indices(const uint8_t *packed, size_t packed_len, size_t count, uint8_t bits, uint16_t *out, size_t out_len, uint32_t *number,
+                             size_t *place);
+
+/* Packs signs, each -1 or 1, as bit 0 or 1: 10, 6. */
+void foldrima_pack_signs(const int8_t *signs, size_t signs_len, uint8_t *out, size_t out_len, uint32_t *number, size_t *place);
+
+/* Unpacks count signs: 13, 14, 6. */
+void foldrima_unpack_signs(const uint8_t *packed, size_t packed_len, size_t count, int8_t *out, size_t out_len, uint32_t *number, size_t *place);
+
+/* Whether the length is right and every bit from used_bits up is zero: 13, 14. */
+void foldrima_validate_padding_zero(const uint8_t *packed, size_t packed_len, size_t used_bits, uint32_t *number, size_t *place);
+
+/* ---- rotation, sketch, score */
+
+/* The Hadamard rotation of the input: 2, 3, 4, 5 for the signs, 10, 5 for the input, 6. Values that aren't finite pass through. */
+void foldrima_apply(size_t dim, const float *signs, size_t signs_len, const float *input, size_t input_len, float *output, size_t output_len,
+                    uint32_t *number, size_t *place);
+
+/* The inverse rotation; refusals as for foldrima_apply. */
+void foldrima_apply_inverse(size_t dim, const float *signs, size_t signs_len, const float *input, size_t input_len, float *output, size_t output_len,
+                            uint32_t *number, size_t *place);
+
+/* IEEE 754's squareRoot; below zero it is NaN. */
+float foldrima_sqrt(float x);
+
+/* The angle of an index of so many bits, from -PI on: 1, 15. */
+void foldrima_dequantize_angle(uint8_t bits, uint16_t index, uint32_t *number, size_t *place, float *value);
+
+/* The sketch of a vector, a sign for each projection, none in PolarOnly: setup, 5, 11, 6. */
+void foldrima_sketch(uint8_t mode, size_t dim, uint8_t bits, size_t projections, const float *signs, size_t signs_len, const float *directions,
+                     size_t directions_len, const float *matrix, size_t matrix_len, const float *vector, size_t vector_len, int8_t *out, size_t out_len,
+                     uint32_t *number, size_t *place);
+
+/* The score of lent sketch signs: setup, 5, 11 query, 11 projected, 5 and 10 for the signs, 12. In PolarOnly the value is 0. */
+void foldrima_sketch_score(uint8_t mode, size_t dim, uint8_t bits, size_t projections, const float *signs, size_t signs_len, const float *directions,
+                           size_t directions_len, const float *matrix, size_t matrix_len, const float *query, size_t query_len, const int8_t *sketch,
+                           size_t sketch_len, uint32_t *number, size_t *place, float *value);
+
+/* A query rotated (dim entries) and projected (projections entries, none in PolarOnly): setup, 5, 11 thrice, 6 for rotated, 6 for projected. */
+void foldrima_prepare_query(uint8_t mode, size_t dim, uint8_t bits, size_t projections, const float *signs, size_t signs_len, const float *directions,
+                            size_t directions_len, const float *matrix, size_t matrix_len, const float *query, size_t query_len, float *rotated,
+                            size_t rotated_len, float *projected, size_t projected_len, uint32_t *number, size_t *place);
+
+/* The score of a record by a query: setup, 5, 11 thrice, the record's reading, 5, 20, 12. */
+void foldrima_inner_product_estimate(uint8_t mode, size_t dim, uint8_t bits, size_t projections, const float *signs, size_t signs_len,
+                                     const float *directions, size_t directions_len, const float *matrix, size_t matrix_len, const float *query,
+                                     size_t query_len, const uint8_t *bytes, size_t bytes_len, uint32_t *number, size_t *place, float *value);
+
+/* The score of a record by a prepared query: 2, 3, 1, 8, 4, 5 and 7 for the directions, 5 twice, 11 twice, the record's reading, 5, 20, 12. */
+void foldrima_inner_product_estimate_prepared(uint8_t mode, size_t dim, uint8_t bits, size_t projections, const float *directions,
+                                              size_t directions_len, const float *rotated, size_t rotated_len, const float *projected,
+                                              size_t projected_len, const uint8_t *bytes, size_t bytes_len, uint32_t *number, size_t *place,
+                                              float *value);
+
+/* The squared distance of a record from a query: the score's refusals, then 12 of its own. It is 0 where it would be below zero or NaN. */
+void foldrima_l2_distance_estimate(uint8_t mode, size_t dim, uint8_t bits, size_t projections, const float *signs, size_t signs_len,
+                                   const float *directions, size_t directions_len, const float *matrix, size_t matrix_len, const float *query,
+                                   size_t query_len, const uint8_t *bytes, size_t bytes_len, uint32_t *number, size_t *place, float *value);
+
+/* The vector that a record stands for (dim entries): setup, the record's reading, 5, 20, 6. */
+void foldrima_decode_approximate(uint8_t mode, size_t dim, uint8_t bits, size_t projections, const float *signs, size_t signs_len,
+                                 const float *directions, size_t directions_len, const float *matrix, size_t matrix_len, const uint8_t *bytes,
+                                 size_t bytes_len, float *out, size_t out_len, uint32_t *number, size_t *place);
+
+/* ---- radii and codebook */
+
+/* Compresses radii, 4 bytes each (F32) or 2 (BlockLinearU16), and answers their range, 0 and 0 for F32: 16, 18, 6. */
+void foldrima_compress(const float *radii, size_t radii_len, uint8_t profile, uint8_t *out, size_t out_len, uint32_t *number, size_t *place, float *min,
+                       float *max);
+
+/* Decompresses count radii: 18, 13, 17 (linear only), 16 (F32 only), 6. */
+void foldrima_decompress(uint8_t profile, size_t count, float min, float max, const uint8_t *payload, size_t payload_len, float *out, size_t out_len,
+                         uint32_t *number, size_t *place);
+
+/* The bytes of a payload with the range that goes with it: 18. */
+void foldrima_encoded_bytes(uint8_t profile, const uint8_t *payload, size_t payload_len, uint32_t *number, size_t *place, size_t *value);
+
+/* Whether bits and bounds make a codebook, which is these three: 1, 17. */
+void foldrima_uniform(uint8_t bits, float min, float max, uint32_t *number, size_t *place);
+
+/* How many levels a codebook has: 1, 17. */
+void foldrima_levels(uint8_t bits, float min, float max, uint32_t *number, size_t *place, uint32_t *value);
+
+/* The level that x falls into: 1, 17, 11. */
+void foldrima_quantize(uint8_t bits, float min, float max, float x, uint32_t *number, size_t *place, uint16_t *value);
+
+/* The middle of a level, which may be infinite: 1, 17, 15. */
+void foldrima_dequantize_midpoint(uint8_t bits, float min, float max, uint16_t index, uint32_t *number, size_t *place, float *value);
+
+/* ---- the record */
+
+/* Writes a record; bits are the polar bits, and in PolarOnly the signs are none: 18, 2, 3, 4, 1, 8, 5 for radii, indices, signs, 16, 15, 10, 6. */
+void foldrima_write_record(uint8_t profile, size_t dim, uint8_t bits, uint8_t mode, size_t projections, const float *radii, size_t radii_len,
+                           const uint16_t *indices, size_t indices_len, const int8_t *signs, size_t signs_len, uint8_t *out, size_t out_len,
+                           uint32_t *number, size_t *place);
+
+/* Reads a record's header: 13, 18, 2, 3, 4, 1, 13, 8, 13, 17, 16, 14 for the indices, 14 for the signs. */
+void foldrima_read_record(const uint8_t *bytes, size_t bytes_len, uint32_t *number, size_t *place, uint8_t *mode, uint8_t *profile, size_t *dim,
+                          uint8_t *bits, size_t *projections, float *min, float *max);
+
+/* Where the radii stand in a record's bytes; start and count are 0 where the record is refused. */
+void foldrima_radii_part(const uint8_t *bytes, size_t bytes_len, size_t *start, size_t *count);
+
+/* Where the indices stand; start and count are 0 where the record is refused. */
+void foldrima_indices_part(const uint8_t *bytes, size_t bytes_len, size_t *start, size_t *count);
+
+/* Where the signs stand; start and count are 0 where the record is refused, and count is 0 where it has none. */
+void foldrima_signs_part(const uint8_t *bytes, size_t bytes_len, size_t *start, size_t *count);
+
+/* The radii of a record (dimension / 2): the reading's refusals, 6. */
+void foldrima_read_radii(const uint8_t *bytes, size_t bytes_len, float *out, size_t out_len, uint32_t *number, size_t *place);
+
+/* The indices of a record (dimension / 2): the reading's refusals, 6. */
+void foldrima_read_indices(const uint8_t *bytes, size_t bytes_len, uint16_t *out, size_t out_len, uint32_t *number, size_t *place);
+
+/* The signs of a record (its projections, or none): the reading's refusals, 6. */
+void foldrima_read_signs(const uint8_t *bytes, size_t bytes_len, int8_t *out, size_t out_len, uint32_t *number, size_t *place);
+
+#ifdef __cplusplus
+}
+#endif
+
+#endif
