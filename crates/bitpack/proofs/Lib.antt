@@ -6,10 +6,6 @@ pub mod Windows
 pub mod Packing
 pub mod Unpacking
 pub mod Answers
-pub mod Signs
-pub mod SignPacking
-pub mod SignUnpacking
-pub mod SignAnswers
 pub mod Bits
 pub mod Eights
 pub mod RoundTrip

@@ -9,7 +9,7 @@ use native.Mathlib.Omega.{arith}
 use lib.Dec.{ltb, eqb}
 use lib.IntN.{ℤ, pos, negsuc}
 use lib.Pow.{pow-pos, pow-mono}
-use lib.ListN.{length, getD, length-map}
+use lib.ListN.{length, getD, length-map, List·getD-map}
 use borrow.Author.Tests.{lt-leb, leb-false, ltb-false, eqb-true, eqb-false}
 use Rattle.error.specs.Answer.{value, check, place, each}
 use Rattle.digits.specs.Digits.{number, digits}
@@ -21,7 +21,6 @@ use Rattle.bitpack.specs.Signs.{isPlus, notSign, bitOf, signOf, packSign
 use Rattle.error.proofs.Chains.{Passed, first-passes, first-value, first-accepts, or-false}
 use Rattle.error.proofs.Places.{each-clear, each-none}
 use Rattle.bitpack.proofs.Differs.{differs-not, differs-same}
-use Rattle.bitpack.proofs.Signs.{bit-at}
 use Rattle.bitpack.proofs.Bits.{power-power, number-bit, padded-number}
 
 -- ---- digits of `bits` bits each in bytes, and back; `used` is how many bits they take
@@ -182,7 +181,7 @@ bit-small z = by (isPlus z)
     by false = omega arith
 
 bits-below : (signs : List ℤ) → Below 2 (map bitOf signs)
-bits-below signs = record { at = λ i h. rw (bit-at signs i) (bit-small (getD signs i (pos 0))) }
+bits-below signs = record { at = λ i h. rw (List·getD-map bitOf signs i (pos 0)) (bit-small (getD signs i (pos 0))) }
 
 -- every sign of a bit is a sign
 sign-good : (b : ℕ) → notSign (signOf b) ≡ false

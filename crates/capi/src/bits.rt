@@ -70,7 +70,7 @@ pub extern "C" fn foldrima_pack_signs(
     ensures answer { λ _. ⌜ said (now (number .exit)) (now (place .exit)) ≡ told (done (packSignsOf (now (signs .entry)) (length (now (out .entry))))) ⌝ }
     ensures left { λ _. ⌜ now (out .exit) ≡ after (packSignsOf (now (signs .entry)) (length (now (out .entry)))) (now (out .entry)) ⌝ }
 {
-    tell(bitpack::pack_signs(signs, out), number, place);
+    tell(signs::pack_signs(signs, out), number, place);
 }
 
 // Unpacks `count` signs.
@@ -85,7 +85,7 @@ pub extern "C" fn foldrima_unpack_signs(
     ensures answer { λ _. ⌜ said (now (number .exit)) (now (place .exit)) ≡ told (done (unpackSignsOf (now (packed .entry)) count (length (now (out .entry))))) ⌝ }
     ensures left { λ _. ⌜ now (out .exit) ≡ after (unpackSignsOf (now (packed .entry)) count (length (now (out .entry)))) (now (out .entry)) ⌝ }
 {
-    tell(bitpack::unpack_signs(packed, count, out), number, place);
+    tell(signs::unpack_signs(packed, count, out), number, place);
 }
 
 // Whether the length is right and all bits from `used_bits` up are zero.

@@ -100,7 +100,7 @@ pub fn read_signs(bytes: &[u8], out: &mut [i8]) -> Outcome
         Reading::Read(header) => {
             let from = header.signs;
             let to = header.end;
-            bitpack::unpack_signs(&bytes[from..to], header.projections, out)
+            signs::unpack_signs(&bytes[from..to], header.projections, out)
         }
         Reading::Refused { number, place } => Outcome::Refused { number, place },
     }

@@ -48,7 +48,7 @@ pub fn pack_signs(case: &[u8; 1024]) -> bool {
     let count = frame::count(case, frame::SKETCH);
     let room = frame::room(case);
     let mut out = frame::blank_bytes();
-    let given = bitpack::pack_signs(&signs[0..count], &mut out[0..room]);
+    let given = signs::pack_signs(&signs[0..count], &mut out[0..room]);
     same::outcome(case, given) && same::bytes(case, frame::BYTES, &out)
 }
 
@@ -58,7 +58,7 @@ pub fn unpack_signs(case: &[u8; 1024]) -> bool {
     let count = frame::first_number(case) as usize;
     let room = frame::room(case);
     let mut out = frame::blank_signs();
-    let given = bitpack::unpack_signs(&packed[0..length], count, &mut out[0..room]);
+    let given = signs::unpack_signs(&packed[0..length], count, &mut out[0..room]);
     same::outcome(case, given) && same::signs(case, frame::SKETCH, &out)
 }
 

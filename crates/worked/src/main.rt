@@ -65,13 +65,13 @@ fn signs() {
     let p5 = [1i8, -1, 1];
     let mut one = [0u8; 1];
     title(b"P5  signs (+, -, +): ");
-    answer(bitpack::pack_signs(&p5, &mut one), &one);
+    answer(signs::pack_signs(&p5, &mut one), &one);
     verdict(b"05");
 
     let p6 = [0x0Du8];
     let mut three = [0i8; 3];
     title(b"P6  0d as 3 signs: ");
-    answer(bitpack::unpack_signs(&p6, 3, &mut three), &p6);
+    answer(signs::unpack_signs(&p6, 3, &mut three), &p6);
     verdict(b"refused 14 at 0");
 }
 

@@ -208,7 +208,7 @@ fn check_signs(signs: &[i8]) -> Outcome
 {
     let mut scratch = zeros();
     let long = (signs.len() + 7) / 8;
-    bitpack::pack_signs(signs, &mut scratch[0..long])
+    signs::pack_signs(signs, &mut scratch[0..long])
 }
 
 // Memory for the largest payload: 4 bytes for each of 2,048 radii.
@@ -311,7 +311,7 @@ fn put_signs(signs: &[i8], out: &mut [u8])
     requires { ⌜ packSignsOf (now signs) (length (now out)) ≡ value (signBytes (now signs)) ⌝ }
     ensures { λ r. ⌜ now (out .exit) ≡ signBytes (now (signs .entry)) ⌝ }
 {
-    bitpack::pack_signs(signs, out);
+    signs::pack_signs(signs, out);
 }
 
 // Writes the header.

@@ -11,7 +11,7 @@ use Rattle.writing.proofs.check_signs.Statement.{statement}
 use Rattle.writing.proofs.check_signs.Tie as tie
 use Rattle.writing.proofs.check_signs.Reads as reads
 use Rattle.writing.proofs.check_signs.Lts as lts
-use Rattle.bitpack.proofs.pack_signs.Reads as pack-signs-reads
+use Rattle.signs.proofs.pack_signs.Reads as pack-signs-reads
 use Rattle.writing.proofs.zeros.Reads as zeros-reads
 
 whole : (c : tie.After-zeros) → length (c .zeros .result) ≡ 8192

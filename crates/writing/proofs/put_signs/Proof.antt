@@ -9,7 +9,7 @@ use Rattle.writing.proofs.put_signs.Statement.{statement}
 use Rattle.writing.proofs.put_signs.Tie as tie
 use Rattle.writing.proofs.put_signs.Reads as reads
 use Rattle.writing.proofs.put_signs.Lts as lts
-use Rattle.bitpack.proofs.pack_signs.Reads as pack-signs-reads
+use Rattle.signs.proofs.pack_signs.Reads as pack-signs-reads
 
 pack-signs-requires : tie.Need-pack-signs-requires
 pack-signs-requires c κs = search needs

@@ -1,0 +1,4 @@
+pub mod Signs
+pub mod SignPacking
+pub mod SignUnpacking
+pub mod SignAnswers
