@@ -12,14 +12,14 @@ use polar::Angle;
 use radius::Compressed;
 use radius::Range;
 
-pub fn packed_len(case: &[u8; 1024]) -> bool {
+pub(crate) fn packed_len(case: &[u8; 1024]) -> bool {
     match bitpack::packed_len(frame::first_number(case) as usize, frame::bits(case)) {
         Length::Bytes(n) => same::number(case, n as u64),
         Length::Refused { number, place } => same::refused(case, number, place),
     }
 }
 
-pub fn pack_indices(case: &[u8; 1024]) -> bool {
+pub(crate) fn pack_indices(case: &[u8; 1024]) -> bool {
     let indices = frame::indices(case, frame::INDICES);
     let count = frame::count(case, frame::INDICES);
     let room = frame::room(case);
@@ -28,7 +28,7 @@ pub fn pack_indices(case: &[u8; 1024]) -> bool {
     same::outcome(case, given) && same::bytes(case, frame::BYTES, &out)
 }
 
-pub fn unpack_indices(case: &[u8; 1024]) -> bool {
+pub(crate) fn unpack_indices(case: &[u8; 1024]) -> bool {
     let packed = frame::bytes(case, frame::BYTES);
     let length = frame::count(case, frame::BYTES);
     let count = frame::first_number(case) as usize;
@@ -43,7 +43,7 @@ pub fn unpack_indices(case: &[u8; 1024]) -> bool {
     same::outcome(case, given) && same::indices(case, frame::INDICES, &out)
 }
 
-pub fn pack_signs(case: &[u8; 1024]) -> bool {
+pub(crate) fn pack_signs(case: &[u8; 1024]) -> bool {
     let signs = frame::signs(case, frame::SKETCH);
     let count = frame::count(case, frame::SKETCH);
     let room = frame::room(case);
@@ -52,7 +52,7 @@ pub fn pack_signs(case: &[u8; 1024]) -> bool {
     same::outcome(case, given) && same::bytes(case, frame::BYTES, &out)
 }
 
-pub fn unpack_signs(case: &[u8; 1024]) -> bool {
+pub(crate) fn unpack_signs(case: &[u8; 1024]) -> bool {
     let packed = frame::bytes(case, frame::BYTES);
     let length = frame::count(case, frame::BYTES);
     let count = frame::first_number(case) as usize;
@@ -62,7 +62,7 @@ pub fn unpack_signs(case: &[u8; 1024]) -> bool {
     same::outcome(case, given) && same::signs(case, frame::SKETCH, &out)
 }
 
-pub fn validate_padding_zero(case: &[u8; 1024]) -> bool {
+pub(crate) fn validate_padding_zero(case: &[u8; 1024]) -> bool {
     let packed = frame::bytes(case, frame::BYTES);
     let length = frame::count(case, frame::BYTES);
     let used = frame::first_number(case) as usize;
@@ -80,7 +80,7 @@ fn book(case: &[u8; 1024]) -> ScalarCodebook {
     }
 }
 
-pub fn codebook_uniform(case: &[u8; 1024]) -> bool {
+pub(crate) fn codebook_uniform(case: &[u8; 1024]) -> bool {
     match ScalarCodebook::uniform(frame::bits(case), frame::min(case), frame::max(case)) {
         Made::Codebook(made) => {
             let bits = made.bits;
@@ -93,28 +93,28 @@ pub fn codebook_uniform(case: &[u8; 1024]) -> bool {
     }
 }
 
-pub fn codebook_levels(case: &[u8; 1024]) -> bool {
+pub(crate) fn codebook_levels(case: &[u8; 1024]) -> bool {
     match book(case).levels() {
         LevelCount::Levels(n) => same::number(case, n as u64),
         LevelCount::Refused { number, place } => same::refused(case, number, place),
     }
 }
 
-pub fn codebook_quantize(case: &[u8; 1024]) -> bool {
+pub(crate) fn codebook_quantize(case: &[u8; 1024]) -> bool {
     match book(case).quantize(frame::value(case)) {
         Quantized::Index(n) => same::number(case, n as u64),
         Quantized::Refused { number, place } => same::refused(case, number, place),
     }
 }
 
-pub fn codebook_midpoint(case: &[u8; 1024]) -> bool {
+pub(crate) fn codebook_midpoint(case: &[u8; 1024]) -> bool {
     match book(case).dequantize_midpoint(frame::index(case)) {
         Dequantized::Midpoint(x) => same::value(case, x),
         Dequantized::Refused { number, place } => same::refused(case, number, place),
     }
 }
 
-pub fn compress(case: &[u8; 1024]) -> bool {
+pub(crate) fn compress(case: &[u8; 1024]) -> bool {
     let radii = frame::floats(case, frame::VECTOR);
     let count = frame::count(case, frame::VECTOR);
     let room = frame::room(case);
@@ -136,7 +136,7 @@ fn compressed(case: &[u8; 1024], given: Compressed) -> bool {
     }
 }
 
-pub fn decompress(case: &[u8; 1024]) -> bool {
+pub(crate) fn decompress(case: &[u8; 1024]) -> bool {
     let payload = frame::bytes(case, frame::BYTES);
     let length = frame::count(case, frame::BYTES);
     let count = frame::first_number(case) as usize;
@@ -152,18 +152,18 @@ pub fn decompress(case: &[u8; 1024]) -> bool {
     same::outcome(case, given) && same::floats(case, frame::FLOATS, &out)
 }
 
-pub fn root(case: &[u8; 1024]) -> bool {
+pub(crate) fn root(case: &[u8; 1024]) -> bool {
     same::value(case, float::sqrt(frame::value(case)))
 }
 
-pub fn dequantize_angle(case: &[u8; 1024]) -> bool {
+pub(crate) fn dequantize_angle(case: &[u8; 1024]) -> bool {
     match polar::dequantize_angle(frame::bits(case), frame::index(case)) {
         Angle::Radians(x) => same::value(case, x),
         Angle::Refused { number, place } => same::refused(case, number, place),
     }
 }
 
-pub fn seeds(case: &[u8; 1024]) -> bool {
+pub(crate) fn seeds(case: &[u8; 1024]) -> bool {
     let seed = frame::first_number(case);
     same::accepted(case)
         && setup::hadamard_seed(seed) == frame::second_number(case)

@@ -5,16 +5,16 @@ use error::Outcome;
 use qjl::Scored;
 
 // Whether the list says this number and place.
-pub fn refused(case: &[u8; 1024], number: u32, place: usize) -> bool {
+pub(crate) fn refused(case: &[u8; 1024], number: u32, place: usize) -> bool {
     number as u64 == frame::number(case) && place as u64 == frame::place(case)
 }
 
 // Whether the list says that there is a value.
-pub fn accepted(case: &[u8; 1024]) -> bool {
+pub(crate) fn accepted(case: &[u8; 1024]) -> bool {
     refused(case, 0, 0)
 }
 
-pub fn outcome(case: &[u8; 1024], given: Outcome) -> bool {
+pub(crate) fn outcome(case: &[u8; 1024], given: Outcome) -> bool {
     match given {
         Outcome::Done => accepted(case),
         Outcome::Refused { number, place } => refused(case, number, place),
@@ -22,18 +22,18 @@ pub fn outcome(case: &[u8; 1024], given: Outcome) -> bool {
 }
 
 // Whether the list says this float.
-pub fn value(case: &[u8; 1024], given: f32) -> bool {
+pub(crate) fn value(case: &[u8; 1024], given: f32) -> bool {
     let mut items = frame::blank_floats();
     items[0] = given;
     accepted(case) && floats(case, frame::FLOATS, &items)
 }
 
 // Whether the list says this number.
-pub fn number(case: &[u8; 1024], given: u64) -> bool {
+pub(crate) fn number(case: &[u8; 1024], given: u64) -> bool {
     accepted(case) && given == frame::third_number(case)
 }
 
-pub fn score(case: &[u8; 1024], given: Scored) -> bool {
+pub(crate) fn score(case: &[u8; 1024], given: Scored) -> bool {
     match given {
         Scored::Score(x) => value(case, x),
         Scored::Refused { number, place } => refused(case, number, place),
@@ -41,7 +41,7 @@ pub fn score(case: &[u8; 1024], given: Scored) -> bool {
 }
 
 // Whether an output holds the floats of a list and is as it was behind them. Zeros of either sign are equal, and NaNs are one.
-pub fn floats(case: &[u8; 1024], list: u8, found: &[f32; 64]) -> bool {
+pub(crate) fn floats(case: &[u8; 1024], list: u8, found: &[f32; 64]) -> bool {
     let wanted = frame::floats(case, list);
     let mut i = 0;
     while i < 64 {
@@ -61,7 +61,7 @@ fn same_float(a: f32, b: f32) -> bool {
 }
 
 // Whether an output holds the indices of a list and is as it was behind them.
-pub fn indices(case: &[u8; 1024], list: u8, found: &[u16; 64]) -> bool {
+pub(crate) fn indices(case: &[u8; 1024], list: u8, found: &[u16; 64]) -> bool {
     let wanted = frame::indices(case, list);
     let mut i = 0;
     while i < 64 {
@@ -74,7 +74,7 @@ pub fn indices(case: &[u8; 1024], list: u8, found: &[u16; 64]) -> bool {
 }
 
 // Whether an output holds the signs of a list and is as it was behind them.
-pub fn signs(case: &[u8; 1024], list: u8, found: &[i8; 64]) -> bool {
+pub(crate) fn signs(case: &[u8; 1024], list: u8, found: &[i8; 64]) -> bool {
     let wanted = frame::signs(case, list);
     let mut i = 0;
     while i < 64 {
@@ -87,7 +87,7 @@ pub fn signs(case: &[u8; 1024], list: u8, found: &[i8; 64]) -> bool {
 }
 
 // Whether an output holds the bytes of a list and is as it was behind them.
-pub fn bytes(case: &[u8; 1024], list: u8, found: &[u8; 64]) -> bool {
+pub(crate) fn bytes(case: &[u8; 1024], list: u8, found: &[u8; 64]) -> bool {
     let wanted = frame::bytes(case, list);
     let mut i = 0;
     while i < 64 {

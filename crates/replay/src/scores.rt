@@ -19,7 +19,7 @@ pub const DISTANCE: u8 = 24;
 
 pub const DECODE: u8 = 25;
 
-pub fn apply(case: &[u8; 1024]) -> bool {
+pub(crate) fn apply(case: &[u8; 1024]) -> bool {
     let signs = frame::floats(case, frame::SIGNS);
     let turns = frame::count(case, frame::SIGNS);
     let input = frame::floats(case, frame::VECTOR);
@@ -31,7 +31,7 @@ pub fn apply(case: &[u8; 1024]) -> bool {
     same::outcome(case, given) && same::floats(case, frame::FLOATS, &out)
 }
 
-pub fn apply_inverse(case: &[u8; 1024]) -> bool {
+pub(crate) fn apply_inverse(case: &[u8; 1024]) -> bool {
     let signs = frame::floats(case, frame::SIGNS);
     let turns = frame::count(case, frame::SIGNS);
     let input = frame::floats(case, frame::VECTOR);
@@ -44,7 +44,7 @@ pub fn apply_inverse(case: &[u8; 1024]) -> bool {
 }
 
 // A call of this kind under the case's setup: its three lists are lent.
-pub fn under_setup(call: u8, case: &[u8; 1024]) -> bool {
+pub(crate) fn under_setup(call: u8, case: &[u8; 1024]) -> bool {
     let signs = frame::floats(case, frame::SIGNS);
     let turns = frame::count(case, frame::SIGNS);
     let directions = frame::floats(case, frame::DIRECTIONS);
@@ -218,7 +218,7 @@ fn decode(case: &[u8; 1024], signs: &[f32], directions: &[f32], matrix: &[f32]) 
     same::outcome(case, given) && same::floats(case, frame::FLOATS, &out)
 }
 
-pub fn write_record(case: &[u8; 1024]) -> bool {
+pub(crate) fn write_record(case: &[u8; 1024]) -> bool {
     let radii = frame::floats(case, frame::VECTOR);
     let pairs = frame::count(case, frame::VECTOR);
     let indices = frame::indices(case, frame::INDICES);
@@ -242,7 +242,7 @@ pub fn write_record(case: &[u8; 1024]) -> bool {
 }
 
 // A record is read: its header, and the values of its three parts.
-pub fn read_record(case: &[u8; 1024]) -> bool {
+pub(crate) fn read_record(case: &[u8; 1024]) -> bool {
     let record = frame::bytes(case, frame::BYTES);
     let length = frame::count(case, frame::BYTES);
     header(case, packed::read_record(&record[0..length]))
@@ -280,7 +280,7 @@ fn header(case: &[u8; 1024], given: Reading) -> bool {
     }
 }
 
-pub fn score_prepared(case: &[u8; 1024]) -> bool {
+pub(crate) fn score_prepared(case: &[u8; 1024]) -> bool {
     let directions = frame::floats(case, frame::DIRECTIONS);
     let entries = frame::count(case, frame::DIRECTIONS);
     let rotated = frame::floats(case, frame::VECTOR);
