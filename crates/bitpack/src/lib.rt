@@ -13,6 +13,7 @@ ghost use mathlib.Core.List.{_++_};
 ghost use lib.ListN.{length, take, drop};
 ghost use Rattle.error.specs.Answer.{place, done, after};
 ghost use Rattle.error.specs.Outcomes.{says};
+ghost use Rattle.error.specs.Sweep.{clear};
 ghost use Rattle.digits.specs.Digits.{number, digits};
 ghost use Rattle.bitpack.specs.Padding.{paddingOf};
 ghost use Rattle.bitpack.specs.Asked.{Packable, Unpackable, Eights, Refillable, Refilled};
@@ -127,8 +128,36 @@ pub fn validate_padding_zero(packed: &[u8], used_bits: usize) -> Outcome
     Outcome::Done
 }
 
-// The place of the first index that does not fit in `bits` bits, or how many there are.
+// The index of the first index at or above 2^bits, or how many there are.
 fn first_large(indices: &[u16], bits: u8) -> usize
+    requires { ⌜ bits ≤ 16 ⌝ }
+    ensures { λ r. ⌜ r ≡ place (tooLarge bits) (now (indices .entry)) ⌝ }
+{
+    if all_small(indices, bits) {
+        return indices.len();
+    }
+    find_large(indices, bits)
+}
+
+// Whether no index is at or above 2^bits. The pass goes to the end, so that it is done for several indices at a time.
+fn all_small(indices: &[u16], bits: u8) -> bool
+    requires { ⌜ bits ≤ 16 ⌝ }
+    ensures { λ r. ⌜ r ≡ clear (tooLarge bits) (now (indices .entry)) ⌝ }
+{
+    let levels = 1u32 << bits;
+    let mut ok = true;
+    let mut i = 0;
+    while i < indices.len() {
+        if levels <= indices[i] as u32 {
+            ok = false;
+        }
+        i += 1;
+    }
+    ok
+}
+
+// The same index, one by one.
+fn find_large(indices: &[u16], bits: u8) -> usize
     requires { ⌜ bits ≤ 16 ⌝ }
     ensures { λ r. ⌜ r ≡ place (tooLarge bits) (now (indices .entry)) ⌝ }
 {

@@ -1,3 +1,4 @@
 pub mod Answer
 pub mod Checks
 pub mod Outcomes
+pub mod Sweep

@@ -1,6 +1,5 @@
 pub mod Directions
 pub mod Rows
-pub mod Sweep
 pub mod Lengths
 mod Steps
 pub mod Scalars

@@ -19,7 +19,7 @@ ghost use Rattle.error.specs.Answer.{first, place, accepted};
 ghost use Rattle.error.specs.Outcomes.{says};
 ghost use Rattle.setup.specs.Setups.{polarBits, countedProjections};
 ghost use Rattle.setup.specs.Checks.{outsideBits, outsideProjections, badDirection, notFinite, scalarChecks, tableChecksButEntries, entryChecks, setupChecks, setupChecksButEntries, directionChecks};
-ghost use Rattle.setup.specs.Sweep.{clear};
+ghost use Rattle.error.specs.Sweep.{clear};
 ghost use Rattle.setup.specs.Seeds.{hadamardSeed, matrixSeed};
 
 // Whether a residual sketch stands beside the polar code.

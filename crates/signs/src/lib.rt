@@ -10,6 +10,7 @@ ghost use mathlib.Core.List.{_++_, map};
 ghost use lib.ListN.{length, take, drop};
 ghost use Rattle.error.specs.Answer.{place, done, after};
 ghost use Rattle.error.specs.Outcomes.{says};
+ghost use Rattle.error.specs.Sweep.{clear};
 ghost use Rattle.digits.specs.Digits.{number, digits};
 ghost use Rattle.bitpack.specs.Padding.{bytesFor};
 ghost use Rattle.bitpack.specs.Signs.{notSign, bitOf, signOf, packSignsOf, unpackSignsOf};
@@ -65,8 +66,33 @@ fn no_sign(sign: i8) -> bool
     sign != -1
 }
 
-// The place of the first number that is neither -1 nor 1, or how many there are.
+// The index of the first number that is neither -1 nor 1, or how many there are.
 fn first_no_sign(signs: &[i8]) -> usize
+    ensures { λ r. ⌜ r ≡ place notSign (now (signs .entry)) ⌝ }
+{
+    if all_signs(signs) {
+        return signs.len();
+    }
+    find_no_sign(signs)
+}
+
+// Whether every number is -1 or 1. The pass goes to the end, so that it is done for several numbers at a time.
+fn all_signs(signs: &[i8]) -> bool
+    ensures { λ r. ⌜ r ≡ clear notSign (now (signs .entry)) ⌝ }
+{
+    let mut ok = true;
+    let mut i = 0;
+    while i < signs.len() {
+        if no_sign(signs[i]) {
+            ok = false;
+        }
+        i += 1;
+    }
+    ok
+}
+
+// The same index, one by one.
+fn find_no_sign(signs: &[i8]) -> usize
     ensures { λ r. ⌜ r ≡ place notSign (now (signs .entry)) ⌝ }
 {
     let mut i = 0;

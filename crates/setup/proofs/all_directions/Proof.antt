@@ -7,8 +7,8 @@ use borrow.Author.Needs.{scaled-fits}
 use lib.ListN.{length}
 use lib.Ieee.{nan}
 use Rattle.setup.specs.Checks.{badDirection}
-use Rattle.setup.specs.Sweep.{Swept}
-use Rattle.setup.proofs.Sweep.{swept-start, swept-pass, swept-spot, swept-end}
+use Rattle.error.specs.Sweep.{Swept}
+use Rattle.error.proofs.Sweep.{swept-start, swept-pass, swept-spot, swept-end}
 use Rattle.setup.proofs.all_directions.Statement.{statement}
 use Rattle.setup.proofs.all_directions.Tie as tie
 

@@ -8,8 +8,8 @@ use borrow.Author.Tests.{not-true, not-false}
 use lib.ListN.{length}
 use lib.Ieee.{nan}
 use Rattle.setup.specs.Checks.{notFinite}
-use Rattle.setup.specs.Sweep.{Swept}
-use Rattle.setup.proofs.Sweep.{swept-start, swept-pass, swept-spot, swept-end}
+use Rattle.error.specs.Sweep.{Swept}
+use Rattle.error.proofs.Sweep.{swept-start, swept-pass, swept-spot, swept-end}
 use Rattle.setup.proofs.Rows.{finite-passes, not-finite-offends}
 use Rattle.setup.proofs.all_finite.Statement.{statement}
 use Rattle.setup.proofs.all_finite.Tie as tie

@@ -1,7 +1,7 @@
 -- `setup::first_non_finite` meets its contract: where the pass finds nothing, the place is the length. Assumes nothing.
 use mathlib.Core.Path.{sym, _∙_}
 use Rattle.setup.specs.Checks.{notFinite}
-use Rattle.setup.proofs.Sweep.{clear-place}
+use Rattle.error.proofs.Sweep.{clear-place}
 use borrow.Author.Needs.{needs}
 use Rattle.setup.proofs.first_non_finite.Statement.{statement}
 use Rattle.setup.proofs.first_non_finite.Tie as tie

@@ -7,9 +7,9 @@ use native.Mathlib.Omega.{arith}
 use borrow.Author.Tests.{ltb-false, not-true, not-false, lt-ltb, le-ltb}
 use lib.Dec.{ltb}
 use lib.ListN.{length, getD}
 use Rattle.error.specs.Answer.{place}
 use Rattle.error.proofs.Places.{place-le, place-start, place-skip, place-here, place-end}
-use Rattle.setup.specs.Sweep.{clear, Swept}
+use Rattle.error.specs.Sweep.{clear, Swept}
 
 module _ {A : Type 0} (bad : A → Bool) (xs : List A) where
   pub swept-start : Swept bad xs 0 true
