@@ -1,0 +1,65 @@
+//! The port's calls for Rust programs: safe functions over the C functions of its static
+//! library, under the Rust's names. Outputs are lent and must have exactly the needed
+//! length; a refused call writes to none of them.
+
+pub mod raw;
+
+mod bits;
+mod codebook;
+mod radii;
+mod record;
+mod setup;
+
+pub use bits::{
+    pack_indices, pack_signs, packed_len, unpack_indices, unpack_signs, validate_padding_zero,
+};
+pub use codebook::{dequantize_angle, hadamard_seed, matrix_seed, sqrt, ScalarCodebook};
+pub use radii::{compress, decompress, encoded_bytes, Range};
+pub use record::{
+    indices_part, radii_part, read_indices, read_radii, read_record, read_signs, signs_part,
+    write_record, Header,
+};
+pub use setup::{apply, apply_inverse, Setup};
+
+/// Why a call gave no value: document 01's number, and the place that it names.
+#[derive(Debug, Clone, Copy, PartialEq, Eq, Hash)]
+pub struct Refusal {
+    pub number: u32,
+    pub place: usize,
+}
+
+impl std::fmt::Display for Refusal {
+    fn fmt(&self, f: &mut std::fmt::Formatter) -> std::fmt::Result {
+        write!(f, "refused with {} at {}", self.number, self.place)
+    }
+}
+
+impl std::error::Error for Refusal {}
+
+/// Whether a residual sketch goes with the polar code.
+#[derive(Debug, Clone, Copy, PartialEq, Eq, Hash)]
+#[repr(u8)]
+pub enum TurboMode {
+    PolarOnly = 0,
+    PolarWithQjl = 1,
+}
+
+/// How radii are stored. `BlockLogU8` is refused by every call.
+#[derive(Debug, Clone, Copy, PartialEq, Eq, Hash)]
+#[repr(u8)]
+pub enum RadiusCodecProfileV1 {
+    F32 = 0,
+    BlockLinearU16 = 1,
+    BlockLogU8 = 2,
+}
+
+/// Makes a call with room for its number and place, and reads them as an answer.
+#[inline]
+fn asked(call: impl FnOnce(*mut u32, *mut usize)) -> Result<(), Refusal> {
+    let (mut number, mut place) = (0, 0);
+    call(&mut number, &mut place);
+    match number {
+        0 => Ok(()),
+        _ => Err(Refusal { number, place }),
+    }
+}

@@ -1,0 +1,383 @@
+//! The C functions of `libcapi.a`, as its header has them. A slice is a pointer and a
+//! length. `number` and `place` come back as a refusal's, or as 0 and 0; on a refusal
+//! the other outputs keep what they held.
+
+// Bits.
+extern "C" {
+    pub fn foldrima_packed_len(
+        count: usize,
+        bits: u8,
+        number: *mut u32,
+        place: *mut usize,
+        value: *mut usize,
+    );
+    pub fn foldrima_pack_indices(
+        indices: *const u16,
+        indices_len: usize,
+        bits: u8,
+        out: *mut u8,
+        out_len: usize,
+        number: *mut u32,
+        place: *mut usize,
+    );
+    pub fn foldrima_unpack_indices(
+        packed: *const u8,
+        packed_len: usize,
+        count: usize,
+        bits: u8,
+        out: *mut u16,
+        out_len: usize,
+        number: *mut u32,
+        place: *mut usize,
+    );
+    pub fn foldrima_pack_signs(
+        signs: *const i8,
+        signs_len: usize,
+        out: *mut u8,
+        out_len: usize,
+        number: *mut u32,
+        place: *mut usize,
+    );
+    pub fn foldrima_unpack_signs(
+        packed: *const u8,
+        packed_len: usize,
+        count: usize,
+        out: *mut i8,
+        out_len: usize,
+        number: *mut u32,
+        place: *mut usize,
+    );
+    pub fn foldrima_validate_padding_zero(
+        packed: *const u8,
+        packed_len: usize,
+        used_bits: usize,
+        number: *mut u32,
+        place: *mut usize,
+    );
+}
+
+// Codebook, root, angle and seeds.
+extern "C" {
+    pub fn foldrima_uniform(bits: u8, min: f32, max: f32, number: *mut u32, place: *mut usize);
+    pub fn foldrima_levels(
+        bits: u8,
+        min: f32,
+        max: f32,
+        number: *mut u32,
+        place: *mut usize,
+        value: *mut u32,
+    );
+    pub fn foldrima_quantize(
+        bits: u8,
+        min: f32,
+        max: f32,
+        x: f32,
+        number: *mut u32,
+        place: *mut usize,
+        value: *mut u16,
+    );
+    pub fn foldrima_dequantize_midpoint(
+        bits: u8,
+        min: f32,
+        max: f32,
+        index: u16,
+        number: *mut u32,
+        place: *mut usize,
+        value: *mut f32,
+    );
+    pub fn foldrima_sqrt(x: f32) -> f32;
+    pub fn foldrima_dequantize_angle(
+        bits: u8,
+        index: u16,
+        number: *mut u32,
+        place: *mut usize,
+        value: *mut f32,
+    );
+    pub fn foldrima_hadamard_seed(seed: u64) -> u64;
+    pub fn foldrima_matrix_seed(seed: u64) -> u64;
+}
+
+// Radii.
+extern "C" {
+    pub fn foldrima_compress(
+        radii: *const f32,
+        radii_len: usize,
+        profile: u8,
+        out: *mut u8,
+        out_len: usize,
+        number: *mut u32,
+        place: *mut usize,
+        min: *mut f32,
+        max: *mut f32,
+    );
+    pub fn foldrima_decompress(
+        profile: u8,
+        count: usize,
+        min: f32,
+        max: f32,
+        payload: *const u8,
+        payload_len: usize,
+        out: *mut f32,
+        out_len: usize,
+        number: *mut u32,
+        place: *mut usize,
+    );
+    pub fn foldrima_encoded_bytes(
+        profile: u8,
+        payload: *const u8,
+        payload_len: usize,
+        number: *mut u32,
+        place: *mut usize,
+        value: *mut usize,
+    );
+}
+
+// Rotation, setup, sketch.
+extern "C" {
+    pub fn foldrima_apply(
+        dim: usize,
+        signs: *const f32,
+        signs_len: usize,
+        input: *const f32,
+        input_len: usize,
+        output: *mut f32,
+        output_len: usize,
+        number: *mut u32,
+        place: *mut usize,
+    );
+    pub fn foldrima_apply_inverse(
+        dim: usize,
+        signs: *const f32,
+        signs_len: usize,
+        input: *const f32,
+        input_len: usize,
+        output: *mut f32,
+        output_len: usize,
+        number: *mut u32,
+        place: *mut usize,
+    );
+    pub fn foldrima_check_setup(
+        mode: u8,
+        dim: usize,
+        bits: u8,
+        projections: usize,
+        signs: *const f32,
+        signs_len: usize,
+        directions: *const f32,
+        directions_len: usize,
+        matrix: *const f32,
+        matrix_len: usize,
+        number: *mut u32,
+        place: *mut usize,
+    );
+    pub fn foldrima_sketch(
+        mode: u8,
+        dim: usize,
+        bits: u8,
+        projections: usize,
+        signs: *const f32,
+        signs_len: usize,
+        directions: *const f32,
+        directions_len: usize,
+        matrix: *const f32,
+        matrix_len: usize,
+        vector: *const f32,
+        vector_len: usize,
+        out: *mut i8,
+        out_len: usize,
+        number: *mut u32,
+        place: *mut usize,
+    );
+    pub fn foldrima_sketch_score(
+        mode: u8,
+        dim: usize,
+        bits: u8,
+        projections: usize,
+        signs: *const f32,
+        signs_len: usize,
+        directions: *const f32,
+        directions_len: usize,
+        matrix: *const f32,
+        matrix_len: usize,
+        query: *const f32,
+        query_len: usize,
+        sketch: *const i8,
+        sketch_len: usize,
+        number: *mut u32,
+        place: *mut usize,
+        value: *mut f32,
+    );
+}
+
+// Records.
+extern "C" {
+    pub fn foldrima_read_record(
+        bytes: *const u8,
+        bytes_len: usize,
+        number: *mut u32,
+        place: *mut usize,
+        mode: *mut u8,
+        profile: *mut u8,
+        dim: *mut usize,
+        bits: *mut u8,
+        projections: *mut usize,
+        min: *mut f32,
+        max: *mut f32,
+    );
+    pub fn foldrima_radii_part(
+        bytes: *const u8,
+        bytes_len: usize,
+        start: *mut usize,
+        count: *mut usize,
+    );
+    pub fn foldrima_indices_part(
+        bytes: *const u8,
+        bytes_len: usize,
+        start: *mut usize,
+        count: *mut usize,
+    );
+    pub fn foldrima_signs_part(
+        bytes: *const u8,
+        bytes_len: usize,
+        start: *mut usize,
+        count: *mut usize,
+    );
+    pub fn foldrima_read_radii(
+        bytes: *const u8,
+        bytes_len: usize,
+        out: *mut f32,
+        out_len: usize,
+        number: *mut u32,
+        place: *mut usize,
+    );
+    pub fn foldrima_read_indices(
+        bytes: *const u8,
+        bytes_len: usize,
+        out: *mut u16,
+        out_len: usize,
+        number: *mut u32,
+        place: *mut usize,
+    );
+    pub fn foldrima_read_signs(
+        bytes: *const u8,
+        bytes_len: usize,
+        out: *mut i8,
+        out_len: usize,
+        number: *mut u32,
+        place: *mut usize,
+    );
+    pub fn foldrima_write_record(
+        profile: u8,
+        dim: usize,
+        bits: u8,
+        mode: u8,
+        projections: usize,
+        radii: *const f32,
+        radii_len: usize,
+        indices: *const u16,
+        indices_len: usize,
+        signs: *const i8,
+        signs_len: usize,
+        out: *mut u8,
+        out_len: usize,
+        number: *mut u32,
+        place: *mut usize,
+    );
+}
+
+// Queries, scores, distances, decoding.
+extern "C" {
+    pub fn foldrima_prepare_query(
+        mode: u8,
+        dim: usize,
+        bits: u8,
+        projections: usize,
+        signs: *const f32,
+        signs_len: usize,
+        directions: *const f32,
+        directions_len: usize,
+        matrix: *const f32,
+        matrix_len: usize,
+        query: *const f32,
+        query_len: usize,
+        rotated: *mut f32,
+        rotated_len: usize,
+        projected: *mut f32,
+        projected_len: usize,
+        number: *mut u32,
+        place: *mut usize,
+    );
+    pub fn foldrima_inner_product_estimate(
+        mode: u8,
+        dim: usize,
+        bits: u8,
+        projections: usize,
+        signs: *const f32,
+        signs_len: usize,
+        directions: *const f32,
+        directions_len: usize,
+        matrix: *const f32,
+        matrix_len: usize,
+        query: *const f32,
+        query_len: usize,
+        bytes: *const u8,
+        bytes_len: usize,
+        number: *mut u32,
+        place: *mut usize,
+        value: *mut f32,
+    );
+    pub fn foldrima_inner_product_estimate_prepared(
+        mode: u8,
+        dim: usize,
+        bits: u8,
+        projections: usize,
+        directions: *const f32,
+        directions_len: usize,
+        rotated: *const f32,
+        rotated_len: usize,
+        projected: *const f32,
+        projected_len: usize,
+        bytes: *const u8,
+        bytes_len: usize,
+        number: *mut u32,
+        place: *mut usize,
+        value: *mut f32,
+    );
+    pub fn foldrima_l2_distance_estimate(
+        mode: u8,
+        dim: usize,
+        bits: u8,
+        projections: usize,
+        signs: *const f32,
+        signs_len: usize,
+        directions: *const f32,
+        directions_len: usize,
+        matrix: *const f32,
+        matrix_len: usize,
+        query: *const f32,
+        query_len: usize,
+        bytes: *const u8,
+        bytes_len: usize,
+        number: *mut u32,
+        place: *mut usize,
+        value: *mut f32,
+    );
+    pub fn foldrima_decode_approximate(
+        mode: u8,
+        dim: usize,
+        bits: u8,
+        projections: usize,
+        signs: *const f32,
+        signs_len: usize,
+        directions: *const f32,
+        directions_len: usize,
+        matrix: *const f32,
+        matrix_len: usize,
+        bytes: *const u8,
+        bytes_len: usize,
+        out: *mut f32,
+        out_len: usize,
+        number: *mut u32,
+        place: *mut usize,
+    );
+}

@@ -1,0 +1,123 @@
+//! Records: written, read, and their three parts.
+
+use crate::{asked, raw, RadiusCodecProfileV1, Range, Refusal, TurboMode};
+
+/// What an accepted record says of itself.
+#[derive(Debug, Clone, Copy, PartialEq)]
+pub struct Header {
+    pub mode: TurboMode,
+    pub profile: RadiusCodecProfileV1,
+    pub dim: usize,
+    /// Bits of an angle.
+    pub bits: u8,
+    pub projections: usize,
+    pub range: Range,
+}
+
+/// Writes a record of these parts; `bits` are those of an angle.
+#[allow(clippy::too_many_arguments)]
+pub fn write_record(
+    profile: RadiusCodecProfileV1,
+    dim: usize,
+    bits: u8,
+    mode: TurboMode,
+    projections: usize,
+    radii: &[f32],
+    indices: &[u16],
+    signs: &[i8],
+    out: &mut [u8],
+) -> Result<(), Refusal> {
+    asked(|number, place| unsafe {
+        raw::foldrima_write_record(
+            profile as u8,
+            dim,
+            bits,
+            mode as u8,
+            projections,
+            radii.as_ptr(),
+            radii.len(),
+            indices.as_ptr(),
+            indices.len(),
+            signs.as_ptr(),
+            signs.len(),
+            out.as_mut_ptr(),
+            out.len(),
+            number,
+            place,
+        )
+    })
+}
+
+/// Reads a record: all of it is checked, and its header handed back.
+pub fn read_record(bytes: &[u8]) -> Result<Header, Refusal> {
+    let (mut mode, mut profile, mut dim, mut bits, mut projections) = (0, 0, 0, 0, 0);
+    let mut range = Range { min: 0.0, max: 0.0 };
+    asked(|number, place| unsafe {
+        raw::foldrima_read_record(
+            bytes.as_ptr(),
+            bytes.len(),
+            number,
+            place,
+            &mut mode,
+            &mut profile,
+            &mut dim,
+            &mut bits,
+            &mut projections,
+            &mut range.min,
+            &mut range.max,
+        )
+    })?;
+    let mode = if mode == 0 { TurboMode::PolarOnly } else { TurboMode::PolarWithQjl };
+    let profile = match profile {
+        0 => RadiusCodecProfileV1::F32,
+        _ => RadiusCodecProfileV1::BlockLinearU16,
+    };
+    Ok(Header { mode, profile, dim, bits, projections, range })
+}
+
+type Part = unsafe extern "C" fn(*const u8, usize, *mut usize, *mut usize);
+
+fn part(bytes: &[u8], find: Part) -> &[u8] {
+    let (mut start, mut count) = (0, 0);
+    unsafe { find(bytes.as_ptr(), bytes.len(), &mut start, &mut count) };
+    &bytes[start..start + count]
+}
+
+/// The record's own bytes that hold its radii; empty where it is refused.
+pub fn radii_part(bytes: &[u8]) -> &[u8] {
+    part(bytes, raw::foldrima_radii_part)
+}
+
+/// The record's own bytes that hold its indices; empty where it is refused.
+pub fn indices_part(bytes: &[u8]) -> &[u8] {
+    part(bytes, raw::foldrima_indices_part)
+}
+
+/// The record's own bytes that hold its signs; empty where it has none or is refused.
+pub fn signs_part(bytes: &[u8]) -> &[u8] {
+    part(bytes, raw::foldrima_signs_part)
+}
+
+/// The radii of a record, one for each pair.
+pub fn read_radii(bytes: &[u8], out: &mut [f32]) -> Result<(), Refusal> {
+    asked(|number, place| unsafe {
+        let (to, len) = (out.as_mut_ptr(), out.len());
+        raw::foldrima_read_radii(bytes.as_ptr(), bytes.len(), to, len, number, place)
+    })
+}
+
+/// The indices of a record, one for each pair.
+pub fn read_indices(bytes: &[u8], out: &mut [u16]) -> Result<(), Refusal> {
+    asked(|number, place| unsafe {
+        let (to, len) = (out.as_mut_ptr(), out.len());
+        raw::foldrima_read_indices(bytes.as_ptr(), bytes.len(), to, len, number, place)
+    })
+}
+
+/// The signs of a record, one for each projection.
+pub fn read_signs(bytes: &[u8], out: &mut [i8]) -> Result<(), Refusal> {
+    asked(|number, place| unsafe {
+        let (to, len) = (out.as_mut_ptr(), out.len());
+        raw::foldrima_read_signs(bytes.as_ptr(), bytes.len(), to, len, number, place)
+    })
+}

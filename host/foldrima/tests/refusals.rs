@@ -1,0 +1,130 @@
+//! A refusal of each of document 01's kinds, with its place; outputs stay as they were.
+
+use foldrima::{
+    RadiusCodecProfileV1 as Profile, Range, Refusal, ScalarCodebook, Setup, TurboMode as Mode,
+};
+
+const RECORD: [u8; 11] = [0, 2, 0, 0, 0, 1, 0, 0, 0x80, 0x3F, 1];
+
+fn refused<T>(number: u32, place: usize) -> Result<T, Refusal> {
+    Err(Refusal { number, place })
+}
+
+const SETUP: Setup = Setup {
+    mode: Mode::PolarWithQjl,
+    dim: 2,
+    bits: 2,
+    projections: 3,
+    signs: &[1.0, -1.0],
+    directions: &[-1.0, 0.0, 1.0, 0.0],
+    matrix: &[1.0, 0.0, 0.0, 1.0, 1.0, 1.0],
+};
+
+const ONLY: Setup = Setup { mode: Mode::PolarOnly, bits: 1, projections: 0, matrix: &[], ..SETUP };
+
+#[test]
+fn by_whoever_sets_up() {
+    assert_eq!(foldrima::packed_len(1, 0), refused(1, 0));
+    assert_eq!(foldrima::packed_len(1, 17), refused(1, 17));
+    assert_eq!(Setup { bits: 1, ..SETUP }.check(), refused(1, 1));
+    assert_eq!(Setup { dim: 0, ..SETUP }.check(), refused(2, 0));
+    assert_eq!(Setup { dim: 3, ..SETUP }.check(), refused(3, 3));
+    assert_eq!(Setup { dim: 6, ..SETUP }.check(), refused(4, 6));
+    assert_eq!(Setup { dim: 8192, ..SETUP }.check(), refused(4, 8192));
+    assert_eq!(Setup { signs: &[1.0], ..SETUP }.check(), refused(5, 1));
+    assert_eq!(Setup { directions: &[1.0; 3], ..SETUP }.check(), refused(5, 3));
+    assert_eq!(Setup { matrix: &[1.0; 7], ..SETUP }.check(), refused(5, 7));
+    let table = [-1.0, 0.0, 1.0, 1.5];
+    assert_eq!(Setup { directions: &table, ..SETUP }.check(), refused(7, 3));
+    assert_eq!(Setup { projections: 0, ..SETUP }.check(), refused(8, 0));
+    assert_eq!(Setup { projections: 4097, ..SETUP }.check(), refused(8, 4097));
+    let matrix = [1.0, 0.0, f32::NAN, 1.0, f32::INFINITY, 1.0];
+    assert_eq!(Setup { matrix: &matrix, ..SETUP }.check(), refused(9, 2));
+    assert_eq!(Setup { signs: &[1.0, 0.5], ..SETUP }.check(), refused(10, 1));
+    let mut out = [0xA5];
+    assert_eq!(foldrima::pack_signs(&[1, -1, 0], &mut out), refused(10, 2));
+    assert_eq!(foldrima::packed_len(usize::MAX / 2, 3), refused(19, 0));
+    assert_eq!(out, [0xA5]);
+}
+
+#[test]
+fn by_an_output_of_another_length() {
+    let mut bytes = [0xA5; 2];
+    assert_eq!(foldrima::pack_indices(&[1, 2, 3], 2, &mut bytes), refused(6, 1));
+    assert_eq!(foldrima::pack_signs(&[1, -1], &mut bytes), refused(6, 1));
+    assert_eq!(foldrima::compress(&[1.0], Profile::F32, &mut bytes), refused(6, 4));
+    let (f32s, only) = (Profile::F32, Mode::PolarOnly);
+    let written = foldrima::write_record(f32s, 2, 1, only, 0, &[1.0], &[1], &[], &mut bytes);
+    assert_eq!(written, refused(6, 11));
+    assert_eq!(bytes, [0xA5; 2]);
+    let mut floats = [7.5; 5];
+    let range = Range { min: 0.0, max: 1.0 };
+    assert_eq!(foldrima::decompress(f32s, 1, range, &[0; 4], &mut floats), refused(6, 1));
+    assert_eq!(foldrima::apply(2, &[1.0; 2], &[1.0; 2], &mut floats), refused(6, 2));
+    assert_eq!(foldrima::apply_inverse(2, &[1.0; 2], &[1.0; 2], &mut floats), refused(6, 2));
+    assert_eq!(foldrima::read_radii(&RECORD, &mut floats), refused(6, 1));
+    assert_eq!(ONLY.decode_approximate(&RECORD, &mut floats), refused(6, 2));
+    let (rotated, projected) = floats.split_at_mut(2);
+    assert_eq!(SETUP.prepare_query(&[1.0; 2], &mut projected[..1], rotated), refused(6, 2));
+    assert_eq!(SETUP.prepare_query(&[1.0; 2], rotated, &mut projected[..2]), refused(6, 3));
+    assert_eq!(floats, [7.5; 5]);
+    let mut signs = [9; 4];
+    assert_eq!(foldrima::unpack_signs(&[0], 3, &mut signs), refused(6, 3));
+    assert_eq!(foldrima::read_signs(&RECORD, &mut signs), refused(6, 0));
+    assert_eq!(SETUP.sketch(&[1.0; 2], &mut signs), refused(6, 3));
+    assert_eq!(signs, [9; 4]);
+    let mut indices = [9; 4];
+    assert_eq!(foldrima::unpack_indices(&[0], 2, 4, &mut indices), refused(6, 2));
+    assert_eq!(foldrima::read_indices(&RECORD, &mut indices), refused(6, 1));
+    assert_eq!(indices, [9; 4]);
+}
+
+#[test]
+fn by_the_author_of_a_query() {
+    let (infinite, largest) = (f32::INFINITY, f32::MAX);
+    let (mut rotated, mut projected) = ([7.5; 2], [7.5; 3]);
+    let bad = SETUP.prepare_query(&[1.0, infinite], &mut rotated, &mut projected);
+    assert_eq!(bad, refused(11, 1));
+    let turned = SETUP.prepare_query(&[largest, largest], &mut rotated, &mut projected);
+    assert_eq!(turned, refused(11, 1));
+    let plus = Setup { signs: &[1.0, 1.0], matrix: &[2.0, 0.0, 0.0, 1.0, 1.0, 1.0], ..SETUP };
+    let summed = plus.prepare_query(&[0.75 * largest, 0.0], &mut rotated, &mut projected);
+    assert_eq!(summed, refused(11, 0));
+    assert_eq!((rotated, projected), ([7.5; 2], [7.5; 3]));
+    assert_eq!(SETUP.sketch(&[f32::NAN, 1.0], &mut [9; 3]), refused(11, 0));
+    assert_eq!(ScalarCodebook { bits: 2, min: 0.0, max: 1.0 }.quantize(infinite), refused(11, 0));
+    assert_eq!(ONLY.inner_product_estimate(&[1.0; 3], &RECORD), refused(5, 3));
+    let mut wide = RECORD;
+    wide[6..10].copy_from_slice(&largest.to_le_bytes());
+    let query = [largest / 2.0, largest / 4.0];
+    let plus = Setup { signs: &[1.0, 1.0], ..ONLY };
+    assert_eq!(plus.inner_product_estimate(&query, &wide), refused(12, 0));
+    assert_eq!(plus.l2_distance_estimate(&[1.0e30, 0.0], &RECORD), refused(12, 0));
+    assert_eq!(plus.inner_product_estimate_prepared(&query, &[], &wide), refused(12, 0));
+}
+
+#[test]
+fn by_the_writer_of_a_code() {
+    let (f32s, linear, log) = (Profile::F32, Profile::BlockLinearU16, Profile::BlockLogU8);
+    let mut indices = [9; 3];
+    assert_eq!(foldrima::unpack_indices(&[0; 2], 3, 2, &mut indices), refused(13, 2));
+    assert_eq!(foldrima::unpack_indices(&[0x40], 3, 2, &mut indices), refused(14, 0));
+    assert_eq!(indices, [9; 3]);
+    assert_eq!(foldrima::validate_padding_zero(&[0, 0x10], 12), refused(14, 1));
+    assert_eq!(foldrima::pack_indices(&[3, 4], 2, &mut [0]), refused(15, 1));
+    assert_eq!(foldrima::dequantize_angle(1, 2), refused(15, 0));
+    assert_eq!(foldrima::compress(&[1.0, -1.0], f32s, &mut [0; 8]), refused(16, 1));
+    let range = Range { min: 1.0, max: 0.5 };
+    assert_eq!(foldrima::decompress(linear, 1, range, &[0; 2], &mut [0.0]), refused(17, 0));
+    assert_eq!(ScalarCodebook::uniform(2, 1.0, 1.0), refused(17, 0));
+    assert_eq!(foldrima::compress(&[1.0], log, &mut [0; 9]), refused(18, 0));
+    assert_eq!(foldrima::encoded_bytes(log, &[]), refused(18, 0));
+    let mut odd = RECORD;
+    odd[0] = 4;
+    assert_eq!(foldrima::read_record(&odd), refused(18, 4));
+    assert_eq!(foldrima::read_record(&RECORD[..5]), refused(13, 5));
+    assert_eq!(foldrima::radii_part(&odd), []);
+    let wider = Setup { bits: 2, directions: &[0.5; 8], ..ONLY };
+    assert_eq!(wider.inner_product_estimate(&[1.0; 2], &RECORD), refused(20, 0));
+    assert_eq!(wider.decode_approximate(&RECORD, &mut [0.0; 2]), refused(20, 0));
+}
