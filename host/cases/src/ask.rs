@@ -94,6 +94,9 @@ fn answer(case: &Case) -> Answer {
         Case::Decompress { profile, count, min, max, payload, .. } => {
             told(thin::decompress(*profile, *count, *min, *max, payload), Value::Floats)
         }
+        Case::EncodedBytes { profile, payload } => {
+            Answer::Value(Value::Number(thin::encoded_bytes(*profile, payload) as u64))
+        }
         Case::Root { value } => Answer::Value(Value::Float(std::hint::black_box(*value).sqrt())),
         Case::Angle { bits, index } => told(thin::dequantize_angle(*bits, *index), Value::Float),
         Case::Seeds { seed } => Answer::Value(Value::Seeds {

@@ -112,6 +112,10 @@ pub enum Case {
         payload: Vec<u8>,
         out: usize,
     },
+    EncodedBytes {
+        profile: RadiusCodecProfileV1,
+        payload: Vec<u8>,
+    },
     Root {
         value: f32,
     },
@@ -189,7 +193,7 @@ pub enum Case {
 }
 
 /// The names of the calls, in the order of `Maker::make`.
-pub const CALLS: [&str; 27] = [
+pub const CALLS: [&str; 28] = [
     "packed_len",
     "pack_indices",
     "unpack_indices",
@@ -217,6 +221,7 @@ pub const CALLS: [&str; 27] = [
     "distance",
     "decode",
     "score_prepared",
+    "encoded_bytes",
 ];
 
 impl Case {
@@ -249,6 +254,7 @@ impl Case {
             Case::Distance { .. } => 24,
             Case::Decode { .. } => 25,
             Case::ScorePrepared { .. } => 26,
+            Case::EncodedBytes { .. } => 27,
         }]
     }
 }
@@ -440,6 +446,9 @@ impl fmt::Display for Case {
                 pattern(*max),
                 Hex(payload)
             ),
+            Case::EncodedBytes { profile, payload } => {
+                write!(f, "profile={} payload={}", profile_name(*profile), Hex(payload))
+            }
             Case::Root { value } => write!(f, "value={}", pattern(*value)),
             Case::Angle { bits, index } => write!(f, "bits={bits} index={index}"),
             Case::Seeds { seed } => write!(f, "seed={seed:016X}"),

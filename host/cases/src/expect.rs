@@ -72,8 +72,8 @@ fn ruled_range(radii: &[f32], min: f32, max: f32) -> (f32, f32) {
     (if same_float(low, min) { low } else { min }, if same_float(high, max) { high } else { max })
 }
 
-/// What the port gave: its refusal or its value, and whether a refusal left every lent
-/// output as it was.
+/// What the port gave: its refusal or its value, and whether it left alone what is not
+/// its to write: every lent output on a refusal, and all around them on a value.
 #[derive(Debug, Clone, PartialEq)]
 pub struct Given {
     pub answer: Result<Value, Refusal>,
@@ -85,7 +85,7 @@ impl Given {
     pub fn agrees(&self, wanted: &Expected) -> bool {
         match (&self.answer, wanted) {
             (Err(given), Expected::Refused(wanted)) => given == wanted && self.untouched,
-            (Ok(given), Expected::Value { value, .. }) => same(given, value),
+            (Ok(given), Expected::Value { value, .. }) => same(given, value) && self.untouched,
             _ => false,
         }
     }

@@ -11,6 +11,6 @@ pub mod record;
 pub mod rng;
 mod setups;
 
-/// Calls of the port through its C functions. Empty until `libcapi.a` is at hand.
+/// The port, through its C functions.
 #[cfg(feature = "capi")]
 pub mod port;

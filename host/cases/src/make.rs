@@ -99,6 +99,12 @@ impl Maker {
                 Case::Decode { out: self.rng.length(setup.dim, 10), setup, record }
             }
             "score_prepared" => self.score_prepared(),
+            "encoded_bytes" => {
+                let profile = self.profile();
+                let count = self.count();
+                let payload = (0..count).map(|_| self.rng.next() as u8).collect();
+                Case::EncodedBytes { profile, payload }
+            }
             other => unreachable!("{other}"),
         }
     }

@@ -263,6 +263,7 @@ fn judge(case: &Case, answer: &Answer) -> Checked {
             }
             need(out == count, 6, *count)
         }
+        Case::EncodedBytes { profile, .. } => need(*profile != Profile::BlockLogU8, 18, 0),
         Case::Root { .. } | Case::Seeds { .. } => Ok(()),
         Case::Angle { bits, index } => {
             width(*bits)?;

@@ -1,63 +1,502 @@
-//! The place of the port: its C functions and one call of them for each case. Built
-//! only with the feature `capi`, which links `libcapi.a`.
+//! The port's answer to a case, through the C functions of `libcapi.a`. Built only with
+//! the feature `capi`.
 //!
-//! To wire a call: declare its function in the block below as the C header has it, and
-//! add its arm to `answer`, in this manner:
-//!
-//! ```text
-//! Case::PackIndices { indices, bits, out } => {
-//!     let mut lent = Lent::new(*out, 0xA5);
-//!     let (mut number, mut place) = (0, 0);
-//!     unsafe {
-//!         pack_indices(indices.as_ptr(), indices.len(), *bits,
-//!             lent.items.as_mut_ptr(), lent.items.len(), &mut number, &mut place)
-//!     };
-//!     given(number, place, lent.untouched(), || Value::Bytes(lent.items))
-//! }
-//! ```
-//!
-//! A case without an arm counts as not wired.
+//! Every output is lent between two guards and filled with a known item. After a value
+//! the guards must have kept it; after a refusal all of the output must have, and the
+//! place of a scalar too.
+
+use foldrima::raw;
 
 use crate::{
-    case::{Case, Value},
+    case::{Case, Mode, Profile, Setup, Value},
     expect::Given,
     paper::Refusal,
+    record,
 };
 
-extern "C" {
-    // Functions of libcapi.a, as in the header.
-}
+/// Items before and after a lent output.
+const GUARD: usize = 8;
+const BYTE: u8 = 0xA5;
+const SHORT: u16 = 0xA5A5;
+const SIGN: i8 = 0x5A;
+const FLOAT: f32 = -1234.5678;
 
 /// An output filled with a known item, so that a write to it shows. For floats the item
 /// must not be NaN.
-pub struct Lent<T> {
-    pub items: Vec<T>,
+struct Lent<T> {
+    items: Vec<T>,
     fill: T,
 }
 
 impl<T: Copy + PartialEq> Lent<T> {
-    pub fn new(len: usize, fill: T) -> Self {
-        Self { items: vec![fill; len], fill }
+    fn new(len: usize, fill: T) -> Self {
+        Self { items: vec![fill; len + 2 * GUARD], fill }
     }
 
-    pub fn untouched(&self) -> bool {
+    fn at(&mut self) -> *mut T {
+        self.items[GUARD..].as_mut_ptr()
+    }
+
+    fn len(&self) -> usize {
+        self.items.len() - 2 * GUARD
+    }
+
+    fn found(&self) -> &[T] {
+        &self.items[GUARD..GUARD + self.len()]
+    }
+
+    fn first(&self) -> T {
+        self.items[GUARD]
+    }
+}
+
+trait Kept {
+    /// Whether no item was written.
+    fn whole(&self) -> bool;
+    /// Whether no item was written before or after the output.
+    fn around(&self) -> bool;
+}
+
+impl<T: Copy + PartialEq> Kept for Lent<T> {
+    fn whole(&self) -> bool {
         self.items.iter().all(|item| *item == self.fill)
     }
+
+    fn around(&self) -> bool {
+        let end = GUARD + self.len();
+        self.items[..GUARD].iter().chain(&self.items[end..]).all(|item| *item == self.fill)
+    }
 }
 
-/// The port's answer, number 0 standing for a value.
-pub fn given(
-    number: u8,
-    place: u64,
-    untouched: bool,
-    value: impl FnOnce() -> Value,
-) -> Option<Given> {
-    let answer = if number == 0 { Ok(value()) } else { Err(Refusal { number, place }) };
-    Some(Given { answer, untouched })
+/// The lent number and place of a refusal.
+struct Told {
+    number: Lent<u32>,
+    place: Lent<usize>,
 }
 
-/// What the port answers; None while the call is not wired.
-pub fn answer(case: &Case) -> Option<Given> {
-    let _ = case;
-    None
+impl Told {
+    fn new() -> Self {
+        Self { number: Lent::new(1, 0xA5A5_A5A5), place: Lent::new(1, usize::MAX - 90) }
+    }
+
+    /// The answer, number 0 standing for a value; its place must then be 0.
+    fn given(&self, lent: &[&dyn Kept], value: impl FnOnce() -> Value) -> Given {
+        let (number, place) = (self.number.first(), self.place.first());
+        let around = self.number.around() && self.place.around();
+        if number == 0 {
+            let untouched = around && place == 0 && lent.iter().all(|one| one.around());
+            return Given { answer: Ok(value()), untouched };
+        }
+        let number = u8::try_from(number).unwrap_or(u8::MAX);
+        let refusal = Refusal { number, place: place as u64 };
+        let untouched = around && lent.iter().all(|one| one.whole());
+        Given { answer: Err(refusal), untouched }
+    }
+}
+
+fn mode_code(mode: Mode) -> u8 {
+    match mode {
+        Mode::PolarOnly => 0,
+        Mode::PolarWithQjl => 1,
+    }
+}
+
+fn profile_code(profile: Profile) -> u8 {
+    match profile {
+        Profile::F32 => 0,
+        Profile::BlockLinearU16 => 1,
+        Profile::BlockLogU8 => 2,
+    }
+}
+
+/// Calls a C function that takes a setup: its scalars and parts, then the rest.
+macro_rules! under {
+    ($call:ident, $setup:expr, $($rest:expr),* $(,)?) => {{
+        let setup: &Setup = $setup;
+        unsafe {
+            raw::$call(
+                mode_code(setup.mode),
+                setup.dim,
+                setup.bits,
+                setup.projections,
+                setup.signs.as_ptr(),
+                setup.signs.len(),
+                setup.directions.as_ptr(),
+                setup.directions.len(),
+                setup.matrix.as_ptr(),
+                setup.matrix.len(),
+                $($rest),*
+            )
+        }
+    }};
+}
+
+/// What the port answers.
+pub fn answer(case: &Case) -> Given {
+    let mut told = Told::new();
+    let (number, place) = (told.number.at(), told.place.at());
+    match case {
+        Case::PackedLen { count, bits } => {
+            let mut value = Lent::new(1, usize::MAX);
+            unsafe { raw::foldrima_packed_len(*count, *bits, number, place, value.at()) };
+            told.given(&[&value], || Value::Number(value.first() as u64))
+        }
+        Case::PackIndices { indices, bits, out } => {
+            let mut out = Lent::new(*out, BYTE);
+            let (items, count, to, len) = (indices.as_ptr(), indices.len(), out.at(), out.len());
+            unsafe {
+                raw::foldrima_pack_indices(items, count, *bits, to, len, number, place);
+            }
+            told.given(&[&out], || Value::Bytes(out.found().to_vec()))
+        }
+        Case::UnpackIndices { bytes, count, bits, out } => {
+            let mut out = Lent::new(*out, SHORT);
+            let (from, size, to, len) = (bytes.as_ptr(), bytes.len(), out.at(), out.len());
+            unsafe {
+                raw::foldrima_unpack_indices(from, size, *count, *bits, to, len, number, place);
+            }
+            told.given(&[&out], || Value::Numbers(out.found().to_vec()))
+        }
+        Case::PackSigns { signs, out } => {
+            let mut out = Lent::new(*out, BYTE);
+            let (items, count, to, len) = (signs.as_ptr(), signs.len(), out.at(), out.len());
+            unsafe { raw::foldrima_pack_signs(items, count, to, len, number, place) };
+            told.given(&[&out], || Value::Bytes(out.found().to_vec()))
+        }
+        Case::UnpackSigns { bytes, count, out } => {
+            let mut out = Lent::new(*out, SIGN);
+            let (from, size, to, len) = (bytes.as_ptr(), bytes.len(), out.at(), out.len());
+            unsafe { raw::foldrima_unpack_signs(from, size, *count, to, len, number, place) };
+            told.given(&[&out], || Value::Signs(out.found().to_vec()))
+        }
+        Case::ValidatePadding { bytes, used_bits } => {
+            let (from, size) = (bytes.as_ptr(), bytes.len());
+            unsafe { raw::foldrima_validate_padding_zero(from, size, *used_bits, number, place) };
+            told.given(&[], || Value::Done)
+        }
+        Case::CodebookUniform { bits, min, max } => {
+            unsafe { raw::foldrima_uniform(*bits, *min, *max, number, place) };
+            told.given(&[], || Value::Codebook { bits: *bits, min: *min, max: *max })
+        }
+        Case::CodebookLevels { bits, min, max } => {
+            let mut value = Lent::new(1, u32::MAX);
+            unsafe { raw::foldrima_levels(*bits, *min, *max, number, place, value.at()) };
+            told.given(&[&value], || Value::Number(value.first().into()))
+        }
+        Case::CodebookQuantize { bits, min, max, value: x } => {
+            let mut value = Lent::new(1, SHORT);
+            unsafe { raw::foldrima_quantize(*bits, *min, *max, *x, number, place, value.at()) };
+            told.given(&[&value], || Value::Number(value.first().into()))
+        }
+        Case::CodebookMidpoint { bits, min, max, index } => {
+            let mut value = Lent::new(1, FLOAT);
+            let (to, index) = (value.at(), *index);
+            unsafe {
+                raw::foldrima_dequantize_midpoint(*bits, *min, *max, index, number, place, to);
+            }
+            told.given(&[&value], || Value::Float(value.first()))
+        }
+        Case::Compress { radii, profile, out } => {
+            let mut out = Lent::new(*out, BYTE);
+            let (mut min, mut max) = (Lent::new(1, FLOAT), Lent::new(1, FLOAT));
+            unsafe {
+                raw::foldrima_compress(
+                    radii.as_ptr(),
+                    radii.len(),
+                    profile_code(*profile),
+                    out.at(),
+                    out.len(),
+                    number,
+                    place,
+                    min.at(),
+                    max.at(),
+                )
+            };
+            told.given(&[&out, &min, &max], || Value::Radii {
+                min: min.first(),
+                max: max.first(),
+                payload: out.found().to_vec(),
+            })
+        }
+        Case::Decompress { profile, count, min, max, payload, out } => {
+            let mut out = Lent::new(*out, FLOAT);
+            unsafe {
+                raw::foldrima_decompress(
+                    profile_code(*profile),
+                    *count,
+                    *min,
+                    *max,
+                    payload.as_ptr(),
+                    payload.len(),
+                    out.at(),
+                    out.len(),
+                    number,
+                    place,
+                )
+            };
+            told.given(&[&out], || Value::Floats(out.found().to_vec()))
+        }
+        Case::EncodedBytes { profile, payload } => {
+            let mut value = Lent::new(1, usize::MAX);
+            let (code, from, size) = (profile_code(*profile), payload.as_ptr(), payload.len());
+            unsafe {
+                raw::foldrima_encoded_bytes(code, from, size, number, place, value.at());
+            }
+            told.given(&[&value], || Value::Number(value.first() as u64))
+        }
+        Case::Root { value } => plain(Value::Float(unsafe { raw::foldrima_sqrt(*value) })),
+        Case::Angle { bits, index } => {
+            let mut value = Lent::new(1, FLOAT);
+            unsafe { raw::foldrima_dequantize_angle(*bits, *index, number, place, value.at()) };
+            told.given(&[&value], || Value::Float(value.first()))
+        }
+        Case::Seeds { seed } => plain(Value::Seeds {
+            rotation: unsafe { raw::foldrima_hadamard_seed(*seed) },
+            matrix: unsafe { raw::foldrima_matrix_seed(*seed) },
+        }),
+        Case::Apply { inverse, dim, signs, input, out } => {
+            let mut out = Lent::new(*out, FLOAT);
+            let call = if *inverse { raw::foldrima_apply_inverse } else { raw::foldrima_apply };
+            unsafe {
+                call(
+                    *dim,
+                    signs.as_ptr(),
+                    signs.len(),
+                    input.as_ptr(),
+                    input.len(),
+                    out.at(),
+                    out.len(),
+                    number,
+                    place,
+                )
+            };
+            told.given(&[&out], || Value::Floats(out.found().to_vec()))
+        }
+        Case::SetupCheck { setup } => {
+            under!(foldrima_check_setup, setup, number, place);
+            told.given(&[], || Value::Done)
+        }
+        Case::Sketch { setup, vector, out } => {
+            let mut out = Lent::new(*out, SIGN);
+            let (from, size, to, len) = (vector.as_ptr(), vector.len(), out.at(), out.len());
+            under!(foldrima_sketch, setup, from, size, to, len, number, place);
+            told.given(&[&out], || Value::Signs(out.found().to_vec()))
+        }
+        Case::Prepare { setup, query, rotated, projected } => {
+            let mut rotated = Lent::new(*rotated, FLOAT);
+            let mut projected = Lent::new(*projected, FLOAT);
+            under!(
+                foldrima_prepare_query,
+                setup,
+                query.as_ptr(),
+                query.len(),
+                rotated.at(),
+                rotated.len(),
+                projected.at(),
+                projected.len(),
+                number,
+                place,
+            );
+            told.given(&[&rotated, &projected], || Value::Prepared {
+                rotated: rotated.found().to_vec(),
+                projected: projected.found().to_vec(),
+            })
+        }
+        Case::SketchScore { setup, query, signs } => {
+            let mut value = Lent::new(1, FLOAT);
+            let (from, size, items, count) =
+                (query.as_ptr(), query.len(), signs.as_ptr(), signs.len());
+            let to = value.at();
+            under!(foldrima_sketch_score, setup, from, size, items, count, number, place, to);
+            told.given(&[&value], || Value::Float(value.first()))
+        }
+        Case::WriteRecord { profile, dim, bits, mode, projections, radii, indices, signs, out } => {
+            let mut out = Lent::new(*out, BYTE);
+            unsafe {
+                raw::foldrima_write_record(
+                    profile_code(*profile),
+                    *dim,
+                    *bits,
+                    mode_code(*mode),
+                    *projections,
+                    radii.as_ptr(),
+                    radii.len(),
+                    indices.as_ptr(),
+                    indices.len(),
+                    signs.as_ptr(),
+                    signs.len(),
+                    out.at(),
+                    out.len(),
+                    number,
+                    place,
+                )
+            };
+            told.given(&[&out], || Value::Bytes(out.found().to_vec()))
+        }
+        Case::ReadRecord { record } => read(record),
+        Case::Score { setup, query, record } => {
+            let mut value = Lent::new(1, FLOAT);
+            let (from, size, bytes, count) =
+                (query.as_ptr(), query.len(), record.as_ptr(), record.len());
+            let to = value.at();
+            under!(
+                foldrima_inner_product_estimate,
+                setup,
+                from,
+                size,
+                bytes,
+                count,
+                number,
+                place,
+                to
+            );
+            told.given(&[&value], || Value::Float(value.first()))
+        }
+        Case::Distance { setup, query, record } => {
+            let mut value = Lent::new(1, FLOAT);
+            let (from, size, bytes, count) =
+                (query.as_ptr(), query.len(), record.as_ptr(), record.len());
+            let to = value.at();
+            under!(
+                foldrima_l2_distance_estimate,
+                setup,
+                from,
+                size,
+                bytes,
+                count,
+                number,
+                place,
+                to
+            );
+            told.given(&[&value], || Value::Float(value.first()))
+        }
+        Case::Decode { setup, record, out } => {
+            let mut out = Lent::new(*out, FLOAT);
+            let (from, size, to, len) = (record.as_ptr(), record.len(), out.at(), out.len());
+            under!(foldrima_decode_approximate, setup, from, size, to, len, number, place);
+            told.given(&[&out], || Value::Floats(out.found().to_vec()))
+        }
+        Case::ScorePrepared { setup, rotated, projected, record, .. } => {
+            let mut value = Lent::new(1, FLOAT);
+            unsafe {
+                raw::foldrima_inner_product_estimate_prepared(
+                    mode_code(setup.mode),
+                    setup.dim,
+                    setup.bits,
+                    setup.projections,
+                    setup.directions.as_ptr(),
+                    setup.directions.len(),
+                    rotated.as_ptr(),
+                    rotated.len(),
+                    projected.as_ptr(),
+                    projected.len(),
+                    record.as_ptr(),
+                    record.len(),
+                    number,
+                    place,
+                    value.at(),
+                )
+            };
+            told.given(&[&value], || Value::Float(value.first()))
+        }
+    }
+}
+
+/// A call that refuses nothing.
+fn plain(value: Value) -> Given {
+    Given { answer: Ok(value), untouched: true }
+}
+
+/// A record's header, parts and values. The seven calls must agree: with each other on a
+/// refusal, and with the record's layout on its header and parts.
+fn read(bytes: &[u8]) -> Given {
+    let (from, size) = (bytes.as_ptr(), bytes.len());
+    let mut told = Told::new();
+    let (mut mode, mut profile, mut bits) =
+        (Lent::new(1, BYTE), Lent::new(1, BYTE), Lent::new(1, BYTE));
+    let (mut dim, mut projections) = (Lent::new(1, usize::MAX), Lent::new(1, usize::MAX));
+    let (mut min, mut max) = (Lent::new(1, FLOAT), Lent::new(1, FLOAT));
+    unsafe {
+        raw::foldrima_read_record(
+            from,
+            size,
+            told.number.at(),
+            told.place.at(),
+            mode.at(),
+            profile.at(),
+            dim.at(),
+            bits.at(),
+            projections.at(),
+            min.at(),
+            max.at(),
+        )
+    };
+    let lent: [&dyn Kept; 7] = [&mode, &profile, &dim, &bits, &projections, &min, &max];
+    let header = told.given(&lent, || Value::Done);
+    let parts = [raw::foldrima_radii_part, raw::foldrima_indices_part, raw::foldrima_signs_part]
+        .map(|part| {
+            let (mut start, mut count) = (Lent::new(1, usize::MAX), Lent::new(1, usize::MAX));
+            unsafe { part(from, size, start.at(), count.at()) };
+            (start.first(), count.first())
+        });
+    if header.answer.is_err() {
+        let lens = (3, 3, 3);
+        let same = values(bytes, lens).0.iter().all(|given| given.answer == header.answer);
+        let kept = values(bytes, lens).0.iter().all(|given| given.untouched);
+        let empty = parts.iter().all(|part| part.1 == 0);
+        return Given { untouched: header.untouched && same && kept && empty, ..header };
+    }
+    let found = (mode.first(), profile.first(), dim.first(), bits.first(), projections.first());
+    let wanted = record::split(bytes).filter(|wanted| {
+        let map = wanted.map;
+        let counted = if wanted.has_signs() { wanted.projections as usize } else { 0 };
+        let (a, b) = (wanted.radii.len(), wanted.indices.len());
+        let start = record::header_len(map);
+        found == (map >> 1, map & 1, wanted.dim as usize, wanted.bits, counted)
+            && min.first().to_bits() == wanted.min.to_bits()
+            && max.first().to_bits() == wanted.max.to_bits()
+            && parts[0] == (start, a)
+            && parts[1] == (start + a, b)
+            && parts[2] == (start + a + b, wanted.signs.len())
+    });
+    let lens = (dim.first() / 2, dim.first() / 2, projections.first());
+    let (exact, value) = values(bytes, lens);
+    let longer = values(bytes, (lens.0 + 1, lens.1 + 1, lens.2 + 1)).0;
+    let needed = [lens.0, lens.1, lens.2];
+    let refused = longer.iter().zip(needed).all(|(given, needed)| {
+        let wanted = Refusal { number: 6, place: needed as u64 };
+        given.answer == Err(wanted) && given.untouched
+    });
+    let done = exact.iter().all(|given| given.answer.is_ok() && given.untouched);
+    let untouched = header.untouched && wanted.is_some() && refused && done;
+    Given { answer: Ok(value), untouched }
+}
+
+/// The three lists of a record, read into outputs of these lengths.
+fn values(bytes: &[u8], lens: (usize, usize, usize)) -> ([Given; 3], Value) {
+    let (from, size) = (bytes.as_ptr(), bytes.len());
+    let mut radii = Lent::new(lens.0, FLOAT);
+    let mut indices = Lent::new(lens.1, SHORT);
+    let mut signs = Lent::new(lens.2, SIGN);
+    let mut told = [Told::new(), Told::new(), Told::new()];
+    let [a, b, c] = &mut told;
+    unsafe {
+        let (to, len) = (radii.at(), radii.len());
+        raw::foldrima_read_radii(from, size, to, len, a.number.at(), a.place.at());
+        let (to, len) = (indices.at(), indices.len());
+        raw::foldrima_read_indices(from, size, to, len, b.number.at(), b.place.at());
+        let (to, len) = (signs.at(), signs.len());
+        raw::foldrima_read_signs(from, size, to, len, c.number.at(), c.place.at());
+    }
+    let given = [
+        a.given(&[&radii], || Value::Done),
+        b.given(&[&indices], || Value::Done),
+        c.given(&[&signs], || Value::Done),
+    ];
+    let value = Value::Record {
+        radii: radii.found().to_vec(),
+        indices: indices.found().to_vec(),
+        signs: signs.found().to_vec(),
+    };
+    (given, value)
 }

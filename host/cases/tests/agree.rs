@@ -62,6 +62,8 @@ fn every_change_is_seen() {
                     assert!(given(Ok(value.clone())).agrees(&wanted));
                     let refusal = Refusal { number: 1, place: 0 };
                     assert!(!given(Err(refusal)).agrees(&wanted));
+                    let astray = Given { answer: Ok(value.clone()), untouched: false };
+                    assert!(!astray.agrees(&wanted));
                     if let Some(other) = changed(value) {
                         assert!(!given(Ok(other)).agrees(&wanted), "{case}: {value}");
                     }

@@ -112,6 +112,12 @@ pub fn decompress(
     named(CompressedRadiiV1 { profile, count, min, max, payload }.decompress())
 }
 
+/// The bytes of a payload with its range. The Rust asks for no good profile here.
+pub fn encoded_bytes(profile: RadiusCodecProfileV1, payload: &[u8]) -> usize {
+    let payload = payload.to_vec();
+    CompressedRadiiV1 { profile, count: 0, min: 0.0, max: 0.0, payload }.encoded_bytes()
+}
+
 // Angles and directions.
 
 /// `PolarCode::dequantize_angle` of the only pair. It checks neither bits nor index.

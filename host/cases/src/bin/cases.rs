@@ -225,19 +225,21 @@ fn list(options: &Options, calls: &[usize], most: usize) {
 fn differ(options: &Options, calls: &[usize]) {
     use cases::port;
     println!("seed {}, {} cases for each call", options.seed, options.count);
-    let (mut total, mut differ, mut zeros, mut unwired) = (0, 0, 0, 0);
+    let (mut total, mut differ, mut zeros) = (0, 0, 0);
+    let mut numbers: BTreeMap<u8, usize> = BTreeMap::new();
     for &call in calls {
         let mut maker = Maker::new(options.seed.wrapping_add(call as u64) << 8, Size::Full);
         let (mut values, mut plain, mut refused, mut wrong) = (0, 0, 0, 0);
+        let mut smallest: Option<String> = None;
         for _ in 0..options.count {
             let case = maker.make(call);
-            let Some(given) = port::answer(&case) else {
-                unwired += 1;
-                continue;
-            };
+            let given = port::answer(&case);
             let wanted = expected(&case);
             match &wanted {
-                Expected::Refused(_) => refused += 1,
+                Expected::Refused(refusal) => {
+                    refused += 1;
+                    *numbers.entry(refusal.number).or_default() += 1;
+                }
                 Expected::Value { by_rust: true, .. } => values += 1,
                 Expected::Value { by_rust: false, .. } => plain += 1,
                 Expected::Open => {}
@@ -245,8 +247,9 @@ fn differ(options: &Options, calls: &[usize]) {
             zeros += !given.agrees_in_zeros(&wanted) as usize;
             if !given.agrees(&wanted) {
                 wrong += 1;
-                if wrong <= 3 {
-                    println!("  {case}\n    wanted {wanted:?}\n    given  {given:?}");
+                let text = format!("{case}\n    wanted {wanted:?}\n    given  {given:?}");
+                if smallest.as_ref().is_none_or(|other| text.len() < other.len()) {
+                    smallest = Some(text);
                 }
             }
         }
@@ -255,21 +258,27 @@ fn differ(options: &Options, calls: &[usize]) {
              {wrong:>6} differ",
             CALLS[call]
         );
+        if let Some(text) = smallest {
+            println!("  {text}");
+        }
         total += values + plain + refused;
         differ += wrong;
     }
-    for case in Maker::new(options.seed, Size::Full).largest() {
-        let Some(given) = port::answer(&case) else {
-            unwired += 1;
-            continue;
-        };
-        let wanted = expected(&case);
-        zeros += !given.agrees_in_zeros(&wanted) as usize;
-        let agrees = given.agrees(&wanted);
-        println!("largest {:<22} {}", case.call(), if agrees { "agrees" } else { "DIFFERS" });
-        total += 1;
-        differ += !agrees as usize;
+    if options.call.is_none() {
+        for case in Maker::new(options.seed, Size::Full).largest() {
+            let given = port::answer(&case);
+            let wanted = expected(&case);
+            zeros += !given.agrees_in_zeros(&wanted) as usize;
+            let agrees = given.agrees(&wanted);
+            println!("largest {:<22} {}", case.call(), if agrees { "agrees" } else { "DIFFERS" });
+            total += 1;
+            differ += !agrees as usize;
+        }
     }
-    println!("{total} cases, {differ} differ, {zeros} with zeros of another sign");
-    println!("{unwired} not wired");
+    let numbers: Vec<String> = numbers.iter().map(|(n, count)| format!("{n}: {count}")).collect();
+    println!("refusals by number: {}", numbers.join(", "));
+    println!("{total} cases, {zeros} with zeros of another sign, {differ} differ");
+    if differ > 0 {
+        std::process::exit(1);
+    }
 }
