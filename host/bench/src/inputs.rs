@@ -6,7 +6,7 @@
 use cases::{record, rng::Rng};
 use oracle::{
     packed::PackedTurboCode,
-    qjl::QjlQuantizer,
+    qjl::{QjlQuantizer, QjlSketch},
     radius::{CompressedRadiiV1, RadiusCodecProfileV1},
     rotation::FastHadamardRotation,
     thin,
@@ -26,9 +26,11 @@ pub struct Turn {
 }
 
 /// A matrix with a vector for it. The port's sketch takes a whole setup, so signs and
-/// a direction table of 2 total bits stand beside.
+/// a direction table of 2 total bits stand beside; `quantizer` has the same parts.
 pub struct Sketch {
     pub qjl: QjlQuantizer,
+    pub quantizer: TurboQuantizer,
+    pub sketch: QjlSketch,
     pub dim: usize,
     pub projections: usize,
     pub signs: Vec<f32>,
@@ -91,7 +93,10 @@ impl Inputs {
             let vector = vector(&mut rng, dim);
             let signs = thin::drawn_signs(dim, seed).unwrap();
             let directions = thin::directions(1);
-            Sketch { qjl, dim, projections, signs, directions, matrix, vector }
+            let drawn = thin::turbo(TurboMode::PolarWithQjl, dim, 2, projections, seed).unwrap();
+            let quantizer = thin::turbo_with(&drawn, &signs, &matrix);
+            let sketch = qjl.sketch(&vector).unwrap();
+            Sketch { qjl, quantizer, sketch, dim, projections, signs, directions, matrix, vector }
         });
         Self {
             indices: indices.into(),

@@ -1,7 +1,7 @@
 //! Nanoseconds of processor time a call, the Rust's and (with the feature `capi`) the
 //! port's, in one run on the same inputs: the median and the least of several rounds,
-//! each some milliseconds long, the two sides by turns.
-//! `bench [ROUNDS] [MILLISECONDS]`; 21 and 10 if not given.
+//! each some milliseconds long, the two sides by turns. A ratio is the median of the
+//! rounds' own. `bench [ROUNDS] [MILLISECONDS]`; 21 and 10 if not given.
 
 mod clock;
 mod inputs;
@@ -112,6 +112,26 @@ fn rows<'a>(inputs: &'a Inputs) -> Vec<Row<'a>> {
         );
     }
 
+    const PREPARE: [&str; 2] = ["prepare 256 x 64", "prepare 1024 x 256"];
+    const SKETCH_SCORE: [&str; 2] = ["sketch score 256 x 64", "sketch score 1024 x 256"];
+    for (i, wide) in inputs.sketches.iter().enumerate() {
+        add(
+            PREPARE[i],
+            Box::new(move || {
+                black_box(wide.quantizer.prepare_query(black_box(&wide.vector)).unwrap());
+            }),
+        );
+    }
+    for (i, wide) in inputs.sketches.iter().enumerate() {
+        add(
+            SKETCH_SCORE[i],
+            Box::new(move || {
+                let (sketch, query) = (black_box(&wide.sketch), black_box(&wide.vector));
+                black_box(wide.qjl.inner_product_estimate(sketch, query).unwrap());
+            }),
+        );
+    }
+
     let turbo = &inputs.turbo;
     add(
         "prepare query",
@@ -204,11 +224,24 @@ fn round(call: &mut Call, calls: u32) -> f64 {
 }
 
 /// The median, the least, and the width of the middle half in percent of the median.
-fn summary(times: &mut [f64]) -> (f64, f64, f64) {
+fn summary(mut times: Vec<f64>) -> (f64, f64, f64) {
     times.sort_by(f64::total_cmp);
     let n = times.len();
     let median = times[n / 2];
     (median, times[0], 100.0 * (times[n * 3 / 4] - times[n / 4]) / median)
+}
+
+/// How many times as fast as the Rust the port is to be.
+fn target(row: &str) -> f64 {
+    let starts = |names: &[&str]| names.iter().any(|name| row.starts_with(name));
+    match () {
+        () if starts(&["pack signs", "unpack signs", "sketch score"]) => 1.0,
+        () if starts(&["pack", "unpack"]) => 10.0,
+        () if starts(&["prepared score"]) => 4.0,
+        () if starts(&["sketch", "project"]) => 3.0,
+        () if starts(&["score", "decode"]) => 2.0,
+        () => 1.0,
+    }
 }
 
 fn main() {
@@ -216,28 +249,35 @@ fn main() {
     let rounds = args.next().unwrap_or(21).max(1);
     let long = Duration::from_millis(args.next().unwrap_or(10));
     let inputs = Inputs::new(7);
-    println!("seed 7, {rounds} rounds of {long:?} of processor time; ns a call");
-    println!("+- is the width of the middle half of the rounds; ratio is of the medians");
-    let head = ["Rust", "least", "+-", "port", "least", "+-", "ratio"];
-    let [a, b, c, d, e, f, g] = head;
-    println!("{:<24}{a:>12}{b:>11}{c:>8}{d:>12}{e:>11}{f:>8}{g:>8}", "");
+    println!("Seed 7, {rounds} rounds of {long:?} of processor time for each side, by turns.");
+    println!();
+    println!("| call | Rust, ns | least | ± | port, ns | least | ± | ratio | ± | target | |");
+    println!("|---|--:|--:|--:|--:|--:|--:|--:|--:|--:|---|");
     for mut row in rows(&inputs) {
         let rust_calls = calls_in(&mut row.rust, long);
         let port_calls = row.port.as_mut().map(|port| calls_in(port, long));
-        let (mut rust, mut port) = (Vec::new(), Vec::new());
+        let (mut rust, mut port, mut ratio) = (Vec::new(), Vec::new(), Vec::new());
         for _ in 0..rounds {
             rust.push(round(&mut row.rust, rust_calls));
             if let (Some(call), Some(calls)) = (row.port.as_mut(), port_calls) {
                 port.push(round(call, calls));
+                ratio.push(rust[rust.len() - 1] / port[port.len() - 1]);
             }
         }
-        let (rust, least, wide) = summary(&mut rust);
-        print!("{:<24}{rust:>12.1}{least:>11.1}{wide:>7.1}%", row.name);
+        let (rust, least, wide) = summary(rust);
+        print!("| {} | {rust:.0} | {least:.0} | {wide:.0} % |", row.name);
         if port.is_empty() {
-            println!("{:>12}{:>11}{:>8}{:>8}", "-", "-", "-", "-");
-        } else {
-            let (port, least, wide) = summary(&mut port);
-            println!("{port:>12.1}{least:>11.1}{wide:>7.1}%{:>8.2}", rust / port);
+            println!(" | | | | | | |");
+            continue;
         }
+        let (port, least, wide) = summary(port);
+        print!(" {port:.0} | {least:.0} | {wide:.0} % |");
+        let (ratio, _, wide) = summary(ratio);
+        let target = target(row.name);
+        let met = match ratio < target {
+            true => format!("missed: {:.0} % of it", 100.0 * ratio / target),
+            false => "met".into(),
+        };
+        println!(" {ratio:.2} | {wide:.0} % | {target:.0} | {met} |");
     }
 }

@@ -1,10 +1,164 @@
-//! The place of the port's side, built only with the feature `capi`: one call for each
-//! row's name, over the functions that `cases::port` declares, lent the same inputs.
+//! The port's side, built only with the feature `capi`: one call for each row's name,
+//! over the safe calls of `foldrima`, lent the same inputs.
 
-use crate::{inputs::Inputs, Call};
+use std::hint::black_box;
 
-/// The port's call for a row; None while it is not wired.
+use foldrima::{RadiusCodecProfileV1, Range, Setup, TurboMode};
+
+use crate::{
+    inputs::{Inputs, Sketch, Turbo},
+    Call,
+};
+
+fn sketch_setup(wide: &Sketch) -> Setup<'_> {
+    Setup {
+        mode: TurboMode::PolarWithQjl,
+        dim: wide.dim,
+        bits: 2,
+        projections: wide.projections,
+        signs: &wide.signs,
+        directions: &wide.directions,
+        matrix: &wide.matrix,
+    }
+}
+
+fn turbo_setup(turbo: &Turbo) -> Setup<'_> {
+    Setup {
+        mode: TurboMode::PolarWithQjl,
+        dim: 256,
+        bits: 8,
+        projections: 64,
+        signs: &turbo.signs,
+        directions: &turbo.directions,
+        matrix: &turbo.matrix,
+    }
+}
+
+/// The port's call for a row.
 pub fn call<'a>(row: &str, inputs: &'a Inputs) -> Option<Call<'a>> {
-    let _ = (row, inputs);
-    None
+    let at = |names: &[&str]| names.iter().position(|name| *name == row);
+    if let Some(i) = at(&["pack 4096 x 3 bits", "pack 4096 x 8 bits", "pack 4096 x 12 bits"]) {
+        let wide = &inputs.indices[i];
+        let mut out = vec![0; wide.packed.len()];
+        return Some(Box::new(move || {
+            foldrima::pack_indices(black_box(&wide.items), wide.bits, &mut out).unwrap();
+            black_box(&out);
+        }));
+    }
+    if let Some(i) = at(&["unpack 4096 x 3 bits", "unpack 4096 x 8 bits", "unpack 4096 x 12 bits"])
+    {
+        let wide = &inputs.indices[i];
+        let mut out = vec![0; wide.items.len()];
+        return Some(Box::new(move || {
+            let (bytes, count) = (black_box(&wide.packed), wide.items.len());
+            foldrima::unpack_indices(bytes, count, wide.bits, &mut out).unwrap();
+            black_box(&out);
+        }));
+    }
+    if let Some(i) = at(&["apply 256", "apply 4096"]) {
+        let turn = &inputs.rotations[i];
+        let mut out = vec![0.0; turn.input.len()];
+        return Some(Box::new(move || {
+            let input = black_box(&turn.input);
+            foldrima::apply(input.len(), &turn.signs, input, &mut out).unwrap();
+            black_box(&out);
+        }));
+    }
+    if let Some(i) = at(&["sketch 256 x 64", "sketch 1024 x 256"]) {
+        let wide = &inputs.sketches[i];
+        let mut out = vec![0; wide.projections];
+        return Some(Box::new(move || {
+            sketch_setup(wide).sketch(black_box(&wide.vector), &mut out).unwrap();
+            black_box(&out);
+        }));
+    }
+    let project = at(&["project 256 x 64", "project 1024 x 256"]);
+    let prepare = at(&["prepare 256 x 64", "prepare 1024 x 256"]);
+    if let Some(i) = project.or(prepare) {
+        // The port projects only in `prepare_query`, which checks and rotates too.
+        let wide = &inputs.sketches[i];
+        let (mut rotated, mut projected) = (vec![0.0; wide.dim], vec![0.0; wide.projections]);
+        return Some(Box::new(move || {
+            let query = black_box(&wide.vector);
+            sketch_setup(wide).prepare_query(query, &mut rotated, &mut projected).unwrap();
+            black_box((&rotated, &projected));
+        }));
+    }
+    if let Some(i) = at(&["sketch score 256 x 64", "sketch score 1024 x 256"]) {
+        let wide = &inputs.sketches[i];
+        return Some(Box::new(move || {
+            let (query, signs) = (black_box(&wide.vector), black_box(&wide.sketch.signs));
+            black_box(sketch_setup(wide).sketch_score(query, signs).unwrap());
+        }));
+    }
+    single(row, inputs)
+}
+
+fn single<'a>(row: &str, inputs: &'a Inputs) -> Option<Call<'a>> {
+    let turbo = &inputs.turbo;
+    let linear = RadiusCodecProfileV1::BlockLinearU16;
+    Some(match row {
+        "pack signs 4096" => {
+            let mut out = vec![0; inputs.packed_signs.len()];
+            Box::new(move || {
+                foldrima::pack_signs(black_box(&inputs.signs), &mut out).unwrap();
+                black_box(&out);
+            })
+        }
+        "unpack signs 4096" => {
+            let mut out = vec![0; inputs.signs.len()];
+            Box::new(move || {
+                let bytes = black_box(&inputs.packed_signs);
+                foldrima::unpack_signs(bytes, inputs.signs.len(), &mut out).unwrap();
+                black_box(&out);
+            })
+        }
+        "compress linear 2048" => {
+            let mut out = vec![0; inputs.compressed.payload.len()];
+            Box::new(move || {
+                let range = foldrima::compress(black_box(&inputs.radii), linear, &mut out);
+                black_box((range.unwrap(), &out));
+            })
+        }
+        "decompress linear 2048" => {
+            let packed = &inputs.compressed;
+            let range = Range { min: packed.min, max: packed.max };
+            let mut out = vec![0.0; packed.count];
+            Box::new(move || {
+                let payload = black_box(&packed.payload);
+                foldrima::decompress(linear, packed.count, range, payload, &mut out).unwrap();
+                black_box(&out);
+            })
+        }
+        "prepare query" => {
+            let (mut rotated, mut projected) = (vec![0.0; 256], vec![0.0; 64]);
+            Box::new(move || {
+                let query = black_box(&turbo.query);
+                turbo_setup(turbo).prepare_query(query, &mut rotated, &mut projected).unwrap();
+                black_box((&rotated, &projected));
+            })
+        }
+        "score" | "score, packed" => Box::new(move || {
+            let (query, record) = (black_box(&turbo.query), black_box(&turbo.record));
+            black_box(turbo_setup(turbo).inner_product_estimate(query, record).unwrap());
+        }),
+        "prepared score" | "prepared score, packed" => Box::new(move || {
+            let (rotated, projected) = (black_box(&turbo.rotated), &turbo.projected);
+            let record = black_box(&turbo.record);
+            let setup = turbo_setup(turbo);
+            black_box(setup.inner_product_estimate_prepared(rotated, projected, record).unwrap());
+        }),
+        "distance" | "distance, packed" => Box::new(move || {
+            let (query, record) = (black_box(&turbo.query), black_box(&turbo.record));
+            black_box(turbo_setup(turbo).l2_distance_estimate(query, record).unwrap());
+        }),
+        "decode" | "decode, packed" => {
+            let mut out = vec![0.0; 256];
+            Box::new(move || {
+                turbo_setup(turbo).decode_approximate(black_box(&turbo.record), &mut out).unwrap();
+                black_box(&out);
+            })
+        }
+        _ => return None,
+    })
 }
