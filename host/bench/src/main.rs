@@ -280,4 +280,16 @@ fn main() {
         };
         println!(" {ratio:.2} | {wide:.0} % | {target:.0} | {met} |");
     }
+    #[cfg(feature = "capi")]
+    {
+        println!();
+        println!("| part of the port's calls, 256 x 64, 8 bits | ns | least | ± |");
+        println!("|---|--:|--:|--:|");
+        for (name, mut call) in port::parts(&inputs) {
+            let calls = calls_in(&mut call, long);
+            let times = (0..rounds).map(|_| round(&mut call, calls)).collect();
+            let (median, least, wide) = summary(times);
+            println!("| {name} | {median:.0} | {least:.0} | {wide:.0} % |");
+        }
+    }
 }

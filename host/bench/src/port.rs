@@ -162,3 +162,57 @@ fn single<'a>(row: &str, inputs: &'a Inputs) -> Option<Call<'a>> {
         _ => return None,
     })
 }
+
+/// What the port's calls at 256 x 64 and 8 bits are made of, each by itself; the Rust has
+/// no such calls.
+pub fn parts(inputs: &Inputs) -> Vec<(&'static str, Call<'_>)> {
+    let turbo = &inputs.turbo;
+    let (mut radii, mut indices, mut signs) = (vec![0.0; 128], vec![0; 128], vec![0; 64]);
+    let (turn, mut turned) = (&inputs.rotations[0], vec![0.0; 256]);
+    let narrow = Setup {
+        mode: TurboMode::PolarOnly,
+        bits: 7,
+        projections: 0,
+        matrix: &[],
+        ..turbo_setup(turbo)
+    };
+    vec![
+        ("check_setup", Box::new(move || turbo_setup(black_box(turbo)).check().unwrap())),
+        ("check_setup without matrix", Box::new(move || black_box(&narrow).check().unwrap())),
+        (
+            "read_record",
+            Box::new(move || {
+                black_box(foldrima::read_record(black_box(&turbo.record)).unwrap());
+            }),
+        ),
+        (
+            "read_radii",
+            Box::new(move || {
+                foldrima::read_radii(black_box(&turbo.record), &mut radii).unwrap();
+                black_box(&radii);
+            }),
+        ),
+        (
+            "read_indices",
+            Box::new(move || {
+                foldrima::read_indices(black_box(&turbo.record), &mut indices).unwrap();
+                black_box(&indices);
+            }),
+        ),
+        (
+            "read_signs",
+            Box::new(move || {
+                foldrima::read_signs(black_box(&turbo.record), &mut signs).unwrap();
+                black_box(&signs);
+            }),
+        ),
+        (
+            "apply_inverse",
+            Box::new(move || {
+                let input = black_box(&turn.input);
+                foldrima::apply_inverse(256, &turn.signs, input, &mut turned).unwrap();
+                black_box(&turned);
+            }),
+        ),
+    ]
+}

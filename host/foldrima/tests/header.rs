@@ -1,0 +1,106 @@
+//! The declarations of `raw.rs`, of the C header and of the port's sources are the same,
+//! as far as header and sources stand beside this folder.
+
+use std::{collections::BTreeMap, fs, path::Path};
+
+/// The types of a function's parameters, and of what it returns.
+type Signatures = BTreeMap<String, (Vec<String>, String)>;
+
+fn words(text: &str) -> String {
+    text.split_whitespace().collect::<Vec<_>>().join(" ")
+}
+
+/// The functions whose names follow `start`; `types` gives a parameter's C types.
+fn found(text: &str, start: &str, types: impl Fn(&str) -> Vec<String>) -> Signatures {
+    let mut all = Signatures::new();
+    for piece in text.split(start).skip(1) {
+        let (name, rest) = piece.split_once('(').unwrap();
+        let (list, after) = rest.split_once(')').unwrap();
+        let list = list.split(',').map(words).filter(|one| !one.is_empty());
+        let given = list.flat_map(|one| types(&one)).collect();
+        let answer = after.strip_prefix(" -> ").map_or("", |more| &more[..3]);
+        all.insert(name.to_string(), (given, answer.to_string()));
+    }
+    all
+}
+
+fn declared() -> Signatures {
+    found(include_str!("../src/raw.rs"), "pub fn ", |one| {
+        vec![one.split_once(": ").unwrap().1.to_string()]
+    })
+}
+
+fn agree(others: &Signatures) {
+    let ours = declared();
+    assert!(ours.keys().eq(others.keys()), "{:?} and {:?}", ours.keys(), others.keys());
+    for (name, signature) in &ours {
+        assert_eq!(&others[name], signature, "{name}");
+    }
+}
+
+#[test]
+fn the_header_has_them() {
+    let path = Path::new(env!("CARGO_MANIFEST_DIR")).join("../../include/foldrima.h");
+    let Ok(text) = fs::read_to_string(path) else {
+        println!("there is no header");
+        return;
+    };
+    let rust = |name: &str| match name {
+        "float" => "f32".to_string(),
+        "size_t" => "usize".to_string(),
+        other => {
+            let width = other.trim_end_matches("_t");
+            width.replace("uint", "u").replace("int", "i")
+        }
+    };
+    // Without its comments.
+    let text: String = text.split("/*").map(|part| part.split("*/").last().unwrap()).collect();
+    let mut header = Signatures::new();
+    for line in words(&text).split(';') {
+        let Some(at) = line.find(" foldrima_").filter(|_| line.contains('(')) else {
+            continue;
+        };
+        let (before, rest) = line.split_at(at + 1);
+        let (name, list) = rest.split_once('(').unwrap();
+        let given = list.trim_end_matches(')').split(", ").map(|one| {
+            let (kind, name) = one.rsplit_once(' ').unwrap();
+            match (kind.strip_prefix("const "), name.starts_with('*')) {
+                (Some(kind), true) => format!("*const {}", rust(kind)),
+                (None, true) => format!("*mut {}", rust(kind)),
+                _ => rust(kind),
+            }
+        });
+        let answer = before.trim().rsplit(' ').next().unwrap();
+        let answer = if answer == "void" { String::new() } else { rust(answer) };
+        header.insert(name.to_string(), (given.collect(), answer));
+    }
+    agree(&header);
+}
+
+#[test]
+fn the_sources_have_them() {
+    let folder = Path::new(env!("CARGO_MANIFEST_DIR")).join("../../crates/capi/src");
+    let Ok(files) = fs::read_dir(folder) else {
+        println!("there are no sources");
+        return;
+    };
+    let text: String =
+        files.map(|file| fs::read_to_string(file.unwrap().path()).unwrap()).collect();
+    let sources = found(&text, "pub extern \"C\" fn ", |one| {
+        let kind = one.split_once(": ").unwrap().1;
+        let (mutable, kind) = match kind.strip_prefix('&') {
+            None => return vec![kind.to_string()],
+            Some(kind) => match kind.strip_prefix("mut ") {
+                Some(kind) => ("*mut", kind),
+                None => ("*const", kind),
+            },
+        };
+        match kind.strip_prefix('[') {
+            Some(item) => {
+                vec![format!("{mutable} {}", item.trim_end_matches(']')), "usize".to_string()]
+            }
+            None => vec![format!("{mutable} {kind}")],
+        }
+    });
+    agree(&sources);
+}
