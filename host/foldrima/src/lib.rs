@@ -1,6 +1,27 @@
 //! The port's calls for Rust programs: safe functions over the C functions of its static
 //! library, under the Rust's names. Outputs are lent and must have exactly the needed
 //! length; a refused call writes to none of them.
+//!
+//! ```
+//! use foldrima::{Refusal, Setup, TurboMode};
+//!
+//! # fn main() -> Result<(), Refusal> {
+//! let signs = [1.0, 1.0]; // drawn by a generator that is seeded with `hadamard_seed`
+//! let directions = [-1.0, 0.0, 1.0, 0.0]; // cosine and sine of each `dequantize_angle`
+//! let matrix = [1.0, 0.0, 0.0, 1.0, 1.0, 1.0]; // drawn with `matrix_seed`, row by row
+//! let (mode, dim, bits, projections) = (TurboMode::PolarWithQjl, 2, 2, 3);
+//! let (signs, directions, matrix) = (&signs, &directions, &matrix);
+//! let setup = Setup { mode, dim, bits, projections, signs, directions, matrix };
+//! let (mut rotated, mut projected) = ([0.0; 2], [0.0; 3]);
+//! setup.prepare_query(&[1.0, 3.0], &mut rotated, &mut projected)?;
+//! let record = [2, 2, 0, 0, 0, 1, 3, 0, 0, 0, 0, 0, 0x80, 0x3F, 1, 5];
+//! let score = setup.inner_product_estimate_prepared(&rotated, &projected, &record)?;
+//! assert!(score > 3.66 && score < 3.67);
+//! let cut = setup.inner_product_estimate_prepared(&rotated, &projected, &record[..9]);
+//! assert_eq!(cut, Err(Refusal { number: 13, place: 9 }));
+//! # Ok(())
+//! # }
+//! ```
 
 pub mod raw;
 
