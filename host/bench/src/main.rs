@@ -1,7 +1,8 @@
 //! Nanoseconds of processor time a call, the Rust's and (with the feature `capi`) the
 //! port's, in one run on the same inputs: the median and the least of several rounds,
 //! each some milliseconds long, the two sides by turns. A ratio is the median of the
-//! rounds' own. `bench [ROUNDS] [MILLISECONDS]`; 21 and 10 if not given.
+//! rounds' own. `bench [ROUNDS] [MILLISECONDS] [NAME]`; 21 and 10 if not given, and with
+//! a name only the rows that have it in theirs.
 
 mod clock;
 mod inputs;
@@ -245,15 +246,17 @@ fn target(row: &str) -> f64 {
 }
 
 fn main() {
-    let mut args = std::env::args().skip(1).map(|arg| arg.parse::<u64>().expect("a number"));
-    let rounds = args.next().unwrap_or(21).max(1);
-    let long = Duration::from_millis(args.next().unwrap_or(10));
+    let args: Vec<String> = std::env::args().skip(1).collect();
+    let number = |at: usize| args.get(at).map(|arg| arg.parse::<u64>().expect("a number"));
+    let rounds = number(0).unwrap_or(21).max(1);
+    let long = Duration::from_millis(number(1).unwrap_or(10));
+    let asked = |row: &str| args.get(2).is_none_or(|name| row.contains(name.as_str()));
     let inputs = Inputs::new(7);
     println!("Seed 7, {rounds} rounds of {long:?} of processor time for each side, by turns.");
     println!();
     println!("| call | Rust, ns | least | ± | port, ns | least | ± | ratio | ± | target | |");
     println!("|---|--:|--:|--:|--:|--:|--:|--:|--:|--:|---|");
-    for mut row in rows(&inputs) {
+    for mut row in rows(&inputs).into_iter().filter(|row| asked(row.name)) {
         let rust_calls = calls_in(&mut row.rust, long);
         let port_calls = row.port.as_mut().map(|port| calls_in(port, long));
         let (mut rust, mut port, mut ratio) = (Vec::new(), Vec::new(), Vec::new());
@@ -285,7 +288,7 @@ fn main() {
         println!();
         println!("| part of the port's calls, 256 x 64, 8 bits | ns | least | ± |");
         println!("|---|--:|--:|--:|");
-        for (name, mut call) in port::parts(&inputs) {
+        for (name, mut call) in port::parts(&inputs).into_iter().filter(|part| asked(part.0)) {
             let calls = calls_in(&mut call, long);
             let times = (0..rounds).map(|_| round(&mut call, calls)).collect();
             let (median, least, wide) = summary(times);

@@ -500,3 +500,47 @@ fn values(bytes: &[u8], lens: (usize, usize, usize)) -> ([Given; 3], Value) {
     };
     (given, value)
 }
+
+#[cfg(test)]
+mod tests {
+    use super::*;
+
+    fn told(number: u32, place: usize) -> Told {
+        let mut told = Told::new();
+        told.number.items[GUARD] = number;
+        told.place.items[GUARD] = place;
+        told
+    }
+
+    #[test]
+    fn a_write_beside_the_output_is_seen() {
+        for at in [0, GUARD - 1, GUARD + 3, 2 * GUARD + 2] {
+            let mut out = Lent::new(3, BYTE);
+            out.items[at] = 0;
+            let given = told(0, 0).given(&[&out], || Value::Done);
+            assert!(!given.untouched, "{at}");
+        }
+        let mut out = Lent::new(3, BYTE);
+        out.items[GUARD..GUARD + 3].fill(0);
+        assert!(told(0, 0).given(&[&out], || Value::Done).untouched);
+    }
+
+    #[test]
+    fn a_write_on_a_refusal_is_seen() {
+        for at in 0..2 * GUARD + 3 {
+            let mut out = Lent::new(3, FLOAT);
+            out.items[at] = 0.0;
+            assert!(!told(6, 3).given(&[&out], || Value::Done).untouched, "{at}");
+        }
+        let out = Lent::new(3, FLOAT);
+        let given = told(6, 3).given(&[&out], || Value::Done);
+        let refusal = Refusal { number: 6, place: 3 };
+        assert_eq!(given, Given { answer: Err(refusal), untouched: true });
+    }
+
+    #[test]
+    fn number_and_place_must_be_written() {
+        assert!(Told::new().given(&[], || Value::Done).answer.is_err());
+        assert!(!told(0, 1).given(&[], || Value::Done).untouched);
+    }
+}
