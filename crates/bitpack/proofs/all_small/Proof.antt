@@ -45,12 +45,13 @@ loop-again : tie.Need-loop-again Inv-loop μ-loop
 loop-again c =
     let a = c .before .before .before .before .args in
     let s = c .before .before .before .loop in
-    let below = c .before .before .loop-test .taken in
-    (s .inv .0,
-    ⊎-elim
-    (λ w. rw (w .1) (swept-spot (tooLarge (a .bits)) (now (a .indices)) (s .i) (s .ok) 0 below (le-leb (2 ^ a .bits) (getD (now (a .indices)) (s .i) 0) (omega (arith, w .0 .taken, s .inv .0))) (s .inv .1)))
-    (λ w. rw (w .1) (swept-pass (tooLarge (a .bits)) (now (a .indices)) (s .i) (s .ok) 0 below (lt-leb (2 ^ a .bits) (getD (now (a .indices)) (s .i) 0) (omega (arith, w .0 .left, s .inv .0))) (s .inv .1)))
-    (c .if1 .came))
+    let below = c .before .before .loop-test .taken in (
+      s .inv .0,
+      ⊎-elim
+          (λ w. rw (w .1) (swept-spot (tooLarge (a .bits)) (now (a .indices)) (s .i) (s .ok) 0 below (le-leb (2 ^ a .bits) (getD (now (a .indices)) (s .i) 0) (omega (arith, w .0 .taken, s .inv .0))) (s .inv .1)))
+          (λ w. rw (w .1) (swept-pass (tooLarge (a .bits)) (now (a .indices)) (s .i) (s .ok) 0 below (lt-leb (2 ^ a .bits) (getD (now (a .indices)) (s .i) 0) (omega (arith, w .0 .left, s .inv .0))) (s .inv .1)))
+          (c .if1 .came),
+    )
 
 returns : tie.Need-returns Inv-loop μ-loop
 returns c = swept-end _ _ _ _ (c .loop-test .left) (c .before .loop .inv .1)
