@@ -168,6 +168,8 @@ def encode(call, fields, answer):
     for name, (list_, read) in places.items():
         if name in fields:
             lists[list_] = read(fields[name])
+    if call == "unpack_signs":
+        rooms[1] = rooms[0]
     if call == "read_record":
         rooms = [3, 3]
     if kind != "refused":

@@ -19,47 +19,34 @@ pub(crate) fn packed_len(case: &[u8; 1024]) -> bool {
     }
 }
 
-pub(crate) fn pack_indices(case: &[u8; 1024]) -> bool {
+pub(crate) fn pack_indices(case: &[u8; 1024], out: &mut [u8]) -> bool {
     let indices = frame::indices(case, frame::INDICES);
     let count = frame::count(case, frame::INDICES);
-    let room = frame::room(case);
-    let mut out = frame::blank_bytes();
-    let given = bitpack::pack_indices(&indices[0..count], frame::bits(case), &mut out[0..room]);
-    same::outcome(case, given) && same::bytes(case, frame::BYTES, &out)
+    let given = bitpack::pack_indices(&indices[0..count], frame::bits(case), out);
+    same::outcome(case, given)
 }
 
-pub(crate) fn unpack_indices(case: &[u8; 1024]) -> bool {
+pub(crate) fn unpack_indices(case: &[u8; 1024], out: &mut [u16]) -> bool {
     let packed = frame::bytes(case, frame::BYTES);
     let length = frame::count(case, frame::BYTES);
     let count = frame::first_number(case) as usize;
-    let room = frame::room(case);
-    let mut out = frame::blank_indices();
-    let given = bitpack::unpack_indices(
-        &packed[0..length],
-        count,
-        frame::bits(case),
-        &mut out[0..room],
-    );
-    same::outcome(case, given) && same::indices(case, frame::INDICES, &out)
+    let given = bitpack::unpack_indices(&packed[0..length], count, frame::bits(case), out);
+    same::outcome(case, given)
 }
 
-pub(crate) fn pack_signs(case: &[u8; 1024]) -> bool {
+pub(crate) fn pack_signs(case: &[u8; 1024], out: &mut [u8]) -> bool {
     let signs = frame::signs(case, frame::SKETCH);
     let count = frame::count(case, frame::SKETCH);
-    let room = frame::room(case);
-    let mut out = frame::blank_bytes();
-    let given = signs::pack_signs(&signs[0..count], &mut out[0..room]);
-    same::outcome(case, given) && same::bytes(case, frame::BYTES, &out)
+    let given = signs::pack_signs(&signs[0..count], out);
+    same::outcome(case, given)
 }
 
-pub(crate) fn unpack_signs(case: &[u8; 1024]) -> bool {
+pub(crate) fn unpack_signs(case: &[u8; 1024], out: &mut [i8]) -> bool {
     let packed = frame::bytes(case, frame::BYTES);
     let length = frame::count(case, frame::BYTES);
     let count = frame::first_number(case) as usize;
-    let room = frame::room(case);
-    let mut out = frame::blank_signs();
-    let given = signs::unpack_signs(&packed[0..length], count, &mut out[0..room]);
-    same::outcome(case, given) && same::signs(case, frame::SKETCH, &out)
+    let given = signs::unpack_signs(&packed[0..length], count, out);
+    same::outcome(case, given)
 }
 
 pub(crate) fn validate_padding_zero(case: &[u8; 1024]) -> bool {
@@ -114,13 +101,11 @@ pub(crate) fn codebook_midpoint(case: &[u8; 1024]) -> bool {
     }
 }
 
-pub(crate) fn compress(case: &[u8; 1024]) -> bool {
+pub(crate) fn compress(case: &[u8; 1024], out: &mut [u8]) -> bool {
     let radii = frame::floats(case, frame::VECTOR);
     let count = frame::count(case, frame::VECTOR);
-    let room = frame::room(case);
-    let mut out = frame::blank_bytes();
-    let given = radius::compress(&radii[0..count], frame::profile(case), &mut out[0..room]);
-    compressed(case, given) && same::bytes(case, frame::BYTES, &out)
+    let given = radius::compress(&radii[0..count], frame::profile(case), out);
+    compressed(case, given)
 }
 
 // Whether the list says this range, or this refusal.
@@ -136,20 +121,18 @@ fn compressed(case: &[u8; 1024], given: Compressed) -> bool {
     }
 }
 
-pub(crate) fn decompress(case: &[u8; 1024]) -> bool {
+pub(crate) fn decompress(case: &[u8; 1024], out: &mut [f32]) -> bool {
     let payload = frame::bytes(case, frame::BYTES);
     let length = frame::count(case, frame::BYTES);
     let count = frame::first_number(case) as usize;
-    let room = frame::room(case);
-    let mut out = frame::blank_floats();
     let given = radius::decompress(
         frame::profile(case),
         count,
         frame::range(case),
         &payload[0..length],
-        &mut out[0..room],
+        out,
     );
-    same::outcome(case, given) && same::floats(case, frame::FLOATS, &out)
+    same::outcome(case, given)
 }
 
 pub(crate) fn root(case: &[u8; 1024]) -> bool {

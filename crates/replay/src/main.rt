@@ -2,6 +2,7 @@
 // standard input: for each call two bytes with the number of its cases, and each case behind two bytes with its length.
 mod codecs;
 mod frame;
+mod outputs;
 mod same;
 mod scores;
 
@@ -99,30 +100,26 @@ fn replayed(call: u8) -> bool {
 fn of_codecs(call: u8, case: &[u8; 1024]) -> bool {
     match call {
         0 => codecs::packed_len(case),
-        1 => codecs::pack_indices(case),
-        2 => codecs::unpack_indices(case),
-        3 => codecs::pack_signs(case),
-        4 => codecs::unpack_signs(case),
+        1 | 3 | 10 => outputs::bytes(call, case),
+        2 => outputs::indices(call, case),
+        4 => outputs::signs(call, case),
         5 => codecs::validate_padding_zero(case),
         6 => codecs::codebook_uniform(case),
         7 => codecs::codebook_levels(case),
         8 => codecs::codebook_quantize(case),
         9 => codecs::codebook_midpoint(case),
-        10 => codecs::compress(case),
-        11 => codecs::decompress(case),
+        11 => outputs::floats(call, case),
         12 => codecs::root(case),
         13 => codecs::dequantize_angle(case),
-        14 => codecs::seeds(case),
-        _ => false,
+        _ => codecs::seeds(case),
     }
 }
 
 fn of_scores(call: u8, case: &[u8; 1024]) -> bool {
     match call {
-        15 => scores::apply(case),
-        16 => scores::apply_inverse(case),
-        21 => scores::write_record(case),
-        22 => scores::read_record(case),
+        15 | 16 => outputs::floats(call, case),
+        21 => outputs::bytes(call, case),
+        22 => outputs::record(call, case),
         26 => scores::score_prepared(case),
         _ => scores::under_setup(call, case),
     }

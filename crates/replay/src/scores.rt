@@ -19,28 +19,24 @@ pub const DISTANCE: u8 = 24;
 
 pub const DECODE: u8 = 25;
 
-pub(crate) fn apply(case: &[u8; 1024]) -> bool {
+pub(crate) fn apply(case: &[u8; 1024], out: &mut [f32]) -> bool {
     let signs = frame::floats(case, frame::SIGNS);
     let turns = frame::count(case, frame::SIGNS);
     let input = frame::floats(case, frame::VECTOR);
     let count = frame::count(case, frame::VECTOR);
-    let room = frame::room(case);
-    let mut out = frame::blank_floats();
     let dim = frame::first_number(case) as usize;
-    let given = rotation::apply(dim, &signs[0..turns], &input[0..count], &mut out[0..room]);
-    same::outcome(case, given) && same::floats(case, frame::FLOATS, &out)
+    let given = rotation::apply(dim, &signs[0..turns], &input[0..count], out);
+    same::outcome(case, given)
 }
 
-pub(crate) fn apply_inverse(case: &[u8; 1024]) -> bool {
+pub(crate) fn apply_inverse(case: &[u8; 1024], out: &mut [f32]) -> bool {
     let signs = frame::floats(case, frame::SIGNS);
     let turns = frame::count(case, frame::SIGNS);
     let input = frame::floats(case, frame::VECTOR);
     let count = frame::count(case, frame::VECTOR);
-    let room = frame::room(case);
-    let mut out = frame::blank_floats();
     let dim = frame::first_number(case) as usize;
-    let given = rotation::apply_inverse(dim, &signs[0..turns], &input[0..count], &mut out[0..room]);
-    same::outcome(case, given) && same::floats(case, frame::FLOATS, &out)
+    let given = rotation::apply_inverse(dim, &signs[0..turns], &input[0..count], out);
+    same::outcome(case, given)
 }
 
 // A call of this kind under the case's setup: its three lists are lent.
@@ -218,15 +214,13 @@ fn decode(case: &[u8; 1024], signs: &[f32], directions: &[f32], matrix: &[f32]) 
     same::outcome(case, given) && same::floats(case, frame::FLOATS, &out)
 }
 
-pub(crate) fn write_record(case: &[u8; 1024]) -> bool {
+pub(crate) fn write_record(case: &[u8; 1024], out: &mut [u8]) -> bool {
     let radii = frame::floats(case, frame::VECTOR);
     let pairs = frame::count(case, frame::VECTOR);
     let indices = frame::indices(case, frame::INDICES);
     let codes = frame::count(case, frame::INDICES);
     let signs = frame::signs(case, frame::SKETCH);
     let rows = frame::count(case, frame::SKETCH);
-    let room = frame::room(case);
-    let mut out = frame::blank_bytes();
     let given = writing::write_record(
         frame::profile(case),
         frame::first_number(case) as usize,
@@ -236,40 +230,35 @@ pub(crate) fn write_record(case: &[u8; 1024]) -> bool {
         &radii[0..pairs],
         &indices[0..codes],
         &signs[0..rows],
-        &mut out[0..room],
+        out,
     );
-    same::outcome(case, given) && same::bytes(case, frame::BYTES, &out)
+    same::outcome(case, given)
 }
 
-// A record is read: its header, and the values of its three parts.
+// The header of a record.
 pub(crate) fn read_record(case: &[u8; 1024]) -> bool {
     let record = frame::bytes(case, frame::BYTES);
     let length = frame::count(case, frame::BYTES);
     header(case, packed::read_record(&record[0..length]))
-        && radii(case, &record[0..length])
-        && indices(case, &record[0..length])
-        && signs(case, &record[0..length])
 }
 
-fn radii(case: &[u8; 1024], record: &[u8]) -> bool {
-    let room = frame::room(case);
-    let mut out = frame::blank_floats();
-    let given = parts::read_radii(record, &mut out[0..room]);
-    same::outcome(case, given) && same::floats(case, frame::FLOATS, &out)
+// The values of its three parts.
+pub(crate) fn read_radii(case: &[u8; 1024], out: &mut [f32]) -> bool {
+    let record = frame::bytes(case, frame::BYTES);
+    let length = frame::count(case, frame::BYTES);
+    same::outcome(case, parts::read_radii(&record[0..length], out))
 }
 
-fn indices(case: &[u8; 1024], record: &[u8]) -> bool {
-    let room = frame::room(case);
-    let mut out = frame::blank_indices();
-    let given = parts::read_indices(record, &mut out[0..room]);
-    same::outcome(case, given) && same::indices(case, frame::INDICES, &out)
+pub(crate) fn read_indices(case: &[u8; 1024], out: &mut [u16]) -> bool {
+    let record = frame::bytes(case, frame::BYTES);
+    let length = frame::count(case, frame::BYTES);
+    same::outcome(case, parts::read_indices(&record[0..length], out))
 }
 
-fn signs(case: &[u8; 1024], record: &[u8]) -> bool {
-    let room = frame::second_room(case);
-    let mut out = frame::blank_signs();
-    let given = parts::read_signs(record, &mut out[0..room]);
-    same::outcome(case, given) && same::signs(case, frame::SKETCH, &out)
+pub(crate) fn read_signs(case: &[u8; 1024], out: &mut [i8]) -> bool {
+    let record = frame::bytes(case, frame::BYTES);
+    let length = frame::count(case, frame::BYTES);
+    same::outcome(case, parts::read_signs(&record[0..length], out))
 }
 
 // Whether the list accepts the record too, or says this refusal.
