@@ -1,5 +1,5 @@
 -- The answers of the calls, case by case, from what their checks find; and what a record has that is opened. Assumes nothing.
-use Prim.Native.Nat.{ℕ, _/_, _≤_, _<_}
+use Prim.Native.Nat.{ℕ, _≤_, _<_}
 use mathlib.Core.Path.{_≡_, refl, sym, ap, _∙_}
 use mathlib.Core.Bool.{Bool, true, false, cond}
 use mathlib.Core.List.{List, [], _∷_, _++_}
@@ -80,20 +80,16 @@ module _ (s : Setup) (bytes : List ℕ) {h : Header} (opened : openOf s bytes �
   unfolding readOf openOf
   opened-read = first-passed (recordChecks bytes) (value (headerOf bytes)) (append-left (recordChecks bytes) (matchChecks s bytes) (value (headerOf bytes)) opened)
 
-  pub opened-accepted : Accepted bytes
-  opened-accepted = read-accepts bytes opened-read
-
   pub opened-header : h ≡ headerOf bytes
   unfolding openOf
   opened-header = sym (first-value (openChecks s bytes) (headerOf bytes) opened)
 
-  pub opened-pairs : h .dim / 2 ≡ pairsOf bytes
-  unfolding headerOf
-  opened-pairs = ap (λ (k : Header). k .dim / 2) opened-header
+  -- with the header that was answered
+  pub opened-as-read : readOf bytes ≡ value h
+  opened-as-read = opened-read ∙ ap value (sym opened-header)
 
-  pub opened-marks : h .projections ≡ projectionsOf bytes
-  unfolding headerOf
-  opened-marks = ap (λ (k : Header). k .projections) opened-header
+  pub opened-accepted : Accepted bytes
+  opened-accepted = read-accepts bytes opened-read
 
   -- it is the setup's
   pub opened-dim : dimOf bytes ≡ s .dim
@@ -111,7 +107,7 @@ most-either : (t : Bool) (m : ℕ) → (t ≡ true → (0 < cond t m 0) × (cond
 most-either true m h = h refl .1
 most-either false m h = omega arith
 
-module _ (bytes : List ℕ) (read : readOf bytes ≡ value (headerOf bytes)) where
+module _ (bytes : List ℕ) {header : Header} (read : readOf bytes ≡ value header) where
   filled : {A : Type 0} (needed : ℕ) (x : A) → first (recordChecks bytes ++ (wrongRoom needed needed ∷ [])) (value x) ≡ value x
   unfolding readOf
   filled needed x = append-passed (recordChecks bytes) (wrongRoom needed needed ∷ []) (headerOf bytes) (value x) read ∙ simp (eq-eqb needed needed refl)

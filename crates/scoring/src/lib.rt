@@ -5,18 +5,19 @@
 use error::DIMENSION_MISMATCH;
 use error::NON_FINITE_SCORE;
 use error::PROFILE_MISMATCH;
+use packed::Header;
 use packed::Reading;
 use qjl::Scored;
 use setup::Setup;
 use setup::TurboMode;
 ghost use mathlib.Core.Path.{_≡_};
 ghost use mathlib.Core.List.{[], _∷_};
-ghost use Rattle.error.specs.Answer.{value, first};
+ghost use lib.ListN.{length};
+ghost use Rattle.error.specs.Answer.{value, first, after};
 ghost use Rattle.polar.specs.Polar.{polarSum};
 ghost use Rattle.qjl.specs.Score.{saysScore, badScore, unitResidual};
 ghost use Rattle.packed.specs.Fields.{projectionsOf};
-ghost use Rattle.packed.specs.Layout.{pairsOf, headerOf};
-ghost use Rattle.packed.specs.Reading.{saysReading, readOf, radiiOf, indicesOf, signsOf};
+ghost use Rattle.packed.specs.Reading.{saysReading, readOf, radiiOf, indicesOf, signsOf, radiiReadOf, indicesReadOf, signsReadOf};
 ghost use Rattle.scoring.specs.Opening.{openOf};
 ghost use Rattle.scoring.specs.Scoring.{recordScoreOf};
 
@@ -63,12 +64,12 @@ pub fn record_score(
 {
     match open_record(setup, bytes) {
         Reading::Read(header) => {
-            let polar = polar_part(directions, rotated, bytes, header.dim / 2);
+            let polar = polar_part(directions, rotated, bytes, header);
             let mode = setup.mode;
             match mode {
                 TurboMode::PolarOnly => finite_score(polar),
                 TurboMode::PolarWithQjl => finite_score(
-                    polar + residual_part(projected, bytes, header.projections),
+                    polar + residual_part(projected, bytes, header),
                 ),
             }
         }
@@ -76,26 +77,60 @@ pub fn record_score(
     }
 }
 
-// The polar sum of a record that is read.
-fn polar_part(directions: &[f32], rotated: &[f32], bytes: &[u8], pairs: usize) -> f32
-    requires { ⌜ (readOf (now bytes) ≡ value (headerOf (now bytes))) × (pairs ≡ pairsOf (now bytes)) ⌝ }
+// The polar sum of a record, by the header that was read from it.
+fn polar_part(directions: &[f32], rotated: &[f32], bytes: &[u8], header: Header) -> f32
+    requires { ⌜ readOf (now bytes) ≡ value header ⌝ }
     ensures { λ r. ⌜ r ≡ polarSum (now (rotated .entry)) (now (directions .entry)) (indicesOf (now (bytes .entry))) (radiiOf (now (bytes .entry))) ⌝ }
 {
+    let pairs = header.dim / 2;
     let mut radii = no_radii();
     let mut indices = no_indices();
-    parts::read_radii(bytes, &mut radii[0..pairs]);
-    parts::read_indices(bytes, &mut indices[0..pairs]);
+    radii_into(bytes, header, &mut radii[0..pairs]);
+    indices_into(bytes, header, &mut indices[0..pairs]);
     polar::polar_sum(rotated, directions, &indices[0..pairs], &radii[0..pairs])
 }
 
-// The residual of a record that is read, with the source norm 1.0.
-fn residual_part(projected: &[f32], bytes: &[u8], projections: usize) -> f32
-    requires { ⌜ (readOf (now bytes) ≡ value (headerOf (now bytes))) × (projections ≡ projectionsOf (now bytes)) ⌝ }
+// The residual of a record, by the header that was read from it, with the source norm 1.0.
+fn residual_part(projected: &[f32], bytes: &[u8], header: Header) -> f32
+    requires { ⌜ readOf (now bytes) ≡ value header ⌝ }
     ensures { λ r. ⌜ r ≡ unitResidual (projectionsOf (now (bytes .entry))) (now (projected .entry)) (signsOf (now (bytes .entry))) ⌝ }
 {
+    let projections = header.projections;
     let mut signs = no_signs();
-    parts::read_signs(bytes, &mut signs[0..projections]);
+    signs_into(bytes, header, &mut signs[0..projections]);
     qjl::residual(projections as u16, 1.0, projected, &signs[0..projections])
+}
+
+// The radii of a record, by the header that was read from it.
+fn radii_into(bytes: &[u8], header: Header, out: &mut [f32])
+    requires { ⌜ readOf (now bytes) ≡ value header ⌝ }
+    ensures { λ _. ⌜ now (out .exit) ≡ after (radiiReadOf (now (bytes .entry)) (length (now (out .entry)))) (now (out .entry)) ⌝ }
+{
+    let from = header.radii;
+    let to = header.indices;
+    let profile = header.profile;
+    let range = header.range;
+    radius::decompress(profile, header.dim / 2, range, &bytes[from..to], out);
+}
+
+// Its indices.
+fn indices_into(bytes: &[u8], header: Header, out: &mut [u16])
+    requires { ⌜ readOf (now bytes) ≡ value header ⌝ }
+    ensures { λ _. ⌜ now (out .exit) ≡ after (indicesReadOf (now (bytes .entry)) (length (now (out .entry)))) (now (out .entry)) ⌝ }
+{
+    let from = header.indices;
+    let to = header.signs;
+    bitpack::unpack_indices(&bytes[from..to], header.dim / 2, header.bits, out);
+}
+
+// Its signs.
+fn signs_into(bytes: &[u8], header: Header, out: &mut [i8])
+    requires { ⌜ readOf (now bytes) ≡ value header ⌝ }
+    ensures { λ _. ⌜ now (out .exit) ≡ after (signsReadOf (now (bytes .entry)) (length (now (out .entry)))) (now (out .entry)) ⌝ }
+{
+    let from = header.signs;
+    let to = header.end;
+    signs::unpack_signs(&bytes[from..to], header.projections, out);
 }
 
 // A score, or 12 where it is not finite.

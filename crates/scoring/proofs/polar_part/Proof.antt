@@ -1,5 +1,5 @@
 -- `scoring::polar_part` meets its contract: the parts of the two arrays that were filled are the parts that the sum reads. Assumes nothing.
-use Prim.Native.Nat.{ℕ, _-_}
+use Prim.Native.Nat.{ℕ, _-_, _/_}
 use mathlib.Core.Path.{ap, _∙_}
 use mathlib.Core.List.{List, _++_}
 use native.Mathlib.Omega.{arith}
@@ -9,6 +9,8 @@ use lib.ListN.{take}
 use lib.Ieee.{Float}
 use Rattle.polar.specs.Polar.{polarSum}
 use Rattle.packed.specs.Reading.{radiiOf, indicesOf, radiiReadOf, indicesReadOf}
+use Rattle.packed.proofs.Accepted.{read-header}
+use Rattle.packed.proofs.Parts.{header-pairs}
 use Rattle.scoring.proofs.Parts.{part-enough, part-filled}
 use Rattle.scoring.proofs.Answers.{radii-filled, indices-filled, pairs-most}
 use borrow.Author.Needs.{needs}
@@ -16,11 +18,11 @@ use Rattle.scoring.proofs.polar_part.Statement.{statement}
 use Rattle.scoring.proofs.polar_part.Tie as tie
 use Rattle.scoring.proofs.polar_part.Reads as reads
 use Rattle.scoring.proofs.polar_part.Lts as lts
-use Rattle.parts.proofs.read_indices.Reads as read-indices-reads
-use Rattle.parts.proofs.read_radii.Reads as read-radii-reads
 use Rattle.polar.proofs.polar_sum.Reads as polar-sum-reads
+use Rattle.scoring.proofs.indices_into.Reads as indices-into-reads
 use Rattle.scoring.proofs.no_indices.Reads as no-indices-reads
 use Rattle.scoring.proofs.no_radii.Reads as no-radii-reads
+use Rattle.scoring.proofs.radii_into.Reads as radii-into-reads
 
 no-radii-requires : tie.Need-no-radii-requires
 no-radii-requires c κs = search needs
@@ -28,29 +30,29 @@ no-radii-requires c κs = search needs
 no-indices-requires : tie.Need-no-indices-requires
 no-indices-requires c κs = search needs
 
-sub-read-radii : tie.Need-sub-read-radii
-sub-read-radii c = search needs
+sub-radii-into : tie.Need-sub-radii-into
+sub-radii-into c = search needs
 
 part-radii-start : tie.Need-part-radii-start
 part-radii-start c = search needs
 
 part-radii-end : tie.Need-part-radii-end
-part-radii-end c = let s = c .before .before .before .before .before in let most = pairs-most (now (s .args .bytes)) (s .pre .0) in omega (arith, most, s .pre .1, c .before .no-radii .ok)
+part-radii-end c = let s = c .before .before .before .before .before .before in let bytes = now (s .args .bytes) in let most = pairs-most bytes (s .pre) in let is = header-pairs bytes (read-header bytes (s .pre)) in omega (arith, most, is, c .before .no-radii .ok)
 
-read-radii-requires : tie.Need-read-radii-requires
-read-radii-requires c κs = search needs
+radii-into-requires : tie.Need-radii-into-requires
+radii-into-requires c κs = search needs
 
-sub-read-indices : tie.Need-sub-read-indices
-sub-read-indices c = search needs
+sub-indices-into : tie.Need-sub-indices-into
+sub-indices-into c = search needs
 
 part-indices-start : tie.Need-part-indices-start
 part-indices-start c = search needs
 
 part-indices-end : tie.Need-part-indices-end
-part-indices-end c = let s = c .before .before .before .before .before .before .before .before in let most = pairs-most (now (s .args .bytes)) (s .pre .0) in omega (arith, most, s .pre .1, c .before .before .before .no-indices .ok)
+part-indices-end c = let s = c .before .before .before .before .before .before .before .before .before in let bytes = now (s .args .bytes) in let most = pairs-most bytes (s .pre) in let is = header-pairs bytes (read-header bytes (s .pre)) in omega (arith, most, is, c .before .before .before .no-indices .ok)
 
-read-indices-requires : tie.Need-read-indices-requires
-read-indices-requires c κs = search needs
+indices-into-requires : tie.Need-indices-into-requires
+indices-into-requires c κs = search needs
 
 sub-polar-sum : tie.Need-sub-polar-sum
 sub-polar-sum c = search needs
@@ -59,9 +61,8 @@ part-polar-sum-start : tie.Need-part-polar-sum-start
 part-polar-sum-start c = search needs
 
 part-polar-sum-end : tie.Need-part-polar-sum-end
-part-polar-sum-end c = let s = c .before .before .before .before .before .before .before .before .before .before .before .before in
-    let most = pairs-most (now (s .args .bytes)) (s .pre .0) in
-    part-enough (s .args .pairs) (c .before .before .before .before .before .before .before .no-indices .result) (omega (arith, most, s .pre .1, c .before .before .before .before .before .before .before .no-indices .ok)) (c .before .before .read-indices .last .1 .0) (postOf 0 (s .args .pairs - 0) (c .before .before .before .before .before .before .before .no-indices .result)) (c .before .before .read-indices .kept .1 .0)
+part-polar-sum-end c = let s = c .before .before .before .before .before .before .before .before .before .before .before .before .before in let bytes = now (s .args .bytes) in let most = pairs-most bytes (s .pre) in let is = header-pairs bytes (read-header bytes (s .pre)) in
+    part-enough (s .args .header .dim / 2) (c .before .before .before .before .before .before .before .no-indices .result) (omega (arith, most, is, c .before .before .before .before .before .before .before .no-indices .ok)) (c .before .before .indices-into .last .1 .1 .0) (postOf 0 (s .args .header .dim / 2 - 0) (c .before .before .before .before .before .before .before .no-indices .result)) (c .before .before .indices-into .kept .1 .1 .0)
 
 sub-polar-sum-2 : tie.Need-sub-polar-sum-2
 sub-polar-sum-2 c = search needs
@@ -70,23 +71,20 @@ part-polar-sum-start-2 : tie.Need-part-polar-sum-start-2
 part-polar-sum-start-2 c = search needs
 
 part-polar-sum-end-2 : tie.Need-part-polar-sum-end-2
-part-polar-sum-end-2 c = let s = c .before .before .before .before .before .before .before .before .before .before .before .before .before .before in
-    let most = pairs-most (now (s .args .bytes)) (s .pre .0) in
-    part-enough (s .args .pairs) (c .before .before .before .before .before .before .before .before .before .before .no-radii .result) (omega (arith, most, s .pre .1, c .before .before .before .before .before .before .before .before .before .before .no-radii .ok)) (c .before .before .before .before .before .before .before .read-radii .last .1 .0) (postOf 0 (s .args .pairs - 0) (c .before .before .before .before .before .before .before .before .before .before .no-radii .result)) (c .before .before .before .before .before .before .before .read-radii .kept .1 .0)
+part-polar-sum-end-2 c = let s = c .before .before .before .before .before .before .before .before .before .before .before .before .before .before .before in let bytes = now (s .args .bytes) in let most = pairs-most bytes (s .pre) in let is = header-pairs bytes (read-header bytes (s .pre)) in
+    part-enough (s .args .header .dim / 2) (c .before .before .before .before .before .before .before .before .before .before .no-radii .result) (omega (arith, most, is, c .before .before .before .before .before .before .before .before .before .before .no-radii .ok)) (c .before .before .before .before .before .before .before .radii-into .last .1 .1 .0) (postOf 0 (s .args .header .dim / 2 - 0) (c .before .before .before .before .before .before .before .before .before .before .no-radii .result)) (c .before .before .before .before .before .before .before .radii-into .kept .1 .1 .0)
 
 polar-sum-requires : tie.Need-polar-sum-requires
 polar-sum-requires c κs = search needs
 
 returns : tie.Need-returns
-returns c = let s = c .before .before .before .before .before .before .before .before .before .before .before .before .before .before .before .before in
-    let bytes = now (s .args .bytes) in
-    let most = pairs-most bytes (s .pre .0) in
-    let is = part-filled (s .args .pairs) (c .before .before .before .before .before .before .before .before .before .before .before .no-indices .result) (omega (arith, most, s .pre .1, c .before .before .before .before .before .before .before .before .before .before .before .no-indices .ok)) (indicesReadOf bytes) (indicesOf bytes)
-    (ap (indicesReadOf bytes) (s .pre .1) ∙ indices-filled bytes (s .pre .0)) (c .before .before .before .before .before .before .read-indices .last .1 .0) (postOf 0 (s .args .pairs - 0) (c .before .before .before .before .before .before .before .before .before .before .before .no-indices .result)) (c .before .before .before .before .before .before .read-indices .kept .1 .0) (c .before .before .before .before .before .before .read-indices .ensures .1) in
-    let rs = part-filled (s .args .pairs) (c .before .before .before .before .before .before .before .before .before .before .before .before .no-radii .result) (omega (arith, most, s .pre .1, c .before .before .before .before .before .before .before .before .before .before .before .before .no-radii .ok)) (radiiReadOf bytes) (radiiOf bytes)
-    (ap (radiiReadOf bytes) (s .pre .1) ∙ radii-filled bytes (s .pre .0)) (c .before .before .before .before .before .before .before .before .before .read-radii .last .1 .0) (postOf 0 (s .args .pairs - 0) (c .before .before .before .before .before .before .before .before .before .before .before .before .no-radii .result)) (c .before .before .before .before .before .before .before .before .before .read-radii .kept .1 .0) (c .before .before .before .before .before .before .before .before .before .read-radii .ensures .1) in
+returns c = let s = c .before .before .before .before .before .before .before .before .before .before .before .before .before .before .before .before .before in let bytes = now (s .args .bytes) in let most = pairs-most bytes (s .pre) in let is = header-pairs bytes (read-header bytes (s .pre)) in
+    let ks = part-filled (s .args .header .dim / 2) (c .before .before .before .before .before .before .before .before .before .before .before .no-indices .result) (omega (arith, most, is, c .before .before .before .before .before .before .before .before .before .before .before .no-indices .ok)) (indicesReadOf bytes) (indicesOf bytes)
+    (ap (indicesReadOf bytes) is ∙ indices-filled bytes (s .pre)) (c .before .before .before .before .before .before .indices-into .last .1 .1 .0) (postOf 0 (s .args .header .dim / 2 - 0) (c .before .before .before .before .before .before .before .before .before .before .before .no-indices .result)) (c .before .before .before .before .before .before .indices-into .kept .1 .1 .0) (c .before .before .before .before .before .before .indices-into .ensures) in
+    let rs = part-filled (s .args .header .dim / 2) (c .before .before .before .before .before .before .before .before .before .before .before .before .no-radii .result) (omega (arith, most, is, c .before .before .before .before .before .before .before .before .before .before .before .before .no-radii .ok)) (radiiReadOf bytes) (radiiOf bytes)
+    (ap (radiiReadOf bytes) is ∙ radii-filled bytes (s .pre)) (c .before .before .before .before .before .before .before .before .before .radii-into .last .1 .1 .0) (postOf 0 (s .args .header .dim / 2 - 0) (c .before .before .before .before .before .before .before .before .before .before .before .before .no-radii .result)) (c .before .before .before .before .before .before .before .before .before .radii-into .kept .1 .1 .0) (c .before .before .before .before .before .before .before .before .before .radii-into .ensures) in
     c .polar-sum .ensures
-    ∙ ap (λ (l : List ℕ). polarSum (now (s .args .rotated)) (now (s .args .directions)) l (take (s .args .pairs - 0) (c .before .before .before .before .before .before .before .before .before .read-radii .last .1 .0 ++ postOf 0 (s .args .pairs - 0) (c .before .before .before .before .before .before .before .before .before .before .before .before .no-radii .result)))) is
+    ∙ ap (λ (l : List ℕ). polarSum (now (s .args .rotated)) (now (s .args .directions)) l (take (s .args .header .dim / 2 - 0) (c .before .before .before .before .before .before .before .before .before .radii-into .last .1 .1 .0 ++ postOf 0 (s .args .header .dim / 2 - 0) (c .before .before .before .before .before .before .before .before .before .before .before .before .no-radii .result)))) ks
     ∙ ap (λ (l : List Float). polarSum (now (s .args .rotated)) (now (s .args .directions)) (indicesOf bytes) l) rs
 
 pub polar-part-spec : {M : Type 1} → statement M
@@ -95,14 +93,14 @@ polar-part-spec =
     (tie.spec
     no-radii-requires
     no-indices-requires
-    sub-read-radii
+    sub-radii-into
     part-radii-start
     part-radii-end
-    read-radii-requires
-    sub-read-indices
+    radii-into-requires
+    sub-indices-into
     part-indices-start
     part-indices-end
-    read-indices-requires
+    indices-into-requires
     sub-polar-sum
     part-polar-sum-start
     part-polar-sum-end

@@ -2,7 +2,7 @@
 use mathlib.Core.Path.{sym, ap, _∙_}
 use denote.Ref.{now}
 use Rattle.packed.specs.Reading.{saysReading}
-use Rattle.scoring.proofs.Answers.{opened-read, opened-pairs, opened-marks, score-refused, score-alone, score-both}
+use Rattle.scoring.proofs.Answers.{opened-as-read, score-refused, score-alone, score-both}
 use borrow.Author.Needs.{needs}
 use Rattle.scoring.proofs.record_score.Statement.{statement}
 use Rattle.scoring.proofs.record_score.Tie as tie
@@ -20,9 +20,9 @@ enum-known-header : tie.Need-enum-known-header
 enum-known-header c = search needs
 
 polar-part-requires : tie.Need-polar-part-requires
-polar-part-requires c κs = let a = c .before .before .before .before .before .before .before .before .before .args in
-    let o = sym (c .before .before .before .before .open-record .ensures) ∙ ap saysReading (c .before .before .header .given .1) in
-    (opened-read (a .setup) (now (a .bytes)) o, opened-pairs (a .setup) (now (a .bytes)) o)
+polar-part-requires c κs = let a = c .before .before .before .before .before .before .before .before .args in
+    let o = sym (c .before .before .before .open-record .ensures) ∙ ap saysReading (c .before .header .given .1) in
+    opened-as-read (a .setup) (now (a .bytes)) o
 
 enum-told : tie.Need-enum-told
 enum-told c = search needs
@@ -34,9 +34,9 @@ enum-told-2 : tie.Need-enum-told-2
 enum-told-2 c = search needs
 
 residual-part-requires : tie.Need-residual-part-requires
-residual-part-requires c κs = let a = c .before .before .before .before .before .before .before .before .before .before .before .before .args in
-    let o = sym (c .before .before .before .before .before .before .before .open-record .ensures) ∙ ap saysReading (c .before .before .before .before .before .header .given .1) in
-    (opened-read (a .setup) (now (a .bytes)) o, opened-marks (a .setup) (now (a .bytes)) o)
+residual-part-requires c κs = let a = c .before .before .before .before .before .before .before .before .before .before .before .args in
+    let o = sym (c .before .before .before .before .before .before .open-record .ensures) ∙ ap saysReading (c .before .before .before .before .header .given .1) in
+    opened-as-read (a .setup) (now (a .bytes)) o
 
 finite-score-requires-2 : tie.Need-finite-score-requires-2
 finite-score-requires-2 c κs = search needs
@@ -45,13 +45,13 @@ enum-known-number : tie.Need-enum-known-number
 enum-known-number c = search needs
 
 returns : tie.Need-returns
-returns c = let a = c .before .before .before .before .before .before .before .before .before .before .before .before .before .args in
-    let o = sym (c .before .before .before .before .before .before .before .before .open-record .ensures) ∙ ap saysReading (c .before .before .before .before .before .before .header .given .1) in
+returns c = let a = c .before .before .before .before .before .before .before .before .before .before .before .before .args in
+    let o = sym (c .before .before .before .before .before .before .before .open-record .ensures) ∙ ap saysReading (c .before .before .before .before .before .header .given .1) in
     c .finite-score .ensures ∙ sym (score-alone (a .setup) (now (a .directions)) (now (a .rotated)) (now (a .projected)) (now (a .bytes)) o (c .before .enum-told .given .1) _ (c .before .before .before .polar-part .ensures))
 
 returns-2 : tie.Need-returns-2
-returns-2 c = let a = c .before .before .before .before .before .before .before .before .before .before .before .before .before .before .args in
-    let o = sym (c .before .before .before .before .before .before .before .before .before .open-record .ensures) ∙ ap saysReading (c .before .before .before .before .before .before .before .header .given .1) in
+returns-2 c = let a = c .before .before .before .before .before .before .before .before .before .before .before .before .before .args in
+    let o = sym (c .before .before .before .before .before .before .before .before .open-record .ensures) ∙ ap saysReading (c .before .before .before .before .before .before .header .given .1) in
     c .finite-score2 .ensures ∙ sym (score-both (a .setup) (now (a .directions)) (now (a .rotated)) (now (a .projected)) (now (a .bytes)) o (c .before .before .enum-told2 .given .1) _ _ (c .before .before .before .before .polar-part .ensures) (c .before .residual-part .ensures))
 
 returns-3 : tie.Need-returns-3

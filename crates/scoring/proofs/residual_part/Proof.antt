@@ -9,6 +9,8 @@ use lib.IntN.{ℤ}
 use lib.Ieee.{ofBits}
 use Rattle.qjl.specs.Score.{unitResidual}
 use Rattle.packed.specs.Reading.{signsOf, signsReadOf}
+use Rattle.packed.proofs.Accepted.{read-header}
+use Rattle.packed.proofs.Parts.{header-projections}
 use Rattle.scoring.proofs.Parts.{part-enough, part-filled}
 use Rattle.scoring.proofs.Answers.{signs-filled, marks-most}
 use borrow.Author.Needs.{needs}
@@ -16,27 +18,27 @@ use Rattle.scoring.proofs.residual_part.Statement.{statement}
 use Rattle.scoring.proofs.residual_part.Tie as tie
 use Rattle.scoring.proofs.residual_part.Reads as reads
 use Rattle.scoring.proofs.residual_part.Lts as lts
-use Rattle.parts.proofs.read_signs.Reads as read-signs-reads
 use Rattle.qjl.proofs.residual.Reads as residual-reads
 use Rattle.scoring.proofs.no_signs.Reads as no-signs-reads
+use Rattle.scoring.proofs.signs_into.Reads as signs-into-reads
 
 no-signs-requires : tie.Need-no-signs-requires
 no-signs-requires c κs = search needs
 
-sub-read-signs : tie.Need-sub-read-signs
-sub-read-signs c = search needs
+sub-signs-into : tie.Need-sub-signs-into
+sub-signs-into c = search needs
 
 part-signs-start : tie.Need-part-signs-start
 part-signs-start c = search needs
 
 part-signs-end : tie.Need-part-signs-end
-part-signs-end c = let s = c .before .before .before in let most = marks-most (now (s .args .bytes)) (s .pre .0) in omega (arith, most, s .pre .1, c .no-signs .ok)
+part-signs-end c = let s = c .before .before .before in let bytes = now (s .args .bytes) in let most = marks-most bytes (s .pre) in let is = header-projections bytes (read-header bytes (s .pre)) in omega (arith, most, is, c .no-signs .ok)
 
-read-signs-requires : tie.Need-read-signs-requires
-read-signs-requires c κs = search needs
+signs-into-requires : tie.Need-signs-into-requires
+signs-into-requires c κs = search needs
 
 cast-residual : tie.Need-cast-residual
-cast-residual c = let s = c .before .before .before .before .before .before in let most = marks-most (now (s .args .bytes)) (s .pre .0) in omega (arith, most, s .pre .1)
+cast-residual c = let s = c .before .before .before .before .before .before in let bytes = now (s .args .bytes) in let most = marks-most bytes (s .pre) in let is = header-projections bytes (read-header bytes (s .pre)) in omega (arith, most, is)
 
 sub-residual : tie.Need-sub-residual
 sub-residual c = search needs
@@ -45,33 +47,30 @@ part-residual-start : tie.Need-part-residual-start
 part-residual-start c = search needs
 
 part-residual-end : tie.Need-part-residual-end
-part-residual-end c = let s = c .before .before .before .before .before .before .before in
-    let most = marks-most (now (s .args .bytes)) (s .pre .0) in
-    part-enough (s .args .projections) (c .before .before .before .before .no-signs .result) (omega (arith, most, s .pre .1, c .before .before .before .before .no-signs .ok)) (c .before .before .read-signs .last .1 .0) (postOf 0 (s .args .projections - 0) (c .before .before .before .before .no-signs .result)) (c .before .before .read-signs .kept .1 .0)
+part-residual-end c = let s = c .before .before .before .before .before .before .before in let bytes = now (s .args .bytes) in let most = marks-most bytes (s .pre) in let is = header-projections bytes (read-header bytes (s .pre)) in
+    part-enough (s .args .header .projections) (c .before .before .before .before .no-signs .result) (omega (arith, most, is, c .before .before .before .before .no-signs .ok)) (c .before .before .signs-into .last .1 .1 .0) (postOf 0 (s .args .header .projections - 0) (c .before .before .before .before .no-signs .result)) (c .before .before .signs-into .kept .1 .1 .0)
 
 residual-requires : tie.Need-residual-requires
 residual-requires c κs = search needs
 
 returns : tie.Need-returns
 unfolding ofBits
-returns c = let s = c .before .before .before .before .before .before .before .before .before in
-    let bytes = now (s .args .bytes) in
-    let most = marks-most bytes (s .pre .0) in
-    let ss = part-filled (s .args .projections) (c .before .before .before .before .before .before .no-signs .result) (omega (arith, most, s .pre .1, c .before .before .before .before .before .before .no-signs .ok)) (signsReadOf bytes) (signsOf bytes)
-    (ap (signsReadOf bytes) (s .pre .1) ∙ signs-filled bytes (s .pre .0)) (c .before .before .before .before .read-signs .last .1 .0) (postOf 0 (s .args .projections - 0) (c .before .before .before .before .before .before .no-signs .result)) (c .before .before .before .before .read-signs .kept .1 .0) (c .before .before .before .before .read-signs .ensures .1) in
+returns c = let s = c .before .before .before .before .before .before .before .before .before in let bytes = now (s .args .bytes) in let most = marks-most bytes (s .pre) in let is = header-projections bytes (read-header bytes (s .pre)) in
+    let ss = part-filled (s .args .header .projections) (c .before .before .before .before .before .before .no-signs .result) (omega (arith, most, is, c .before .before .before .before .before .before .no-signs .ok)) (signsReadOf bytes) (signsOf bytes)
+    (ap (signsReadOf bytes) is ∙ signs-filled bytes (s .pre)) (c .before .before .before .before .signs-into .last .1 .1 .0) (postOf 0 (s .args .header .projections - 0) (c .before .before .before .before .before .before .no-signs .result)) (c .before .before .before .before .signs-into .kept .1 .1 .0) (c .before .before .before .before .signs-into .ensures) in
     c .residual .ensures
-    ∙ ap (λ (l : List ℤ). unitResidual (s .args .projections) (now (s .args .projected)) l) ss
-    ∙ ap (λ (k : ℕ). unitResidual k (now (s .args .projected)) (signsOf bytes)) (s .pre .1)
+    ∙ ap (λ (l : List ℤ). unitResidual (s .args .header .projections) (now (s .args .projected)) l) ss
+    ∙ ap (λ (k : ℕ). unitResidual k (now (s .args .projected)) (signsOf bytes)) is
 
 pub residual-part-spec : {M : Type 1} → statement M
 residual-part-spec =
     tie.close
     (tie.spec
     no-signs-requires
-    sub-read-signs
+    sub-signs-into
     part-signs-start
     part-signs-end
-    read-signs-requires
+    signs-into-requires
     cast-residual
     sub-residual
     part-residual-start
