@@ -1,7 +1,7 @@
 /*
  * The C functions of the proved port of turbo-quant, one for each public call.
  *
- * Nothing checks this header against crates/capi; a signature here must be that of the function of the same name there.
+ * A signature here is that of the function of the same name in crates/capi; a test of host/foldrima holds the two against each other.
  *
  * Slices. A slice is a pointer and a length in elements. Lend a valid, aligned pointer also where the length is 0. Memory that a call writes (a pointer
  * that is not const) must overlap nothing else that the call is lent.
