@@ -15,7 +15,7 @@ use borrow.Author.Tests.{le-leb, lt-leb, eq-eqb, ne-eqb, ltb-true, ltb-false, eq
 use Rattle.digits.specs.Digits.{number}
 use Rattle.digits.proofs.Laws.{Below, below-head, below-tail, number-lt}
 use Rattle.error.specs.Checks.{differs}
-use Rattle.bitpack.specs.Padding.{bytesFor, padded}
+use Rattle.bitpack.specs.Padding.{bytesFor, badPadding}
 use Rattle.bitpack.proofs.Digits.{number-drop, number-end, number-run}
 
 -- digit i of a number
@@ -94,8 +94,8 @@ module _ (packed : List ℕ) (n : ℕ) (sized : length packed ≡ suc n) (below 
         rw (le-leb (2 ^ (8 * n + r)) (number 256 packed) (last-over h), ne-eqb (getD packed n 0 / 2 ^ r) 0 (λ z. omega (arith, some, z))) refl
 
 -- the padding is not zero exactly where the bytes' number reaches past the bits that are used
-pub padded-number : (packed : List ℕ) (used : ℕ) → length packed ≡ bytesFor used → Below 256 packed → padded packed used ≡ leb (2 ^ used) (number 256 packed)
-unfolding padded
+pub padded-number : (packed : List ℕ) (used : ℕ) → length packed ≡ bytesFor used → Below 256 packed → badPadding packed used ≡ leb (2 ^ used) (number 256 packed)
+unfolding badPadding
 padded-number packed used sized below = by (eqb (used % 8) 0) refl
   where
     by : (t : Bool) → eqb (used % 8) 0 ≡ t → (differs (used % 8) 0 && differs (getD packed (length packed - 1) 0 / 2 ^ (used % 8)) 0) ≡ leb (2 ^ used) (number 256 packed)

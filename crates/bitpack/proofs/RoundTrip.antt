@@ -14,10 +14,10 @@ use borrow.Author.Tests.{lt-leb, leb-false, ltb-false, eqb-true, eqb-false}
 use Rattle.error.specs.Answer.{value, check, place, each}
 use Rattle.digits.specs.Digits.{number, digits}
 use Rattle.digits.proofs.Laws.{Below, below-head, below-tail, length-digits, digits-below, number-lt, number-digits, repack}
-use Rattle.error.specs.Checks.{differs, wrongBits, wrongRoom}
-use Rattle.bitpack.specs.Padding.{bytesFor, padded, wrongLength, wrongPadding}
-use Rattle.bitpack.specs.Packing.{packOf, unpackOf, tooLarge, overflow}
-use Rattle.bitpack.specs.Signs.{isPlus, notSign, bitOf, signOf, packSignsOf, unpackSignsOf}
+use Rattle.error.specs.Checks.{wrongBits, wrongRoom}
+use Rattle.bitpack.specs.Padding.{bytesFor, badPadding, wrongLength, wrongPadding}
+use Rattle.bitpack.specs.Packing.{packIndicesOf, unpackIndicesOf, badIndex, wrongOverflow}
+use Rattle.bitpack.specs.Signs.{isPlus, badSketchSign, bitOfSign, signOfBit, packSignsOf, unpackSignsOf}
 use Rattle.error.proofs.Chains.{Passed, first-passes, first-value, first-accepts, or-false}
 use Rattle.error.proofs.Places.{each-clear, each-none}
 use Rattle.bitpack.proofs.Differs.{differs-not, differs-same}
@@ -40,7 +40,7 @@ module _ (bits used : ℕ) (ds : List ℕ) (total : length ds * bits ≡ used) (
   bytes-length : length (digits 256 (bytesFor used) (number (2 ^ bits) ds)) ≡ bytesFor used
   bytes-length = length-digits 256 (bytesFor used) (number (2 ^ bits) ds)
 
-  bytes-clean : padded (digits 256 (bytesFor used) (number (2 ^ bits) ds)) used ≡ false
+  bytes-clean : badPadding (digits 256 (bytesFor used) (number (2 ^ bits) ds)) used ≡ false
   bytes-clean =
       padded-number (digits 256 (bytesFor used) (number (2 ^ bits) ds)) used bytes-length (digits-below 256 (bytesFor used) (number (2 ^ bits) ds) (omega arith))
       ∙ rw bytes-number (lt-leb (2 ^ used) (number (2 ^ bits) ds) used-bound)
@@ -49,7 +49,7 @@ module _ (bits used : ℕ) (ds : List ℕ) (total : length ds * bits ≡ used) (
   bytes-back = repack (2 ^ bits) 256 (bytesFor used) ds below (omega arith) bytes-bound
 
 -- bytes without padding, as digits of `bits` bits each, and back
-module _ (bits count used : ℕ) (packed : List ℕ) (total : count * bits ≡ used) (below : Below 256 packed) (sized : length packed ≡ bytesFor used) (clean : padded packed used ≡ false) where
+module _ (bits count used : ℕ) (packed : List ℕ) (total : count * bits ≡ used) (below : Below 256 packed) (sized : length packed ≡ bytesFor used) (clean : badPadding packed used ≡ false) where
   clean-bound : number 256 packed < (2 ^ bits) ^ count
   clean-bound =
       let bound = leb-false (2 ^ used) (number 256 packed) (sym (padded-number packed used sized below) ∙ clean) in
@@ -60,33 +60,33 @@ module _ (bits count used : ℕ) (packed : List ℕ) (total : count * bits ≡ u
 
 -- ---- indices
 
-module _ (indices : List ℕ) (bits room : ℕ) {packed : List ℕ} (told : packOf indices bits room ≡ value packed) where
-  pack-passed : Passed (wrongBits bits ∷ overflow (length indices) bits ∷ each (tooLarge bits) 15 indices ∷ wrongRoom room (bytesFor (length indices * bits)) ∷ [])
-  unfolding packOf
-  pack-passed = first-passes (wrongBits bits ∷ overflow (length indices) bits ∷ each (tooLarge bits) 15 indices ∷ wrongRoom room (bytesFor (length indices * bits)) ∷ []) _ told
+module _ (indices : List ℕ) (bits room : ℕ) {packed : List ℕ} (told : packIndicesOf indices bits room ≡ value packed) where
+  pack-passed : Passed (wrongBits bits ∷ wrongOverflow (length indices) bits ∷ each (badIndex bits) 15 indices ∷ wrongRoom room (bytesFor (length indices * bits)) ∷ [])
+  unfolding packIndicesOf
+  pack-passed = first-passes (wrongBits bits ∷ wrongOverflow (length indices) bits ∷ each (badIndex bits) 15 indices ∷ wrongRoom room (bytesFor (length indices * bits)) ∷ []) _ told
 
   -- the bytes are the number's digits
   pub pack-bytes : digits 256 (bytesFor (length indices * bits)) (number (2 ^ bits) indices) ≡ packed
-  unfolding packOf
-  pack-bytes = first-value (wrongBits bits ∷ overflow (length indices) bits ∷ each (tooLarge bits) 15 indices ∷ wrongRoom room (bytesFor (length indices * bits)) ∷ []) _ told
+  unfolding packIndicesOf
+  pack-bytes = first-value (wrongBits bits ∷ wrongOverflow (length indices) bits ∷ each (badIndex bits) 15 indices ∷ wrongRoom room (bytesFor (length indices * bits)) ∷ []) _ told
 
   -- every index that was packed fits
   pub pack-below : Below (2 ^ bits) indices
-  pack-below = record { at = λ i h. leb-false (2 ^ bits) (getD indices i 0) (each-clear (tooLarge bits) indices 0 (pack-passed .1 .1 .0) i h) }
+  pack-below = record { at = λ i h. leb-false (2 ^ bits) (getD indices i 0) (each-clear (badIndex bits) indices 0 (pack-passed .1 .1 .0) i h) }
 
   -- as many bytes as the indices need
   pub pack-length : length packed ≡ bytesFor (length indices * bits)
   pack-length = ap length (sym pack-bytes) ∙ length-digits 256 (bytesFor (length indices * bits)) (number (2 ^ bits) indices)
 
   -- unpacking what packing wrote gives the indices back
-  pub unpack-pack : unpackOf packed (length indices) bits (length indices) ≡ value indices
-  unfolding unpackOf
+  pub unpack-pack : unpackIndicesOf packed (length indices) bits (length indices) ≡ value indices
+  unfolding unpackIndicesOf
   unpack-pack =
       let used : ℕ = length indices * bits in
       rw (← pack-bytes)
       (first-accepts
       (wrongBits bits
-      ∷ overflow (length indices) bits
+      ∷ wrongOverflow (length indices) bits
       ∷ wrongLength (digits 256 (bytesFor used) (number (2 ^ bits) indices)) used
       ∷ wrongPadding (digits 256 (bytesFor used) (number (2 ^ bits) indices)) used
       ∷ wrongRoom (length indices) (length indices)
@@ -105,15 +105,15 @@ module _ (indices : List ℕ) (bits room : ℕ) {packed : List ℕ} (told : pack
       ∙ ap (λ (n : ℕ). n / 2 ^ k % 2) (bytes-number bits used indices refl pack-below)
       ∙ number-bit bits indices k wide pack-below)
 
-module _ (packed : List ℕ) (count bits room : ℕ) {indices : List ℕ} (told : unpackOf packed count bits room ≡ value indices) where
-  unpack-passed : Passed (wrongBits bits ∷ overflow count bits ∷ wrongLength packed (count * bits) ∷ wrongPadding packed (count * bits) ∷ wrongRoom room count ∷ [])
-  unfolding unpackOf
-  unpack-passed = first-passes (wrongBits bits ∷ overflow count bits ∷ wrongLength packed (count * bits) ∷ wrongPadding packed (count * bits) ∷ wrongRoom room count ∷ []) _ told
+module _ (packed : List ℕ) (count bits room : ℕ) {indices : List ℕ} (told : unpackIndicesOf packed count bits room ≡ value indices) where
+  unpack-passed : Passed (wrongBits bits ∷ wrongOverflow count bits ∷ wrongLength packed (count * bits) ∷ wrongPadding packed (count * bits) ∷ wrongRoom room count ∷ [])
+  unfolding unpackIndicesOf
+  unpack-passed = first-passes (wrongBits bits ∷ wrongOverflow count bits ∷ wrongLength packed (count * bits) ∷ wrongPadding packed (count * bits) ∷ wrongRoom room count ∷ []) _ told
 
   -- the indices are the number's digits
   pub unpack-indices : digits (2 ^ bits) count (number 256 packed) ≡ indices
-  unfolding unpackOf
-  unpack-indices = first-value (wrongBits bits ∷ overflow count bits ∷ wrongLength packed (count * bits) ∷ wrongPadding packed (count * bits) ∷ wrongRoom room count ∷ []) _ told
+  unfolding unpackIndicesOf
+  unpack-indices = first-value (wrongBits bits ∷ wrongOverflow count bits ∷ wrongLength packed (count * bits) ∷ wrongPadding packed (count * bits) ∷ wrongRoom room count ∷ []) _ told
 
   -- as many indices as were asked for, each of which fits
   pub unpack-length : length indices ≡ count
@@ -123,8 +123,8 @@ module _ (packed : List ℕ) (count bits room : ℕ) {indices : List ℕ} (told 
   unpack-below = rw (← unpack-indices) (digits-below (2 ^ bits) count (number 256 packed) (pow-pos bits))
 
   -- packing what unpacking gave gives the same bytes
-  pub pack-unpack : Below 256 packed → packOf indices bits (length packed) ≡ value packed
-  unfolding packOf
+  pub pack-unpack : Below 256 packed → packIndicesOf indices bits (length packed) ≡ value packed
+  unfolding packIndicesOf
   pack-unpack below =
       let ds : List ℕ = digits (2 ^ bits) count (number 256 packed) in
       let many : length ds ≡ count = length-digits (2 ^ bits) count (number 256 packed) in
@@ -132,12 +132,12 @@ module _ (packed : List ℕ) (count bits room : ℕ) {indices : List ℕ} (told 
       rw (← unpack-indices, many)
       (first-accepts
       (wrongBits bits
-      ∷ overflow count bits
-      ∷ check (ltb (place (tooLarge bits) ds) count) 15 (place (tooLarge bits) ds)
+      ∷ wrongOverflow count bits
+      ∷ check (ltb (place (badIndex bits) ds) count) 15 (place (badIndex bits) ds)
       ∷ wrongRoom (length packed) (bytesFor (count * bits))
       ∷ [])
       (value (digits 256 (bytesFor (count * bits)) (number (2 ^ bits) ds)))
-      (unpack-passed .0, (unpack-passed .1 .0, (rw many at (each-none (tooLarge bits) ds 0 (λ i h. lt-leb (2 ^ bits) (getD ds i 0) (digits-below (2 ^ bits) count (number 256 packed) (pow-pos bits) .at i h))), (differs-not _ _ sized, tt))))
+      (unpack-passed .0, (unpack-passed .1 .0, (rw many at (each-none (badIndex bits) ds 0 (λ i h. lt-leb (2 ^ bits) (getD ds i 0) (digits-below (2 ^ bits) count (number 256 packed) (pow-pos bits) .at i h))), (differs-not _ _ sized, tt))))
       ∙ ap value (clean-back bits count (count * bits) packed refl below sized (unpack-passed .1 .1 .1 .0)))
 
   -- the same bits, from the bytes' side
@@ -147,51 +147,51 @@ module _ (packed : List ℕ) (count bits room : ℕ) {indices : List ℕ} (told 
 -- ---- a sign and its bit
 
 -- a number that is a sign comes back from its bit
-pub sign-bit : (z : ℤ) → notSign z ≡ false → signOf (bitOf z) ≡ z
+pub sign-bit : (z : ℤ) → badSketchSign z ≡ false → signOfBit (bitOfSign z) ≡ z
 sign-bit (pos n) h = by (eqb n 1) refl h
   where
-    by : (t : Bool) → eqb n 1 ≡ t → not (t || false) ≡ false → signOf (cond (eqb n 1) 1 0) ≡ pos n
+    by : (t : Bool) → eqb n 1 ≡ t → not (t || false) ≡ false → signOfBit (cond (eqb n 1) 1 0) ≡ pos n
     by true e g = rw e (ap pos (sym (eqb-true n 1 e)))
     by false e g = absurd (eqb-false 1 1 (let z : true ≡ false = g in rw z refl) refl)
 sign-bit (negsuc n) h = by (eqb n 0) refl h
   where
-    by : (t : Bool) → eqb n 0 ≡ t → not (false || t) ≡ false → signOf 0 ≡ negsuc n
+    by : (t : Bool) → eqb n 0 ≡ t → not (false || t) ≡ false → signOfBit 0 ≡ negsuc n
     by true e g = ap negsuc (sym (eqb-true n 0 e))
     by false e g = absurd (eqb-false 1 1 (let z : true ≡ false = g in rw z refl) refl)
 
 -- a bit comes back from its sign
-pub bit-sign : (b : ℕ) → b < 2 → bitOf (signOf b) ≡ b
+pub bit-sign : (b : ℕ) → b < 2 → bitOfSign (signOfBit b) ≡ b
 bit-sign zero h = refl
 bit-sign (suc zero) h = refl
 bit-sign (suc (suc b)) h = absurd (omega (arith, h))
 
-signs-bits : (signs : List ℤ) → ((i : ℕ) → i < length signs → notSign (getD signs i (pos 0)) ≡ false) → map signOf (map bitOf signs) ≡ signs
+signs-bits : (signs : List ℤ) → ((i : ℕ) → i < length signs → badSketchSign (getD signs i (pos 0)) ≡ false) → map signOfBit (map bitOfSign signs) ≡ signs
 signs-bits [] h = refl
 signs-bits (z ∷ zs) h = let rest = signs-bits zs (λ i g. h (suc i) (suc-le-suc g)) in rw (sign-bit z (h 0 (omega arith)), rest) refl
 
-bits-signs : (bits : List ℕ) → Below 2 bits → map bitOf (map signOf bits) ≡ bits
+bits-signs : (bits : List ℕ) → Below 2 bits → map bitOfSign (map signOfBit bits) ≡ bits
 bits-signs [] h = refl
 bits-signs (b ∷ bs) h = let rest = bits-signs bs (below-tail h) in rw (bit-sign b (below-head h), rest) refl
 
-bit-small : (z : ℤ) → bitOf z < 2
+bit-small : (z : ℤ) → bitOfSign z < 2
 bit-small z = by (isPlus z)
   where
     by : (t : Bool) → cond t 1 0 < 2
     by true = omega arith
     by false = omega arith
 
-bits-below : (signs : List ℤ) → Below 2 (map bitOf signs)
-bits-below signs = record { at = λ i h. rw (List·getD-map bitOf signs i (pos 0)) (bit-small (getD signs i (pos 0))) }
+bits-below : (signs : List ℤ) → Below 2 (map bitOfSign signs)
+bits-below signs = record { at = λ i h. rw (List·getD-map bitOfSign signs i (pos 0)) (bit-small (getD signs i (pos 0))) }
 
 -- every sign of a bit is a sign
-sign-good : (b : ℕ) → notSign (signOf b) ≡ false
+sign-good : (b : ℕ) → badSketchSign (signOfBit b) ≡ false
 sign-good b = by (eqb b 1)
   where
-    by : (t : Bool) → notSign (cond t (pos 1) (negsuc 0)) ≡ false
+    by : (t : Bool) → badSketchSign (cond t (pos 1) (negsuc 0)) ≡ false
     by true = refl
     by false = refl
 
-signs-good : (bits : List ℕ) (i : ℕ) → i < length (map signOf bits) → notSign (getD (map signOf bits) i (pos 0)) ≡ false
+signs-good : (bits : List ℕ) (i : ℕ) → i < length (map signOfBit bits) → badSketchSign (getD (map signOfBit bits) i (pos 0)) ≡ false
 signs-good [] i h = absurd (not-suc-le-zero h)
 signs-good (b ∷ bs) zero h = sign-good b
 signs-good (b ∷ bs) (suc i) h = signs-good bs i (le-of-suc-le-suc h)
@@ -199,61 +199,61 @@ signs-good (b ∷ bs) (suc i) h = signs-good bs i (le-of-suc-le-suc h)
 -- ---- signs
 
 module _ (signs : List ℤ) (room : ℕ) {packed : List ℕ} (told : packSignsOf signs room ≡ value packed) where
-  pack-signs-passed : Passed (each notSign 10 signs ∷ wrongRoom room (bytesFor (length signs)) ∷ [])
+  pack-signs-passed : Passed (each badSketchSign 10 signs ∷ wrongRoom room (bytesFor (length signs)) ∷ [])
   unfolding packSignsOf
-  pack-signs-passed = first-passes (each notSign 10 signs ∷ wrongRoom room (bytesFor (length signs)) ∷ []) _ told
+  pack-signs-passed = first-passes (each badSketchSign 10 signs ∷ wrongRoom room (bytesFor (length signs)) ∷ []) _ told
 
-  pub pack-signs-bytes : digits 256 (bytesFor (length signs)) (number 2 (map bitOf signs)) ≡ packed
+  pub pack-signs-bytes : digits 256 (bytesFor (length signs)) (number 2 (map bitOfSign signs)) ≡ packed
   unfolding packSignsOf
-  pack-signs-bytes = first-value (each notSign 10 signs ∷ wrongRoom room (bytesFor (length signs)) ∷ []) _ told
+  pack-signs-bytes = first-value (each badSketchSign 10 signs ∷ wrongRoom room (bytesFor (length signs)) ∷ []) _ told
 
   -- as many bytes as the signs need
   pub pack-signs-length : length packed ≡ bytesFor (length signs)
-  pack-signs-length = ap length (sym pack-signs-bytes) ∙ length-digits 256 (bytesFor (length signs)) (number 2 (map bitOf signs))
+  pack-signs-length = ap length (sym pack-signs-bytes) ∙ length-digits 256 (bytesFor (length signs)) (number 2 (map bitOfSign signs))
 
   -- unpacking what packing wrote gives the signs back
   pub unpack-pack-signs : unpackSignsOf packed (length signs) (length signs) ≡ value signs
   unfolding unpackSignsOf
   unpack-pack-signs =
       let n : ℕ = length signs in
-      let bits : List ℕ = map bitOf signs in
+      let bits : List ℕ = map bitOfSign signs in
       let bytes : List ℕ = digits 256 (bytesFor n) (number 2 bits) in
-      let many : length bits ≡ n = length-map signs bitOf in
+      let many : length bits ≡ n = length-map signs bitOfSign in
       let total : length bits * 1 ≡ n = mul-one (length bits) ∙ many in
       let small = bits-below signs in
       let back : digits 2 n (number 256 bytes) ≡ bits = rw many at (bytes-back 1 n bits total small) in
       rw (← pack-signs-bytes)
       (first-accepts
       (wrongLength bytes n ∷ wrongPadding bytes n ∷ wrongRoom n n ∷ [])
-      (value (map signOf (digits 2 n (number 256 bytes))))
+      (value (map signOfBit (digits 2 n (number 256 bytes))))
       (differs-not _ _ (bytes-length 1 n bits total small), (bytes-clean 1 n bits total small, (differs-not n n refl, tt)))
-      ∙ ap value (ap (map signOf) back ∙ signs-bits signs (each-clear notSign signs (pos 0) (pack-signs-passed .0))))
+      ∙ ap value (ap (map signOfBit) back ∙ signs-bits signs (each-clear badSketchSign signs (pos 0) (pack-signs-passed .0))))
 
 module _ (packed : List ℕ) (count room : ℕ) {signs : List ℤ} (told : unpackSignsOf packed count room ≡ value signs) where
   unpack-signs-passed : Passed (wrongLength packed count ∷ wrongPadding packed count ∷ wrongRoom room count ∷ [])
   unfolding unpackSignsOf
   unpack-signs-passed = first-passes (wrongLength packed count ∷ wrongPadding packed count ∷ wrongRoom room count ∷ []) _ told
 
-  pub unpack-signs-bits : map signOf (digits 2 count (number 256 packed)) ≡ signs
+  pub unpack-signs-bits : map signOfBit (digits 2 count (number 256 packed)) ≡ signs
   unfolding unpackSignsOf
   unpack-signs-bits = first-value (wrongLength packed count ∷ wrongPadding packed count ∷ wrongRoom room count ∷ []) _ told
 
   -- as many signs as were asked for
   pub unpack-signs-length : length signs ≡ count
-  unpack-signs-length = ap length (sym unpack-signs-bits) ∙ length-map (digits 2 count (number 256 packed)) signOf ∙ length-digits 2 count (number 256 packed)
+  unpack-signs-length = ap length (sym unpack-signs-bits) ∙ length-map (digits 2 count (number 256 packed)) signOfBit ∙ length-digits 2 count (number 256 packed)
 
   -- packing what unpacking gave gives the same bytes
   pub pack-unpack-signs : Below 256 packed → packSignsOf signs (length packed) ≡ value packed
   unfolding packSignsOf
   pack-unpack-signs below =
       let bits : List ℕ = digits 2 count (number 256 packed) in
-      let found : List ℤ = map signOf bits in
-      let many : length found ≡ count = length-map bits signOf ∙ length-digits 2 count (number 256 packed) in
+      let found : List ℤ = map signOfBit bits in
+      let many : length found ≡ count = length-map bits signOfBit ∙ length-digits 2 count (number 256 packed) in
       let sized = differs-same (length packed) (bytesFor count) (unpack-signs-passed .0) in
-      let same : map bitOf found ≡ bits = bits-signs bits (digits-below 2 count (number 256 packed) (omega arith)) in
+      let same : map bitOfSign found ≡ bits = bits-signs bits (digits-below 2 count (number 256 packed) (omega arith)) in
       rw (← unpack-signs-bits, many, same)
       (first-accepts
-      (check (ltb (place notSign found) count) 10 (place notSign found) ∷ wrongRoom (length packed) (bytesFor count) ∷ [])
+      (check (ltb (place badSketchSign found) count) 10 (place badSketchSign found) ∷ wrongRoom (length packed) (bytesFor count) ∷ [])
       (value (digits 256 (bytesFor count) (number 2 bits)))
-      (rw many at (each-none notSign found (pos 0) (signs-good bits)), (differs-not _ _ sized, tt))
+      (rw many at (each-none badSketchSign found (pos 0) (signs-good bits)), (differs-not _ _ sized, tt))
       ∙ ap value (clean-back 1 count count packed (mul-one count) below sized (unpack-signs-passed .1 .0)))

@@ -19,39 +19,39 @@ saysLength (Bytes n) = value n
 saysLength (Refused n p) = refused n p
 
 -- '19: count times bits exceeds the largest usize. Place 0.'
-abbrev pub overflow : ℕ → ℕ → Check
-overflow count bits = check (ltb (2 ^ 64 - 1) (count * bits)) 19 0
+abbrev pub wrongOverflow : ℕ → ℕ → Check
+wrongOverflow count bits = check (ltb (2 ^ 64 - 1) (count * bits)) 19 0
 
 -- '15: index at or above 2^bits. Place: its index'
-abbrev pub tooLarge : ℕ → ℕ → Bool
-tooLarge bits index = leb (2 ^ bits) index
+abbrev pub badIndex : ℕ → ℕ → Bool
+badIndex bits index = leb (2 ^ bits) index
 
 -- how many bytes so many indices of so many bits take
-unfoldable pub packedLen : ℕ → ℕ → Answer ℕ
-packedLen count bits =
+unfoldable pub packedLenOf : ℕ → ℕ → Answer ℕ
+packedLenOf count bits =
     first
     (wrongBits bits
-    ∷ overflow count bits
+    ∷ wrongOverflow count bits
     ∷ [])
     (value (bytesFor (count * bits)))
 
 -- 'Packing: 1, 19, the items, then 6.' `room` is the output's length, and the value is what the output holds afterwards
-unfoldable pub packOf : List ℕ → ℕ → ℕ → Answer (List ℕ)
-packOf indices bits room =
+unfoldable pub packIndicesOf : List ℕ → ℕ → ℕ → Answer (List ℕ)
+packIndicesOf indices bits room =
     first
     (wrongBits bits
-    ∷ overflow (length indices) bits
-    ∷ each (tooLarge bits) 15 indices
+    ∷ wrongOverflow (length indices) bits
+    ∷ each (badIndex bits) 15 indices
     ∷ wrongRoom room (bytesFor (length indices * bits))
     ∷ [])
     (value (digits 256 (bytesFor (length indices * bits)) (number (2 ^ bits) indices)))
 
 -- 'Unpacking: 1, 19, 13, 14, then 6.' `room` is the output's length, and the value is what the output holds afterwards
-unfoldable pub unpackOf : List ℕ → ℕ → ℕ → ℕ → Answer (List ℕ)
-unpackOf packed count bits room =
+unfoldable pub unpackIndicesOf : List ℕ → ℕ → ℕ → ℕ → Answer (List ℕ)
+unpackIndicesOf packed count bits room =
     first
     (wrongBits bits
-    ∷ overflow count bits
+    ∷ wrongOverflow count bits
     ∷ wrongLength packed (count * bits)
     ∷ wrongPadding packed (count * bits)
     ∷ wrongRoom room count

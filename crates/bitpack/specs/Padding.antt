@@ -13,8 +13,8 @@ abbrev pub bytesFor : ℕ → ℕ
 bytesFor bits = (bits + 7) / 8
 
 -- whether the last byte has a bit that is not zero from bit `used` mod 8 up; a byte that is used whole has no padding
-unfoldable pub padded : List ℕ → ℕ → Bool
-padded packed used =
+unfoldable pub badPadding : List ℕ → ℕ → Bool
+badPadding packed used =
     differs (used % 8) 0 && differs (getD packed (length packed - 1) 0 / 2 ^ (used % 8)) 0
 
 -- '13: byte length wrong. Place: the length found.'
@@ -23,11 +23,11 @@ wrongLength packed used = check (differs (length packed) (bytesFor used)) 13 (le
 
 -- '14: padding bits not zero. Place: that byte's index in its payload.'
 abbrev pub wrongPadding : List ℕ → ℕ → Check
-wrongPadding packed used = check (padded packed used) 14 (length packed - 1)
+wrongPadding packed used = check (badPadding packed used) 14 (length packed - 1)
 
 -- bytes of which so many bits are used: 13, then 14, or nothing to say
-unfoldable pub paddingOf : List ℕ → ℕ → Answer (Unit {0})
-paddingOf packed used =
+unfoldable pub validatePaddingZeroOf : List ℕ → ℕ → Answer (Unit {0})
+validatePaddingZeroOf packed used =
     first
     (wrongLength packed used
     ∷ wrongPadding packed used

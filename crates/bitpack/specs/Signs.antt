@@ -20,24 +20,24 @@ isMinus (pos n) = false
 isMinus (negsuc n) = eqb n 0
 
 -- '10: a sign is neither −1 nor 1. Place: its index.'
-abbrev pub notSign : ℤ → Bool
-notSign z = not (isPlus z || isMinus z)
+abbrev pub badSketchSign : ℤ → Bool
+badSketchSign z = not (isPlus z || isMinus z)
 
 -- 'Sign +1 is bit 1, −1 is bit 0.'
-abbrev pub bitOf : ℤ → ℕ
-bitOf z = cond (isPlus z) 1 0
+abbrev pub bitOfSign : ℤ → ℕ
+bitOfSign z = cond (isPlus z) 1 0
 
-abbrev pub signOf : ℕ → ℤ
-signOf bit = cond (eqb bit 1) (pos 1) (negsuc 0)
+abbrev pub signOfBit : ℕ → ℤ
+signOfBit bit = cond (eqb bit 1) (pos 1) (negsuc 0)
 
 -- 'Packing signs: 10.' 'In every call 6 comes after all input checks.' `room` is the output's length
 unfoldable pub packSignsOf : List ℤ → ℕ → Answer (List ℕ)
 packSignsOf signs room =
     first
-    (each notSign 10 signs
+    (each badSketchSign 10 signs
     ∷ wrongRoom room (bytesFor (length signs))
     ∷ [])
-    (value (digits 256 (bytesFor (length signs)) (number 2 (map bitOf signs))))
+    (value (digits 256 (bytesFor (length signs)) (number 2 (map bitOfSign signs))))
 
 -- 'Unpacking signs: 13, 14.' 'In every call 6 comes after all input checks.' `room` is the output's length
 unfoldable pub unpackSignsOf : List ℕ → ℕ → ℕ → Answer (List ℤ)
@@ -47,4 +47,4 @@ unpackSignsOf packed count room =
     ∷ wrongPadding packed count
     ∷ wrongRoom room count
     ∷ [])
-    (value (map signOf (digits 2 count (number 256 packed))))
+    (value (map signOfBit (digits 2 count (number 256 packed))))

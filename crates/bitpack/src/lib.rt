@@ -15,9 +15,9 @@ ghost use Rattle.error.specs.Answer.{place, done, after};
 ghost use Rattle.error.specs.Outcomes.{says};
 ghost use Rattle.error.specs.Sweep.{clear};
 ghost use Rattle.digits.specs.Digits.{number, digits};
-ghost use Rattle.bitpack.specs.Padding.{paddingOf};
+ghost use Rattle.bitpack.specs.Padding.{validatePaddingZeroOf};
 ghost use Rattle.bitpack.specs.Asked.{Packable, Unpackable, Eights, Refillable, Refilled};
-ghost use Rattle.bitpack.specs.Packing.{packedLen, saysLength, tooLarge, packOf, unpackOf};
+ghost use Rattle.bitpack.specs.Packing.{packedLenOf, saysLength, badIndex, packIndicesOf, unpackIndicesOf};
 
 // A number of bytes, or a refusal.
 pub enum Length {
@@ -34,7 +34,7 @@ struct Window {
 
 // The number of bytes that `count` indices of `bits` bits each take.
 pub fn packed_len(count: usize, bits: u8) -> Length
-    ensures { λ r. ⌜ saysLength r ≡ packedLen count bits ⌝ }
+    ensures { λ r. ⌜ saysLength r ≡ packedLenOf count bits ⌝ }
 {
     if bits < 1 || 16 < bits {
         return Length::Refused {
@@ -55,8 +55,8 @@ pub fn packed_len(count: usize, bits: u8) -> Length
 
 // Packs the indices, each of which must fit in `bits` bits, into exactly the bytes that they need.
 pub fn pack_indices(indices: &[u16], bits: u8, out: &mut [u8]) -> Outcome
-    ensures said { λ r. ⌜ says r ≡ done (packOf (now (indices .entry)) bits (length (now (out .entry)))) ⌝ }
-    ensures left { λ r. ⌜ now (out .exit) ≡ after (packOf (now (indices .entry)) bits (length (now (out .entry)))) (now (out .entry)) ⌝ }
+    ensures said { λ r. ⌜ says r ≡ done (packIndicesOf (now (indices .entry)) bits (length (now (out .entry)))) ⌝ }
+    ensures left { λ r. ⌜ now (out .exit) ≡ after (packIndicesOf (now (indices .entry)) bits (length (now (out .entry)))) (now (out .entry)) ⌝ }
 {
     let need = match packed_len(indices.len(), bits) {
         Length::Bytes(n) => n,
@@ -83,8 +83,8 @@ pub fn pack_indices(indices: &[u16], bits: u8, out: &mut [u8]) -> Outcome
 
 // Unpacks `count` indices of `bits` bits each.
 pub fn unpack_indices(packed: &[u8], count: usize, bits: u8, out: &mut [u16]) -> Outcome
-    ensures said { λ r. ⌜ says r ≡ done (unpackOf (now (packed .entry)) count bits (length (now (out .entry)))) ⌝ }
-    ensures left { λ r. ⌜ now (out .exit) ≡ after (unpackOf (now (packed .entry)) count bits (length (now (out .entry)))) (now (out .entry)) ⌝ }
+    ensures said { λ r. ⌜ says r ≡ done (unpackIndicesOf (now (packed .entry)) count bits (length (now (out .entry)))) ⌝ }
+    ensures left { λ r. ⌜ now (out .exit) ≡ after (unpackIndicesOf (now (packed .entry)) count bits (length (now (out .entry)))) (now (out .entry)) ⌝ }
 {
     if let Length::Refused { number, place } = packed_len(count, bits) {
         return Outcome::Refused { number, place };
@@ -105,7 +105,7 @@ pub fn unpack_indices(packed: &[u8], count: usize, bits: u8, out: &mut [u16]) ->
 
 // Whether the length is right and all bits from `used_bits` up are zero.
 pub fn validate_padding_zero(packed: &[u8], used_bits: usize) -> Outcome
-    ensures { λ r. ⌜ says r ≡ paddingOf (now (packed .entry)) «used_bits» ⌝ }
+    ensures { λ r. ⌜ says r ≡ validatePaddingZeroOf (now (packed .entry)) «used_bits» ⌝ }
 {
     let used_bytes = used_bits / 8 + (used_bits % 8 + 7) / 8;
     if packed.len() != used_bytes {
@@ -131,7 +131,7 @@ pub fn validate_padding_zero(packed: &[u8], used_bits: usize) -> Outcome
 // The index of the first index at or above 2^bits, or how many there are.
 fn first_large(indices: &[u16], bits: u8) -> usize
     requires { ⌜ bits ≤ 16 ⌝ }
-    ensures { λ r. ⌜ r ≡ place (tooLarge bits) (now (indices .entry)) ⌝ }
+    ensures { λ r. ⌜ r ≡ place (badIndex bits) (now (indices .entry)) ⌝ }
 {
     if all_small(indices, bits) {
         return indices.len();
@@ -142,7 +142,7 @@ fn first_large(indices: &[u16], bits: u8) -> usize
 // Whether no index is at or above 2^bits. The pass goes to the end, so that it is done for several indices at a time.
 fn all_small(indices: &[u16], bits: u8) -> bool
     requires { ⌜ bits ≤ 16 ⌝ }
-    ensures { λ r. ⌜ r ≡ clear (tooLarge bits) (now (indices .entry)) ⌝ }
+    ensures { λ r. ⌜ r ≡ clear (badIndex bits) (now (indices .entry)) ⌝ }
 {
     let levels = 1u32 << bits;
     let mut ok = true;
@@ -159,7 +159,7 @@ fn all_small(indices: &[u16], bits: u8) -> bool
 // The same index, one by one.
 fn find_large(indices: &[u16], bits: u8) -> usize
     requires { ⌜ bits ≤ 16 ⌝ }
-    ensures { λ r. ⌜ r ≡ place (tooLarge bits) (now (indices .entry)) ⌝ }
+    ensures { λ r. ⌜ r ≡ place (badIndex bits) (now (indices .entry)) ⌝ }
 {
     let levels = 1u32 << bits;
     let mut i = 0;

@@ -10,35 +10,35 @@ use lib.Ieee.{Float}
 use Rattle.error.specs.Answer.{Answer, value, refused, Check, check, first, each, accepted}
 use Rattle.error.specs.Checks.{wrongBits, wrongRoom, wrongIndex, wrongInput}
 use Rattle.error.proofs.Chains.{value-not-refused}
-use Rattle.bitpack.specs.Padding.{bytesFor, wrongLength, wrongPadding, paddingOf}
-use Rattle.bitpack.specs.Packing.{overflow, tooLarge, packedLen, packOf, unpackOf}
-use Rattle.bitpack.specs.Signs.{notSign, packSignsOf, unpackSignsOf}
-use Rattle.codebook.specs.Codebook.{wrongBounds, wrongValue, uniformOf, levelsOf, quantizeOf, midpointOf}
-use Rattle.polar.specs.Angle.{angleOf}
-use Rattle.radius.specs.Codec.{isLog, compressChecks, compressedRange, radiiFor, decompressChecks, decompressOf, encodedBytes}
+use Rattle.bitpack.specs.Padding.{bytesFor, wrongLength, wrongPadding, validatePaddingZeroOf}
+use Rattle.bitpack.specs.Packing.{wrongOverflow, badIndex, packedLenOf, packIndicesOf, unpackIndicesOf}
+use Rattle.bitpack.specs.Signs.{badSketchSign, packSignsOf, unpackSignsOf}
+use Rattle.codebook.specs.Codebook.{wrongBounds, wrongValue, uniformOf, levelsOf, quantizeOf, dequantizeMidpointOf}
+use Rattle.polar.specs.Angle.{dequantizeAngleOf}
+use Rattle.radius.specs.Codec.{badProfile, compressChecks, compressRangeOf, radiiFor, decompressChecks, decompressOf, encodedBytesOf}
 use Rattle.radius.specs.declared.Range.{Range}
 use Rattle.radius.specs.declared.RadiusCodecProfileV1.{RadiusCodecProfileV1}
 use Rattle.radius.specs.declared.RadiusCodecProfileV1.the-variants.{F32, BlockLinearU16, BlockLogU8}
 use Rattle.rotation.specs.Checks.{rotationChecks}
-use Rattle.rotation.specs.Rotation.{applied, appliedInverse}
+use Rattle.rotation.specs.Rotation.{applyOf, applyInverseOf}
 use Rattle.setup.specs.declared.Setup.{Setup}
 use Rattle.setup.specs.declared.TurboMode.{TurboMode}
 use Rattle.setup.specs.declared.TurboMode.the-variants.{PolarOnly, PolarWithQjl}
-use Rattle.setup.specs.Setups.{countedProjections}
+use Rattle.setup.specs.Setups.{countedProjectionsOf}
 use Rattle.setup.specs.Checks.{setupChecks}
 use Rattle.qjl.specs.Projection.{projected}
 use Rattle.qjl.specs.Sketch.{vectorChecks, sketchOf}
-use Rattle.qjl.specs.Score.{signedChecks, unitResidual, badScore, signedScore, modeScore, sketchScoreOf}
+use Rattle.qjl.specs.Score.{signedChecks, unitResidual, wrongScore, signedScore, modeScore, sketchScoreOf}
 use Rattle.packed.specs.Layout.{pairsOf}
 use Rattle.packed.specs.Fields.{projectionsOf}
-use Rattle.packed.specs.Reading.{recordChecks, readOf, radiiReadOf, indicesReadOf, signsReadOf}
-use Rattle.writing.specs.Writing.{fieldChecks, valueChecks, neededFor, writeOf}
-use Rattle.query.specs.Query.{prepareChecks, rotatedOf}
-use Rattle.order.specs.Scores.{Lent}
-use Rattle.scoring.specs.Scoring.{recordScoreChecks}
-use Rattle.turbo.specs.Estimates.{estimateChecks, estimateOf, readyChecks, estimatePreparedOf}
-use Rattle.turbo.specs.Distance.{distance, distanceOf}
-use Rattle.decode.specs.Decode.{decodeChecks, decodeOf}
+use Rattle.packed.specs.Reading.{recordChecks, readRecordOf, readRadiiOf, readIndicesOf, readSignsOf}
+use Rattle.packed_writing.specs.Writing.{fieldChecks, valueChecks, neededFor, writeRecordOf}
+use Rattle.turbo_query.specs.Query.{prepareChecks, prepareRotatedOf}
+use Rattle.turbo_order.specs.Scores.{Lent}
+use Rattle.turbo_scoring.specs.Scoring.{recordScoreChecks}
+use Rattle.turbo.specs.Estimates.{estimateChecks, innerProductEstimateOf, readyChecks, innerProductEstimatePreparedOf}
+use Rattle.turbo.specs.Distance.{distance, l2DistanceEstimateOf}
+use Rattle.turbo_decode.specs.Decode.{decodeChecks, decodeApproximateOf}
 
 -- whether every check of a list has a number above 0
 abbrev above : List Check → Bool
@@ -69,30 +69,30 @@ chain cs x t = first-numbered cs (value x) t (value-numbered x)
 
 -- ---- bits
 
-pub packed-len-numbered : (count bits : ℕ) → Numbered (packedLen count bits)
-unfolding packedLen
-packed-len-numbered count bits = chain (wrongBits bits ∷ overflow count bits ∷ []) _ refl
+pub packed-len-numbered : (count bits : ℕ) → Numbered (packedLenOf count bits)
+unfolding packedLenOf
+packed-len-numbered count bits = chain (wrongBits bits ∷ wrongOverflow count bits ∷ []) _ refl
 
-pub pack-numbered : (indices : List ℕ) (bits room : ℕ) → Numbered (packOf indices bits room)
-unfolding packOf
+pub pack-numbered : (indices : List ℕ) (bits room : ℕ) → Numbered (packIndicesOf indices bits room)
+unfolding packIndicesOf
 pack-numbered indices bits room =
-    chain (wrongBits bits ∷ overflow (length indices) bits ∷ each (tooLarge bits) 15 indices ∷ wrongRoom room (bytesFor (length indices * bits)) ∷ []) _ refl
+    chain (wrongBits bits ∷ wrongOverflow (length indices) bits ∷ each (badIndex bits) 15 indices ∷ wrongRoom room (bytesFor (length indices * bits)) ∷ []) _ refl
 
-pub unpack-numbered : (packed : List ℕ) (count bits room : ℕ) → Numbered (unpackOf packed count bits room)
-unfolding unpackOf
+pub unpack-numbered : (packed : List ℕ) (count bits room : ℕ) → Numbered (unpackIndicesOf packed count bits room)
+unfolding unpackIndicesOf
 unpack-numbered packed count bits room =
-    chain (wrongBits bits ∷ overflow count bits ∷ wrongLength packed (count * bits) ∷ wrongPadding packed (count * bits) ∷ wrongRoom room count ∷ []) _ refl
+    chain (wrongBits bits ∷ wrongOverflow count bits ∷ wrongLength packed (count * bits) ∷ wrongPadding packed (count * bits) ∷ wrongRoom room count ∷ []) _ refl
 
 pub pack-signs-numbered : (signs : List ℤ) (room : ℕ) → Numbered (packSignsOf signs room)
 unfolding packSignsOf
-pack-signs-numbered signs room = chain (each notSign 10 signs ∷ wrongRoom room (bytesFor (length signs)) ∷ []) _ refl
+pack-signs-numbered signs room = chain (each badSketchSign 10 signs ∷ wrongRoom room (bytesFor (length signs)) ∷ []) _ refl
 
 pub unpack-signs-numbered : (packed : List ℕ) (count room : ℕ) → Numbered (unpackSignsOf packed count room)
 unfolding unpackSignsOf
 unpack-signs-numbered packed count room = chain (wrongLength packed count ∷ wrongPadding packed count ∷ wrongRoom room count ∷ []) _ refl
 
-pub padding-numbered : (packed : List ℕ) (used : ℕ) → Numbered (paddingOf packed used)
-unfolding paddingOf
+pub padding-numbered : (packed : List ℕ) (used : ℕ) → Numbered (validatePaddingZeroOf packed used)
+unfolding validatePaddingZeroOf
 padding-numbered packed used = chain (wrongLength packed used ∷ wrongPadding packed used ∷ []) _ refl
 
 -- ---- codebook and angle
@@ -109,18 +109,18 @@ pub quantize-numbered : (bits : ℕ) (lo hi x : Float) → Numbered (quantizeOf 
 unfolding quantizeOf
 quantize-numbered bits lo hi x = chain (wrongBits bits ∷ wrongBounds lo hi ∷ wrongValue x ∷ []) _ refl
 
-pub midpoint-numbered : (bits : ℕ) (lo hi : Float) (index : ℕ) → Numbered (midpointOf bits lo hi index)
-unfolding midpointOf
+pub midpoint-numbered : (bits : ℕ) (lo hi : Float) (index : ℕ) → Numbered (dequantizeMidpointOf bits lo hi index)
+unfolding dequantizeMidpointOf
 midpoint-numbered bits lo hi index = chain (wrongBits bits ∷ wrongBounds lo hi ∷ wrongIndex bits index ∷ []) _ refl
 
-pub angle-numbered : (bits index : ℕ) → Numbered (angleOf bits index)
-unfolding angleOf
+pub angle-numbered : (bits index : ℕ) → Numbered (dequantizeAngleOf bits index)
+unfolding dequantizeAngleOf
 angle-numbered bits index = chain (wrongBits bits ∷ wrongIndex bits index ∷ []) _ refl
 
 -- ---- radii
 
-pub compress-numbered : (radii : List Float) (profile : RadiusCodecProfileV1) (room : ℕ) → Numbered (compressedRange radii profile room)
-unfolding compressedRange
+pub compress-numbered : (radii : List Float) (profile : RadiusCodecProfileV1) (room : ℕ) → Numbered (compressRangeOf radii profile room)
+unfolding compressRangeOf
 compress-numbered radii profile room = chain (compressChecks radii profile room) _ refl
 
 pub decompress-numbered : (profile : RadiusCodecProfileV1) (count : ℕ) (range : Range) (payload : List ℕ) (room : ℕ) → Numbered (decompressOf profile count range payload room)
@@ -129,18 +129,18 @@ decompress-numbered F32 count range payload room = chain (decompressChecks F32 c
 decompress-numbered BlockLinearU16 count range payload room = chain (decompressChecks BlockLinearU16 count range payload room) _ refl
 decompress-numbered BlockLogU8 count range payload room = chain (decompressChecks BlockLogU8 count range payload room) (radiiFor BlockLogU8 count range payload) refl
 
-pub encoded-numbered : (profile : RadiusCodecProfileV1) (payload : List ℕ) → Numbered (encodedBytes profile payload)
-unfolding encodedBytes
-encoded-numbered profile payload = chain (check (isLog profile) 18 0 ∷ []) _ refl
+pub encoded-numbered : (profile : RadiusCodecProfileV1) (payload : List ℕ) → Numbered (encodedBytesOf profile payload)
+unfolding encodedBytesOf
+encoded-numbered profile payload = chain (check (badProfile profile) 18 0 ∷ []) _ refl
 
 -- ---- rotation, setup and sketch
 
-pub apply-numbered : (n : ℕ) (signs xs : List Float) (room : ℕ) → Numbered (applied n signs xs room)
-unfolding applied
+pub apply-numbered : (n : ℕ) (signs xs : List Float) (room : ℕ) → Numbered (applyOf n signs xs room)
+unfolding applyOf
 apply-numbered n signs xs room = chain (rotationChecks n signs (length xs) room) _ refl
 
-pub inverse-numbered : (n : ℕ) (signs xs : List Float) (room : ℕ) → Numbered (appliedInverse n signs xs room)
-unfolding appliedInverse
+pub inverse-numbered : (n : ℕ) (signs xs : List Float) (room : ℕ) → Numbered (applyInverseOf n signs xs room)
+unfolding applyInverseOf
 inverse-numbered n signs xs room = chain (rotationChecks n signs (length xs) room) _ refl
 
 module _ (s : Setup) (signs directions matrix : List Float) where
@@ -149,14 +149,14 @@ module _ (s : Setup) (signs directions matrix : List Float) where
 
   pub sketch-numbered : (vector : List Float) (room : ℕ) → Numbered (sketchOf s signs directions matrix vector room)
   unfolding sketchOf
-  sketch-numbered vector room = chain (vectorChecks s signs directions matrix vector ++ wrongRoom room (countedProjections s) ∷ []) _ refl
+  sketch-numbered vector room = chain (vectorChecks s signs directions matrix vector ++ wrongRoom room (countedProjectionsOf s) ∷ []) _ refl
 
-  pub prepare-numbered : (query : List Float) (room space : ℕ) → Numbered (rotatedOf s signs directions matrix query room space)
-  unfolding rotatedOf
+  pub prepare-numbered : (query : List Float) (room space : ℕ) → Numbered (prepareRotatedOf s signs directions matrix query room space)
+  unfolding prepareRotatedOf
   prepare-numbered query room space = chain (prepareChecks s signs directions matrix query room space) _ refl
 
-  pub decode-numbered : (bytes : List ℕ) (room : ℕ) → Numbered (decodeOf s signs directions matrix bytes room)
-  unfolding decodeOf
+  pub decode-numbered : (bytes : List ℕ) (room : ℕ) → Numbered (decodeApproximateOf s signs directions matrix bytes room)
+  unfolding decodeApproximateOf
   decode-numbered bytes room = chain (decodeChecks s signs directions matrix bytes room) _ refl
 
 mode-score-numbered : (mode : TurboMode) (n m : ℕ) (matrix query : List Float) (signs : List ℤ) → Numbered (modeScore mode n m matrix query signs)
@@ -173,8 +173,8 @@ sketch-score-numbered s signs directions matrix query sketch =
 -- ---- record
 
 pub write-numbered : (profile : RadiusCodecProfileV1) (dim bits : ℕ) (mode : TurboMode) (m : ℕ) (radii : List Float) (indices : List ℕ) (signs : List ℤ) (room : ℕ)
-    → Numbered (writeOf profile dim bits mode m radii indices signs room)
-unfolding writeOf
+    → Numbered (writeRecordOf profile dim bits mode m radii indices signs room)
+unfolding writeRecordOf
 write-numbered profile dim bits mode m radii indices signs room =
     chain
     (fieldChecks profile dim bits mode m (length radii) (length indices) (length signs)
@@ -182,34 +182,34 @@ write-numbered profile dim bits mode m radii indices signs room =
     ++ (wrongRoom room (neededFor profile dim bits mode m) ∷ []))
     _ refl
 
-pub read-numbered : (bytes : List ℕ) → Numbered (readOf bytes)
-unfolding readOf
+pub read-numbered : (bytes : List ℕ) → Numbered (readRecordOf bytes)
+unfolding readRecordOf
 read-numbered bytes = chain (recordChecks bytes) _ refl
 
-pub read-radii-numbered : (bytes : List ℕ) (room : ℕ) → Numbered (radiiReadOf bytes room)
-unfolding radiiReadOf
+pub read-radii-numbered : (bytes : List ℕ) (room : ℕ) → Numbered (readRadiiOf bytes room)
+unfolding readRadiiOf
 read-radii-numbered bytes room = chain (recordChecks bytes ++ (wrongRoom room (pairsOf bytes) ∷ [])) _ refl
 
-pub read-indices-numbered : (bytes : List ℕ) (room : ℕ) → Numbered (indicesReadOf bytes room)
-unfolding indicesReadOf
+pub read-indices-numbered : (bytes : List ℕ) (room : ℕ) → Numbered (readIndicesOf bytes room)
+unfolding readIndicesOf
 read-indices-numbered bytes room = chain (recordChecks bytes ++ (wrongRoom room (pairsOf bytes) ∷ [])) _ refl
 
-pub read-signs-numbered : (bytes : List ℕ) (room : ℕ) → Numbered (signsReadOf bytes room)
-unfolding signsReadOf
+pub read-signs-numbered : (bytes : List ℕ) (room : ℕ) → Numbered (readSignsOf bytes room)
+unfolding readSignsOf
 read-signs-numbered bytes room = chain (recordChecks bytes ++ (wrongRoom room (projectionsOf bytes) ∷ [])) _ refl
 
 -- ---- scores
 
 module _ (s : Setup) (l : Lent) (bytes : List ℕ) where
-  pub estimate-numbered : Numbered (estimateOf s l bytes)
-  unfolding estimateOf
+  pub estimate-numbered : Numbered (innerProductEstimateOf s l bytes)
+  unfolding innerProductEstimateOf
   estimate-numbered = chain (estimateChecks s l bytes) _ refl
 
-  pub distance-numbered : Numbered (distanceOf s l bytes)
-  unfolding distanceOf
-  distance-numbered = chain (estimateChecks s l bytes ++ (badScore (distance s l bytes) ∷ [])) _ refl
+  pub distance-numbered : Numbered (l2DistanceEstimateOf s l bytes)
+  unfolding l2DistanceEstimateOf
+  distance-numbered = chain (estimateChecks s l bytes ++ (wrongScore (distance s l bytes) ∷ [])) _ refl
 
-pub estimate-prepared-numbered : (s : Setup) (directions turned rows : List Float) (bytes : List ℕ) → Numbered (estimatePreparedOf s directions turned rows bytes)
-unfolding estimatePreparedOf
+pub estimate-prepared-numbered : (s : Setup) (directions turned rows : List Float) (bytes : List ℕ) → Numbered (innerProductEstimatePreparedOf s directions turned rows bytes)
+unfolding innerProductEstimatePreparedOf
 estimate-prepared-numbered s directions turned rows bytes =
     chain (readyChecks s directions turned rows ++ recordScoreChecks s directions turned rows bytes) _ refl

@@ -4,7 +4,7 @@ use mathlib.Core.Bool.{cond}
 use mathlib.Core.List.{List}
 use lib.Dec.{eqb}
 use lib.Ieee.{Float}
-use Rattle.order.specs.Scores.{Lent}
+use Rattle.turbo_order.specs.Scores.{Lent}
 use Rattle.packed.specs.declared.Header.{Header}
 use Rattle.radius.specs.declared.Range.{Range}
 use Rattle.radius.specs.declared.RadiusCodecProfileV1.{RadiusCodecProfileV1}
@@ -14,20 +14,20 @@ use Rattle.setup.specs.declared.TurboMode.{TurboMode}
 use Rattle.setup.specs.declared.TurboMode.the-variants.{PolarOnly, PolarWithQjl}
 
 -- 0 is `PolarOnly`, every other number `PolarWithQjl`
-unfoldable pub modeOf : ℕ → TurboMode
-modeOf code = cond (eqb code 0) PolarOnly PolarWithQjl
+unfoldable pub modeFrom : ℕ → TurboMode
+modeFrom code = cond (eqb code 0) PolarOnly PolarWithQjl
 
 -- 0 is `F32`, 1 `BlockLinearU16`, every other number `BlockLogU8`, which is refused
-unfoldable pub profileOf : ℕ → RadiusCodecProfileV1
-profileOf code = cond (eqb code 0) F32 (cond (eqb code 1) BlockLinearU16 BlockLogU8)
+unfoldable pub profileFrom : ℕ → RadiusCodecProfileV1
+profileFrom code = cond (eqb code 0) F32 (cond (eqb code 1) BlockLinearU16 BlockLogU8)
 
 -- the scalars of a setup
-abbrev pub setupOf : ℕ → ℕ → ℕ → ℕ → Setup
-setupOf mode dim bits projections = record { mode = modeOf mode; dim = dim; bits = bits; projections = projections }
+abbrev pub setupFrom : ℕ → ℕ → ℕ → ℕ → Setup
+setupFrom mode dim bits projections = record { mode = modeFrom mode; dim = dim; bits = bits; projections = projections }
 
 -- a range of two floats
-abbrev pub rangeOf : Float → Float → Range
-rangeOf lo hi = record { min = lo; max = hi }
+abbrev pub rangeFrom : Float → Float → Range
+rangeFrom lo hi = record { min = lo; max = hi }
 
 -- the parts of a range
 abbrev pub minOf : Range → Float
@@ -73,5 +73,5 @@ headerMax header = header .range .max
 -- ---- what a query is scored under
 
 -- the tables that are lent beside a setup, and the query
-abbrev pub lentOf : List Float → List Float → List Float → List Float → Lent
-lentOf signs directions matrix query = record { signs = signs; directions = directions; matrix = matrix; query = query }
+abbrev pub lentFrom : List Float → List Float → List Float → List Float → Lent
+lentFrom signs directions matrix query = record { signs = signs; directions = directions; matrix = matrix; query = query }

@@ -19,7 +19,7 @@ ghost use Rattle.codebook.specs.Says.{saysMade, saysCount, saysIndex, saysPoint
 ghost use Rattle.packed.specs.Reading.{saysReading};
 ghost use Rattle.polar.specs.Angle.{saysAngle};
 ghost use Rattle.qjl.specs.Score.{saysScore};
-ghost use Rattle.radius.specs.Says.{saysRange, saysLength as saysEncoded};
+ghost use Rattle.radius.specs.Says.{saysRange, saysEncoded};
 ghost use Rattle.capi.specs.Told.{said, told, part};
 ghost use Rattle.capi.specs.Codes.{minOf, maxOf, headerMode, headerProfile, headerDim, headerBits, headerProjections, headerMin, headerMax};
 

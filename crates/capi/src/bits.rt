@@ -4,8 +4,8 @@ use crate::answers::tell_length;
 ghost use mathlib.Core.Path.{_≡_};
 ghost use lib.ListN.{length};
 ghost use Rattle.error.specs.Answer.{done, after};
-ghost use Rattle.bitpack.specs.Packing.{packedLen, packOf, unpackOf};
-ghost use Rattle.bitpack.specs.Padding.{paddingOf};
+ghost use Rattle.bitpack.specs.Packing.{packedLenOf, packIndicesOf, unpackIndicesOf};
+ghost use Rattle.bitpack.specs.Padding.{validatePaddingZeroOf};
 ghost use Rattle.bitpack.specs.Signs.{packSignsOf, unpackSignsOf};
 ghost use Rattle.capi.specs.Told.{said, told};
 
@@ -18,8 +18,8 @@ pub extern "C" fn foldrima_packed_len(
     place: &mut usize,
     value: &mut usize,
 )
-    ensures answer { λ _. ⌜ said (now (number .exit)) (now (place .exit)) ≡ told (packedLen count bits) ⌝ }
-    ensures left { λ _. ⌜ now (value .exit) ≡ after (packedLen count bits) (now (value .entry)) ⌝ }
+    ensures answer { λ _. ⌜ said (now (number .exit)) (now (place .exit)) ≡ told (packedLenOf count bits) ⌝ }
+    ensures left { λ _. ⌜ now (value .exit) ≡ after (packedLenOf count bits) (now (value .entry)) ⌝ }
 {
     tell_length(bitpack::packed_len(count, bits), number, place, value);
 }
@@ -33,8 +33,8 @@ pub extern "C" fn foldrima_pack_indices(
     number: &mut u32,
     place: &mut usize,
 )
-    ensures answer { λ _. ⌜ said (now (number .exit)) (now (place .exit)) ≡ told (done (packOf (now (indices .entry)) bits (length (now (out .entry))))) ⌝ }
-    ensures left { λ _. ⌜ now (out .exit) ≡ after (packOf (now (indices .entry)) bits (length (now (out .entry)))) (now (out .entry)) ⌝ }
+    ensures answer { λ _. ⌜ said (now (number .exit)) (now (place .exit)) ≡ told (done (packIndicesOf (now (indices .entry)) bits (length (now (out .entry))))) ⌝ }
+    ensures left { λ _. ⌜ now (out .exit) ≡ after (packIndicesOf (now (indices .entry)) bits (length (now (out .entry)))) (now (out .entry)) ⌝ }
 {
     tell(bitpack::pack_indices(indices, bits, out), number, place);
 }
@@ -49,8 +49,8 @@ pub extern "C" fn foldrima_unpack_indices(
     number: &mut u32,
     place: &mut usize,
 )
-    ensures answer { λ _. ⌜ said (now (number .exit)) (now (place .exit)) ≡ told (done (unpackOf (now (packed .entry)) count bits (length (now (out .entry))))) ⌝ }
-    ensures left { λ _. ⌜ now (out .exit) ≡ after (unpackOf (now (packed .entry)) count bits (length (now (out .entry)))) (now (out .entry)) ⌝ }
+    ensures answer { λ _. ⌜ said (now (number .exit)) (now (place .exit)) ≡ told (done (unpackIndicesOf (now (packed .entry)) count bits (length (now (out .entry))))) ⌝ }
+    ensures left { λ _. ⌜ now (out .exit) ≡ after (unpackIndicesOf (now (packed .entry)) count bits (length (now (out .entry)))) (now (out .entry)) ⌝ }
 {
     tell(
         bitpack::unpack_indices(packed, count, bits, out),
@@ -70,7 +70,7 @@ pub extern "C" fn foldrima_pack_signs(
     ensures answer { λ _. ⌜ said (now (number .exit)) (now (place .exit)) ≡ told (done (packSignsOf (now (signs .entry)) (length (now (out .entry))))) ⌝ }
     ensures left { λ _. ⌜ now (out .exit) ≡ after (packSignsOf (now (signs .entry)) (length (now (out .entry)))) (now (out .entry)) ⌝ }
 {
-    tell(signs::pack_signs(signs, out), number, place);
+    tell(bitpack_signs::pack_signs(signs, out), number, place);
 }
 
 // Unpacks `count` signs.
@@ -85,7 +85,11 @@ pub extern "C" fn foldrima_unpack_signs(
     ensures answer { λ _. ⌜ said (now (number .exit)) (now (place .exit)) ≡ told (done (unpackSignsOf (now (packed .entry)) count (length (now (out .entry))))) ⌝ }
     ensures left { λ _. ⌜ now (out .exit) ≡ after (unpackSignsOf (now (packed .entry)) count (length (now (out .entry)))) (now (out .entry)) ⌝ }
 {
-    tell(signs::unpack_signs(packed, count, out), number, place);
+    tell(
+        bitpack_signs::unpack_signs(packed, count, out),
+        number,
+        place,
+    );
 }
 
 // Whether the length is right and all bits from `used_bits` up are zero.
@@ -96,7 +100,7 @@ pub extern "C" fn foldrima_validate_padding_zero(
     number: &mut u32,
     place: &mut usize,
 )
-    ensures { λ _. ⌜ said (now (number .exit)) (now (place .exit)) ≡ told (paddingOf (now (packed .entry)) «used_bits») ⌝ }
+    ensures { λ _. ⌜ said (now (number .exit)) (now (place .exit)) ≡ told (validatePaddingZeroOf (now (packed .entry)) «used_bits») ⌝ }
 {
     tell(
         bitpack::validate_padding_zero(packed, used_bits),

@@ -7,10 +7,10 @@ use crate::answers::tell_midpoint;
 use codebook::ScalarCodebook;
 ghost use mathlib.Core.Path.{_≡_};
 ghost use Rattle.error.specs.Answer.{after};
-ghost use Rattle.codebook.specs.Codebook.{uniformOf, levelsOf, quantizeOf, midpointOf};
+ghost use Rattle.codebook.specs.Codebook.{uniformOf, levelsOf, quantizeOf, dequantizeMidpointOf};
 ghost use Rattle.float.specs.SquareRoot.{squareRoot};
-ghost use Rattle.polar.specs.Angle.{angleOf};
-ghost use Rattle.setup.specs.Seeds.{hadamardSeed, matrixSeed};
+ghost use Rattle.polar.specs.Angle.{dequantizeAngleOf};
+ghost use Rattle.setup.specs.Seeds.{hadamardSeedOf, matrixSeedOf};
 ghost use Rattle.capi.specs.Told.{said, told};
 
 // Whether these bits and bounds make a codebook.
@@ -73,8 +73,8 @@ pub extern "C" fn foldrima_dequantize_midpoint(
     place: &mut usize,
     value: &mut f32,
 )
-    ensures answer { λ _. ⌜ said (now (number .exit)) (now (place .exit)) ≡ told (midpointOf bits min max index) ⌝ }
-    ensures left { λ _. ⌜ now (value .exit) ≡ after (midpointOf bits min max index) (now (value .entry)) ⌝ }
+    ensures answer { λ _. ⌜ said (now (number .exit)) (now (place .exit)) ≡ told (dequantizeMidpointOf bits min max index) ⌝ }
+    ensures left { λ _. ⌜ now (value .exit) ≡ after (dequantizeMidpointOf bits min max index) (now (value .entry)) ⌝ }
 {
     let book = ScalarCodebook { bits, min, max };
     tell_midpoint(book.dequantize_midpoint(index), number, place, value);
@@ -97,8 +97,8 @@ pub extern "C" fn foldrima_dequantize_angle(
     place: &mut usize,
     value: &mut f32,
 )
-    ensures answer { λ _. ⌜ said (now (number .exit)) (now (place .exit)) ≡ told (angleOf bits index) ⌝ }
-    ensures left { λ _. ⌜ now (value .exit) ≡ after (angleOf bits index) (now (value .entry)) ⌝ }
+    ensures answer { λ _. ⌜ said (now (number .exit)) (now (place .exit)) ≡ told (dequantizeAngleOf bits index) ⌝ }
+    ensures left { λ _. ⌜ now (value .exit) ≡ after (dequantizeAngleOf bits index) (now (value .entry)) ⌝ }
 {
     tell_angle(polar::dequantize_angle(bits, index), number, place, value);
 }
@@ -106,7 +106,7 @@ pub extern "C" fn foldrima_dequantize_angle(
 // The seed of the host's generator of rotation signs.
 #[no_mangle]
 pub extern "C" fn foldrima_hadamard_seed(seed: u64) -> u64
-    ensures { λ r. ⌜ r ≡ hadamardSeed seed ⌝ }
+    ensures { λ r. ⌜ r ≡ hadamardSeedOf seed ⌝ }
 {
     setup::hadamard_seed(seed)
 }
@@ -114,7 +114,7 @@ pub extern "C" fn foldrima_hadamard_seed(seed: u64) -> u64
 // The seed of the host's generator of matrix entries.
 #[no_mangle]
 pub extern "C" fn foldrima_matrix_seed(seed: u64) -> u64
-    ensures { λ r. ⌜ r ≡ matrixSeed seed ⌝ }
+    ensures { λ r. ⌜ r ≡ matrixSeedOf seed ⌝ }
 {
     setup::matrix_seed(seed)
 }

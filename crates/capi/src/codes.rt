@@ -3,11 +3,11 @@ use radius::RadiusCodecProfileV1;
 use setup::Setup;
 use setup::TurboMode;
 ghost use mathlib.Core.Path.{_≡_};
-ghost use Rattle.capi.specs.Codes.{modeOf, profileOf, setupOf, modeNumber, profileNumber};
+ghost use Rattle.capi.specs.Codes.{modeFrom, profileFrom, setupFrom, modeNumber, profileNumber};
 
 // The mode of a number: 0 is `PolarOnly`, every other one `PolarWithQjl`.
 pub fn mode(code: u8) -> TurboMode
-    ensures { λ r. ⌜ r ≡ modeOf code ⌝ }
+    ensures { λ r. ⌜ r ≡ modeFrom code ⌝ }
 {
     if code == 0 {
         return TurboMode::PolarOnly;
@@ -17,7 +17,7 @@ pub fn mode(code: u8) -> TurboMode
 
 // The profile of a number: 0 is `F32`, 1 `BlockLinearU16`, every other one `BlockLogU8`.
 pub fn profile(code: u8) -> RadiusCodecProfileV1
-    ensures { λ r. ⌜ r ≡ profileOf code ⌝ }
+    ensures { λ r. ⌜ r ≡ profileFrom code ⌝ }
 {
     if code == 0 {
         return RadiusCodecProfileV1::F32;
@@ -30,7 +30,7 @@ pub fn profile(code: u8) -> RadiusCodecProfileV1
 
 // The scalars of a setup.
 pub fn setup(code: u8, dim: usize, bits: u8, projections: usize) -> Setup
-    ensures { λ r. ⌜ r ≡ setupOf code dim bits projections ⌝ }
+    ensures { λ r. ⌜ r ≡ setupFrom code dim bits projections ⌝ }
 {
     let chosen = mode(code);
     Setup {

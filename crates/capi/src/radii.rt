@@ -7,9 +7,9 @@ use radius::Range;
 ghost use mathlib.Core.Path.{_≡_};
 ghost use lib.ListN.{length};
 ghost use Rattle.error.specs.Answer.{done, after};
-ghost use Rattle.radius.specs.Codec.{compressedRange, compressedBytes, decompressOf, encodedBytes};
+ghost use Rattle.radius.specs.Codec.{compressRangeOf, compressBytesOf, decompressOf, encodedBytesOf};
 ghost use Rattle.capi.specs.Told.{said, told, part};
-ghost use Rattle.capi.specs.Codes.{profileOf, rangeOf, minOf, maxOf};
+ghost use Rattle.capi.specs.Codes.{profileFrom, rangeFrom, minOf, maxOf};
 
 // Compresses radii into exactly the bytes that they need, and answers their range.
 #[no_mangle]
@@ -22,10 +22,10 @@ pub extern "C" fn foldrima_compress(
     min: &mut f32,
     max: &mut f32,
 )
-    ensures answer { λ _. ⌜ said (now (number .exit)) (now (place .exit)) ≡ told (compressedRange (now (radii .entry)) (profileOf profile) (length (now (out .entry)))) ⌝ }
-    ensures least { λ _. ⌜ now (min .exit) ≡ after (part minOf (compressedRange (now (radii .entry)) (profileOf profile) (length (now (out .entry))))) (now (min .entry)) ⌝ }
-    ensures greatest { λ _. ⌜ now (max .exit) ≡ after (part maxOf (compressedRange (now (radii .entry)) (profileOf profile) (length (now (out .entry))))) (now (max .entry)) ⌝ }
-    ensures left { λ _. ⌜ now (out .exit) ≡ after (compressedBytes (now (radii .entry)) (profileOf profile) (length (now (out .entry)))) (now (out .entry)) ⌝ }
+    ensures answer { λ _. ⌜ said (now (number .exit)) (now (place .exit)) ≡ told (compressRangeOf (now (radii .entry)) (profileFrom profile) (length (now (out .entry)))) ⌝ }
+    ensures least { λ _. ⌜ now (min .exit) ≡ after (part minOf (compressRangeOf (now (radii .entry)) (profileFrom profile) (length (now (out .entry))))) (now (min .entry)) ⌝ }
+    ensures greatest { λ _. ⌜ now (max .exit) ≡ after (part maxOf (compressRangeOf (now (radii .entry)) (profileFrom profile) (length (now (out .entry))))) (now (max .entry)) ⌝ }
+    ensures left { λ _. ⌜ now (out .exit) ≡ after (compressBytesOf (now (radii .entry)) (profileFrom profile) (length (now (out .entry)))) (now (out .entry)) ⌝ }
 {
     let chosen = codes::profile(profile);
     tell_range(
@@ -49,8 +49,8 @@ pub extern "C" fn foldrima_decompress(
     number: &mut u32,
     place: &mut usize,
 )
-    ensures answer { λ _. ⌜ said (now (number .exit)) (now (place .exit)) ≡ told (done (decompressOf (profileOf profile) count (rangeOf min max) (now (payload .entry)) (length (now (out .entry))))) ⌝ }
-    ensures left { λ _. ⌜ now (out .exit) ≡ after (decompressOf (profileOf profile) count (rangeOf min max) (now (payload .entry)) (length (now (out .entry)))) (now (out .entry)) ⌝ }
+    ensures answer { λ _. ⌜ said (now (number .exit)) (now (place .exit)) ≡ told (done (decompressOf (profileFrom profile) count (rangeFrom min max) (now (payload .entry)) (length (now (out .entry))))) ⌝ }
+    ensures left { λ _. ⌜ now (out .exit) ≡ after (decompressOf (profileFrom profile) count (rangeFrom min max) (now (payload .entry)) (length (now (out .entry)))) (now (out .entry)) ⌝ }
 {
     let chosen = codes::profile(profile);
     let range = Range { min, max };
@@ -70,8 +70,8 @@ pub extern "C" fn foldrima_encoded_bytes(
     place: &mut usize,
     value: &mut usize,
 )
-    ensures answer { λ _. ⌜ said (now (number .exit)) (now (place .exit)) ≡ told (encodedBytes (profileOf profile) (now (payload .entry))) ⌝ }
-    ensures left { λ _. ⌜ now (value .exit) ≡ after (encodedBytes (profileOf profile) (now (payload .entry))) (now (value .entry)) ⌝ }
+    ensures answer { λ _. ⌜ said (now (number .exit)) (now (place .exit)) ≡ told (encodedBytesOf (profileFrom profile) (now (payload .entry))) ⌝ }
+    ensures left { λ _. ⌜ now (value .exit) ≡ after (encodedBytesOf (profileFrom profile) (now (payload .entry))) (now (value .entry)) ⌝ }
 {
     let chosen = codes::profile(profile);
     tell_encoded(radius::encoded_bytes(chosen, payload), number, place, value);

@@ -7,10 +7,10 @@ ghost use Prim.Native.Nat.{_+_, _≤_};
 ghost use mathlib.Core.Path.{_≡_};
 ghost use lib.ListN.{length, take, drop};
 ghost use Rattle.error.specs.Answer.{done, after};
-ghost use Rattle.packed.specs.Reading.{readOf, radiiPart, indicesPart, signsPart, radiiReadOf, indicesReadOf, signsReadOf};
-ghost use Rattle.writing.specs.Writing.{writeOf};
+ghost use Rattle.packed.specs.Reading.{readRecordOf, radiiPartOf, indicesPartOf, signsPartOf, readRadiiOf, readIndicesOf, readSignsOf};
+ghost use Rattle.packed_writing.specs.Writing.{writeRecordOf};
 ghost use Rattle.capi.specs.Told.{said, told, part};
-ghost use Rattle.capi.specs.Codes.{modeOf, profileOf, headerMode, headerProfile, headerDim, headerBits, headerProjections, headerMin, headerMax};
+ghost use Rattle.capi.specs.Codes.{modeFrom, profileFrom, headerMode, headerProfile, headerDim, headerBits, headerProjections, headerMin, headerMax};
 ghost use Rattle.capi.specs.Spans.{span, between, radiiStart, indicesStart, signsStart, signsEnd};
 
 // Reads a record: its header, where nothing offends.
@@ -27,14 +27,14 @@ pub extern "C" fn foldrima_read_record(
     min: &mut f32,
     max: &mut f32,
 )
-    ensures answer { λ _. ⌜ said (now (number .exit)) (now (place .exit)) ≡ told (readOf (now (bytes .entry))) ⌝ }
-    ensures mode { λ _. ⌜ now (mode .exit) ≡ after (part headerMode (readOf (now (bytes .entry)))) (now (mode .entry)) ⌝ }
-    ensures profile { λ _. ⌜ now (profile .exit) ≡ after (part headerProfile (readOf (now (bytes .entry)))) (now (profile .entry)) ⌝ }
-    ensures dim { λ _. ⌜ now (dim .exit) ≡ after (part headerDim (readOf (now (bytes .entry)))) (now (dim .entry)) ⌝ }
-    ensures bits { λ _. ⌜ now (bits .exit) ≡ after (part headerBits (readOf (now (bytes .entry)))) (now (bits .entry)) ⌝ }
-    ensures projections { λ _. ⌜ now (projections .exit) ≡ after (part headerProjections (readOf (now (bytes .entry)))) (now (projections .entry)) ⌝ }
-    ensures least { λ _. ⌜ now (min .exit) ≡ after (part headerMin (readOf (now (bytes .entry)))) (now (min .entry)) ⌝ }
-    ensures greatest { λ _. ⌜ now (max .exit) ≡ after (part headerMax (readOf (now (bytes .entry)))) (now (max .entry)) ⌝ }
+    ensures answer { λ _. ⌜ said (now (number .exit)) (now (place .exit)) ≡ told (readRecordOf (now (bytes .entry))) ⌝ }
+    ensures mode { λ _. ⌜ now (mode .exit) ≡ after (part headerMode (readRecordOf (now (bytes .entry)))) (now (mode .entry)) ⌝ }
+    ensures profile { λ _. ⌜ now (profile .exit) ≡ after (part headerProfile (readRecordOf (now (bytes .entry)))) (now (profile .entry)) ⌝ }
+    ensures dim { λ _. ⌜ now (dim .exit) ≡ after (part headerDim (readRecordOf (now (bytes .entry)))) (now (dim .entry)) ⌝ }
+    ensures bits { λ _. ⌜ now (bits .exit) ≡ after (part headerBits (readRecordOf (now (bytes .entry)))) (now (bits .entry)) ⌝ }
+    ensures projections { λ _. ⌜ now (projections .exit) ≡ after (part headerProjections (readRecordOf (now (bytes .entry)))) (now (projections .entry)) ⌝ }
+    ensures least { λ _. ⌜ now (min .exit) ≡ after (part headerMin (readRecordOf (now (bytes .entry)))) (now (min .entry)) ⌝ }
+    ensures greatest { λ _. ⌜ now (max .exit) ≡ after (part headerMax (readRecordOf (now (bytes .entry)))) (now (max .entry)) ⌝ }
 {
     tell_reading(
         packed::read_record(bytes),
@@ -53,9 +53,9 @@ pub extern "C" fn foldrima_read_record(
 // Where the part of the record stands that holds the radii; empty where the record is refused.
 #[no_mangle]
 pub extern "C" fn foldrima_radii_part(bytes: &[u8], start: &mut usize, count: &mut usize)
-    ensures found { λ _. ⌜ span (now (start .exit)) (now (count .exit)) ≡ between radiiStart indicesStart (readOf (now (bytes .entry))) ⌝ }
+    ensures found { λ _. ⌜ span (now (start .exit)) (now (count .exit)) ≡ between radiiStart indicesStart (readRecordOf (now (bytes .entry))) ⌝ }
     ensures within { λ _. ⌜ now (start .exit) + now (count .exit) ≤ length (now (bytes .entry)) ⌝ }
-    ensures handed { λ _. ⌜ take (now (count .exit)) (drop (now (start .exit)) (now (bytes .entry))) ≡ radiiPart (now (bytes .entry)) ⌝ }
+    ensures handed { λ _. ⌜ take (now (count .exit)) (drop (now (start .exit)) (now (bytes .entry))) ≡ radiiPartOf (now (bytes .entry)) ⌝ }
 {
     match packed::read_record(bytes) {
         Reading::Read(header) => {
@@ -75,9 +75,9 @@ pub extern "C" fn foldrima_radii_part(bytes: &[u8], start: &mut usize, count: &m
 // Where the part of the record stands that holds the indices; empty where the record is refused.
 #[no_mangle]
 pub extern "C" fn foldrima_indices_part(bytes: &[u8], start: &mut usize, count: &mut usize)
-    ensures found { λ _. ⌜ span (now (start .exit)) (now (count .exit)) ≡ between indicesStart signsStart (readOf (now (bytes .entry))) ⌝ }
+    ensures found { λ _. ⌜ span (now (start .exit)) (now (count .exit)) ≡ between indicesStart signsStart (readRecordOf (now (bytes .entry))) ⌝ }
     ensures within { λ _. ⌜ now (start .exit) + now (count .exit) ≤ length (now (bytes .entry)) ⌝ }
-    ensures handed { λ _. ⌜ take (now (count .exit)) (drop (now (start .exit)) (now (bytes .entry))) ≡ indicesPart (now (bytes .entry)) ⌝ }
+    ensures handed { λ _. ⌜ take (now (count .exit)) (drop (now (start .exit)) (now (bytes .entry))) ≡ indicesPartOf (now (bytes .entry)) ⌝ }
 {
     match packed::read_record(bytes) {
         Reading::Read(header) => {
@@ -97,9 +97,9 @@ pub extern "C" fn foldrima_indices_part(bytes: &[u8], start: &mut usize, count: 
 // Where the part of the record stands that holds the signs; empty where the record is refused or has none.
 #[no_mangle]
 pub extern "C" fn foldrima_signs_part(bytes: &[u8], start: &mut usize, count: &mut usize)
-    ensures found { λ _. ⌜ span (now (start .exit)) (now (count .exit)) ≡ between signsStart signsEnd (readOf (now (bytes .entry))) ⌝ }
+    ensures found { λ _. ⌜ span (now (start .exit)) (now (count .exit)) ≡ between signsStart signsEnd (readRecordOf (now (bytes .entry))) ⌝ }
     ensures within { λ _. ⌜ now (start .exit) + now (count .exit) ≤ length (now (bytes .entry)) ⌝ }
-    ensures handed { λ _. ⌜ take (now (count .exit)) (drop (now (start .exit)) (now (bytes .entry))) ≡ signsPart (now (bytes .entry)) ⌝ }
+    ensures handed { λ _. ⌜ take (now (count .exit)) (drop (now (start .exit)) (now (bytes .entry))) ≡ signsPartOf (now (bytes .entry)) ⌝ }
 {
     match packed::read_record(bytes) {
         Reading::Read(header) => {
@@ -124,10 +124,10 @@ pub extern "C" fn foldrima_read_radii(
     number: &mut u32,
     place: &mut usize,
 )
-    ensures answer { λ _. ⌜ said (now (number .exit)) (now (place .exit)) ≡ told (done (radiiReadOf (now (bytes .entry)) (length (now (out .entry))))) ⌝ }
-    ensures left { λ _. ⌜ now (out .exit) ≡ after (radiiReadOf (now (bytes .entry)) (length (now (out .entry)))) (now (out .entry)) ⌝ }
+    ensures answer { λ _. ⌜ said (now (number .exit)) (now (place .exit)) ≡ told (done (readRadiiOf (now (bytes .entry)) (length (now (out .entry))))) ⌝ }
+    ensures left { λ _. ⌜ now (out .exit) ≡ after (readRadiiOf (now (bytes .entry)) (length (now (out .entry)))) (now (out .entry)) ⌝ }
 {
-    tell(parts::read_radii(bytes, out), number, place);
+    tell(packed_parts::read_radii(bytes, out), number, place);
 }
 
 // The indices of a record.
@@ -138,10 +138,10 @@ pub extern "C" fn foldrima_read_indices(
     number: &mut u32,
     place: &mut usize,
 )
-    ensures answer { λ _. ⌜ said (now (number .exit)) (now (place .exit)) ≡ told (done (indicesReadOf (now (bytes .entry)) (length (now (out .entry))))) ⌝ }
-    ensures left { λ _. ⌜ now (out .exit) ≡ after (indicesReadOf (now (bytes .entry)) (length (now (out .entry)))) (now (out .entry)) ⌝ }
+    ensures answer { λ _. ⌜ said (now (number .exit)) (now (place .exit)) ≡ told (done (readIndicesOf (now (bytes .entry)) (length (now (out .entry))))) ⌝ }
+    ensures left { λ _. ⌜ now (out .exit) ≡ after (readIndicesOf (now (bytes .entry)) (length (now (out .entry)))) (now (out .entry)) ⌝ }
 {
-    tell(parts::read_indices(bytes, out), number, place);
+    tell(packed_parts::read_indices(bytes, out), number, place);
 }
 
 // The signs of a record.
@@ -152,10 +152,10 @@ pub extern "C" fn foldrima_read_signs(
     number: &mut u32,
     place: &mut usize,
 )
-    ensures answer { λ _. ⌜ said (now (number .exit)) (now (place .exit)) ≡ told (done (signsReadOf (now (bytes .entry)) (length (now (out .entry))))) ⌝ }
-    ensures left { λ _. ⌜ now (out .exit) ≡ after (signsReadOf (now (bytes .entry)) (length (now (out .entry)))) (now (out .entry)) ⌝ }
+    ensures answer { λ _. ⌜ said (now (number .exit)) (now (place .exit)) ≡ told (done (readSignsOf (now (bytes .entry)) (length (now (out .entry))))) ⌝ }
+    ensures left { λ _. ⌜ now (out .exit) ≡ after (readSignsOf (now (bytes .entry)) (length (now (out .entry)))) (now (out .entry)) ⌝ }
 {
-    tell(parts::read_signs(bytes, out), number, place);
+    tell(packed_parts::read_signs(bytes, out), number, place);
 }
 
 // Writes a record into exactly the bytes that it needs. Without signs the projections are ignored.
@@ -173,13 +173,13 @@ pub extern "C" fn foldrima_write_record(
     number: &mut u32,
     place: &mut usize,
 )
-    ensures answer { λ _. ⌜ said (now (number .exit)) (now (place .exit)) ≡ told (done (writeOf (profileOf profile) dim bits (modeOf mode) projections (now (radii .entry)) (now (indices .entry)) (now (signs .entry)) (length (now (out .entry))))) ⌝ }
-    ensures left { λ _. ⌜ now (out .exit) ≡ after (writeOf (profileOf profile) dim bits (modeOf mode) projections (now (radii .entry)) (now (indices .entry)) (now (signs .entry)) (length (now (out .entry)))) (now (out .entry)) ⌝ }
+    ensures answer { λ _. ⌜ said (now (number .exit)) (now (place .exit)) ≡ told (done (writeRecordOf (profileFrom profile) dim bits (modeFrom mode) projections (now (radii .entry)) (now (indices .entry)) (now (signs .entry)) (length (now (out .entry))))) ⌝ }
+    ensures left { λ _. ⌜ now (out .exit) ≡ after (writeRecordOf (profileFrom profile) dim bits (modeFrom mode) projections (now (radii .entry)) (now (indices .entry)) (now (signs .entry)) (length (now (out .entry)))) (now (out .entry)) ⌝ }
 {
     let codec = codes::profile(profile);
     let chosen = codes::mode(mode);
     tell(
-        writing::write_record(
+        packed_writing::write_record(
             codec,
             dim,
             bits,

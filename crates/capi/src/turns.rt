@@ -6,12 +6,12 @@ use crate::codes;
 ghost use mathlib.Core.Path.{_≡_};
 ghost use lib.ListN.{length};
 ghost use Rattle.error.specs.Answer.{first, accepted, done, after};
-ghost use Rattle.rotation.specs.Rotation.{applied, appliedInverse};
+ghost use Rattle.rotation.specs.Rotation.{applyOf, applyInverseOf};
 ghost use Rattle.setup.specs.Checks.{setupChecks};
 ghost use Rattle.qjl.specs.Sketch.{sketchOf};
 ghost use Rattle.qjl.specs.Score.{sketchScoreOf};
 ghost use Rattle.capi.specs.Told.{said, told};
-ghost use Rattle.capi.specs.Codes.{setupOf};
+ghost use Rattle.capi.specs.Codes.{setupFrom};
 
 // The rotation of the input into the output.
 #[no_mangle]
@@ -23,8 +23,8 @@ pub extern "C" fn foldrima_apply(
     number: &mut u32,
     place: &mut usize,
 )
-    ensures answer { λ _. ⌜ said (now (number .exit)) (now (place .exit)) ≡ told (done (applied dim (now (signs .entry)) (now (input .entry)) (length (now (output .entry))))) ⌝ }
-    ensures left { λ _. ⌜ now (output .exit) ≡ after (applied dim (now (signs .entry)) (now (input .entry)) (length (now (output .entry)))) (now (output .entry)) ⌝ }
+    ensures answer { λ _. ⌜ said (now (number .exit)) (now (place .exit)) ≡ told (done (applyOf dim (now (signs .entry)) (now (input .entry)) (length (now (output .entry))))) ⌝ }
+    ensures left { λ _. ⌜ now (output .exit) ≡ after (applyOf dim (now (signs .entry)) (now (input .entry)) (length (now (output .entry)))) (now (output .entry)) ⌝ }
 {
     tell(rotation::apply(dim, signs, input, output), number, place);
 }
@@ -39,8 +39,8 @@ pub extern "C" fn foldrima_apply_inverse(
     number: &mut u32,
     place: &mut usize,
 )
-    ensures answer { λ _. ⌜ said (now (number .exit)) (now (place .exit)) ≡ told (done (appliedInverse dim (now (signs .entry)) (now (input .entry)) (length (now (output .entry))))) ⌝ }
-    ensures left { λ _. ⌜ now (output .exit) ≡ after (appliedInverse dim (now (signs .entry)) (now (input .entry)) (length (now (output .entry)))) (now (output .entry)) ⌝ }
+    ensures answer { λ _. ⌜ said (now (number .exit)) (now (place .exit)) ≡ told (done (applyInverseOf dim (now (signs .entry)) (now (input .entry)) (length (now (output .entry))))) ⌝ }
+    ensures left { λ _. ⌜ now (output .exit) ≡ after (applyInverseOf dim (now (signs .entry)) (now (input .entry)) (length (now (output .entry)))) (now (output .entry)) ⌝ }
 {
     tell(
         rotation::apply_inverse(dim, signs, input, output),
@@ -62,7 +62,7 @@ pub extern "C" fn foldrima_check_setup(
     number: &mut u32,
     place: &mut usize,
 )
-    ensures { λ _. ⌜ said (now (number .exit)) (now (place .exit)) ≡ told (first (setupChecks (setupOf mode dim bits projections) (now (signs .entry)) (now (directions .entry)) (now (matrix .entry))) accepted) ⌝ }
+    ensures { λ _. ⌜ said (now (number .exit)) (now (place .exit)) ≡ told (first (setupChecks (setupFrom mode dim bits projections) (now (signs .entry)) (now (directions .entry)) (now (matrix .entry))) accepted) ⌝ }
 {
     let scalars = codes::setup(mode, dim, bits, projections);
     tell(
@@ -87,8 +87,8 @@ pub extern "C" fn foldrima_sketch(
     number: &mut u32,
     place: &mut usize,
 )
-    ensures answer { λ _. ⌜ said (now (number .exit)) (now (place .exit)) ≡ told (done (sketchOf (setupOf mode dim bits projections) (now (signs .entry)) (now (directions .entry)) (now (matrix .entry)) (now (vector .entry)) (length (now (out .entry))))) ⌝ }
-    ensures left { λ _. ⌜ now (out .exit) ≡ after (sketchOf (setupOf mode dim bits projections) (now (signs .entry)) (now (directions .entry)) (now (matrix .entry)) (now (vector .entry)) (length (now (out .entry)))) (now (out .entry)) ⌝ }
+    ensures answer { λ _. ⌜ said (now (number .exit)) (now (place .exit)) ≡ told (done (sketchOf (setupFrom mode dim bits projections) (now (signs .entry)) (now (directions .entry)) (now (matrix .entry)) (now (vector .entry)) (length (now (out .entry))))) ⌝ }
+    ensures left { λ _. ⌜ now (out .exit) ≡ after (sketchOf (setupFrom mode dim bits projections) (now (signs .entry)) (now (directions .entry)) (now (matrix .entry)) (now (vector .entry)) (length (now (out .entry)))) (now (out .entry)) ⌝ }
 {
     let scalars = codes::setup(mode, dim, bits, projections);
     tell(
@@ -114,8 +114,8 @@ pub extern "C" fn foldrima_sketch_score(
     place: &mut usize,
     value: &mut f32,
 )
-    ensures answer { λ _. ⌜ said (now (number .exit)) (now (place .exit)) ≡ told (sketchScoreOf (setupOf mode dim bits projections) (now (signs .entry)) (now (directions .entry)) (now (matrix .entry)) (now (query .entry)) (now (sketch .entry))) ⌝ }
-    ensures left { λ _. ⌜ now (value .exit) ≡ after (sketchScoreOf (setupOf mode dim bits projections) (now (signs .entry)) (now (directions .entry)) (now (matrix .entry)) (now (query .entry)) (now (sketch .entry))) (now (value .entry)) ⌝ }
+    ensures answer { λ _. ⌜ said (now (number .exit)) (now (place .exit)) ≡ told (sketchScoreOf (setupFrom mode dim bits projections) (now (signs .entry)) (now (directions .entry)) (now (matrix .entry)) (now (query .entry)) (now (sketch .entry))) ⌝ }
+    ensures left { λ _. ⌜ now (value .exit) ≡ after (sketchScoreOf (setupFrom mode dim bits projections) (now (signs .entry)) (now (directions .entry)) (now (matrix .entry)) (now (query .entry)) (now (sketch .entry))) (now (value .entry)) ⌝ }
 {
     let scalars = codes::setup(mode, dim, bits, projections);
     tell_score(

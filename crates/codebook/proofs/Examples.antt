@@ -6,7 +6,7 @@ use mathlib.Core.Bool.{false}
 use lib.Ieee.{Float, nan, inf, binary32, ofBits, sub, div, mul, add, lt, le, ofInt, toUnsigned}
 use Rattle.error.specs.Answer.{value, refused}
 use Rattle.float.specs.Rounding.{clamped}
-use Rattle.codebook.specs.Codebook.{quantizeOf, midpointOf, levelsOf, levelOf, middleOf}
+use Rattle.codebook.specs.Codebook.{quantizeOf, dequantizeMidpointOf, levelsOf, levelOf, middleOf}
 
 abbrev float : ℕ → Float
 float bits = ofBits binary32 bits
@@ -25,8 +25,8 @@ unfolding ofBits sub div mul lt le ofInt toUnsigned quantizeOf levelOf clamped
 quantize-nan-quotient = refl
 
 -- 'a midpoint may be infinite'
-midpoint-infinite : midpointOf 8 (float 0xFF7F_FFFF) (float 0x7F7F_FFFF) 0 ≡ value (inf false)
-unfolding ofBits sub div mul add le ofInt midpointOf middleOf
+midpoint-infinite : dequantizeMidpointOf 8 (float 0xFF7F_FFFF) (float 0x7F7F_FFFF) 0 ≡ value (inf false)
+unfolding ofBits sub div mul add le ofInt dequantizeMidpointOf middleOf
 midpoint-infinite = refl
 
 -- from −1 to 1 in four levels: the upper bound is in the last level, and what lies outside counts as at the nearest bound
@@ -43,13 +43,13 @@ quantize-zero : quantizeOf 2 (float 0xBF80_0000) (float 0x3F80_0000) (float 0x00
 unfolding ofBits sub div mul lt le ofInt toUnsigned quantizeOf levelOf clamped
 quantize-zero = refl
 
-midpoint-third : midpointOf 2 (float 0xBF80_0000) (float 0x3F80_0000) 2 ≡ value (float 0x3E80_0000)
-unfolding ofBits sub div mul add le ofInt midpointOf middleOf
+midpoint-third : dequantizeMidpointOf 2 (float 0xBF80_0000) (float 0x3F80_0000) 2 ≡ value (float 0x3E80_0000)
+unfolding ofBits sub div mul add le ofInt dequantizeMidpointOf middleOf
 midpoint-third = refl
 
 -- '15: index at or above 2^bits. Place: its index; for a codebook or a single angle, 0'
-midpoint-past : midpointOf 2 (float 0xBF80_0000) (float 0x3F80_0000) 4 ≡ refused 15 0
-unfolding ofBits le midpointOf
+midpoint-past : dequantizeMidpointOf 2 (float 0xBF80_0000) (float 0x3F80_0000) 4 ≡ refused 15 0
+unfolding ofBits le dequantizeMidpointOf
 midpoint-past = refl
 
 -- 1 counts before 17, and 17 before the value

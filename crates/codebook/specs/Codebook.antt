@@ -67,8 +67,8 @@ quantizeOf bits lo hi x =
     ∷ [])
     (value (levelOf bits lo hi x))
 
-unfoldable pub midpointOf : ℕ → Float → Float → ℕ → Answer Float
-midpointOf bits lo hi index =
+unfoldable pub dequantizeMidpointOf : ℕ → Float → Float → ℕ → Answer Float
+dequantizeMidpointOf bits lo hi index =
     first
     (wrongBits bits
     ∷ wrongBounds lo hi

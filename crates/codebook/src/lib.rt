@@ -7,7 +7,7 @@ use error::Outcome;
 ghost use Prim.Native.Nat.{_≤_, _^_};
 ghost use mathlib.Core.Path.{_≡_};
 ghost use Rattle.error.specs.Outcomes.{says};
-ghost use Rattle.codebook.specs.Codebook.{checkOf, uniformOf, levelsOf, quantizeOf, midpointOf};
+ghost use Rattle.codebook.specs.Codebook.{checkOf, uniformOf, levelsOf, quantizeOf, dequantizeMidpointOf};
 ghost use Rattle.codebook.specs.Says.{saysMade, saysCount, saysIndex, saysPoint};
 
 // A deterministic uniform scalar codebook over a closed interval.
@@ -89,7 +89,7 @@ impl ScalarCodebook {
 
     // The middle of a level; it may be infinite.
     pub fn dequantize_midpoint(self, index: u16) -> Dequantized
-        ensures { λ r. ⌜ saysPoint r ≡ midpointOf (self .bits) (self .min) (self .max) index ⌝ }
+        ensures { λ r. ⌜ saysPoint r ≡ dequantizeMidpointOf (self .bits) (self .min) (self .max) index ⌝ }
     {
         if let Outcome::Refused { number, place } = check(self.bits, self.min, self.max) {
             return Dequantized::Refused { number, place };

@@ -2,9 +2,9 @@
 -- `repack` is the round trip of packing: digits in one base, written as digits in another, come back.
 -- Assumes nothing.
 use Prim.Native.Nat.{ℕ, zero, suc, _+_, _*_, _/_, _%_, _^_, _<_, suc-le-suc}
-use mathlib.Core.Path.{_≡_, refl, sym, ap, _∙_}
+use mathlib.Core.Path.{_≡_, refl, sym, ap}
 use mathlib.Core.List.{List, [], _∷_, _++_}
-use native.Mathlib.Nat.{add-zero, zero-add, add-assoc, mul-assoc, mul-comm, mul-add, mul-pos, mul-le-mul-left, pow-zero, pow-suc, pow-succ', div-one, div-div-eq-div-mul, mod-one, not-suc-le-zero, le-of-suc-le-suc, mod-lt, mod-eq-of-lt, div-eq-of-lt, add-mul-div-left, add-mul-mod-self-left, suc-add}
+use native.Mathlib.Nat.{zero-add, mul-pos, mul-le-mul-left, pow-zero, pow-suc, pow-succ', div-one, div-div-eq-div-mul, mod-one, not-suc-le-zero, le-of-suc-le-suc, mod-lt, mod-eq-of-lt, div-eq-of-lt, add-mul-div-left, add-mul-mod-self-left, suc-add}
 use native.Mathlib.Omega.{arith}
 use lib.Arith.{mod-mul}
 use lib.ListN.{length, getD}

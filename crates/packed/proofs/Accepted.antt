@@ -21,8 +21,8 @@ use Rattle.packed.specs.declared.Header.{Header}
 use Rattle.radius.specs.Radii.{badRadius}
 use Rattle.packed.specs.Fields.{mapOf, hasRange, hasSigns, dimOf, bitsOf, boundsOf, projectionsOf}
 use Rattle.packed.specs.Layout.{headerLength, totalOf, headerOf}
-use Rattle.packed.specs.Radii.{badBounds, wrongBounds}
-use Rattle.packed.specs.Reading.{radiiOf, outsideBits, outsideProjections, recordChecks, readOf}
+use Rattle.packed.specs.Radii.{badBounds, badBoundsFor}
+use Rattle.packed.specs.Reading.{radiiOf, badPolarBits, outsideProjections, recordChecks, readRecordOf}
 use Rattle.packed.specs.Accepted.{Accepted}
 
 -- ---- the checks that depend on a bit of the map byte, both ways
@@ -30,7 +30,7 @@ use Rattle.packed.specs.Accepted.{Accepted}
 true-not-false : {A : Type 0} → true ≡ false → A
 true-not-false e = let z : _≡_ {A = ℕ} 0 1 = cc in absurd (omega arith)
 
-bits-told : (t : Bool) (b : ℕ) → outsideBits (cond t PolarWithQjl PolarOnly) b ≡ false → (1 ≤ b) × ((b ≤ 16) × (t ≡ true → b ≤ 15))
+bits-told : (t : Bool) (b : ℕ) → badPolarBits (cond t PolarWithQjl PolarOnly) b ≡ false → (1 ≤ b) × ((b ≤ 16) × (t ≡ true → b ≤ 15))
 bits-told true b e =
     let both = or-false (ltb b 1) (ltb 15 b) e in
     let least = ltb-false b 1 (both .0) in
@@ -40,7 +40,7 @@ bits-told false b e =
     let both = or-false (ltb b 1) (ltb 16 b) e in
     (ltb-false b 1 (both .0), (ltb-false 16 b (both .1), λ s. true-not-false (sym s)))
 
-bits-pass : (t : Bool) (b : ℕ) → 1 ≤ b → b ≤ 16 → (t ≡ true → b ≤ 15) → outsideBits (cond t PolarWithQjl PolarOnly) b ≡ false
+bits-pass : (t : Bool) (b : ℕ) → 1 ≤ b → b ≤ 16 → (t ≡ true → b ≤ 15) → badPolarBits (cond t PolarWithQjl PolarOnly) b ≡ false
 bits-pass true b least most beside = rw (le-ltb b 1 least, le-ltb 15 b (beside refl))
 bits-pass false b least most beside = rw (le-ltb b 1 least, le-ltb 16 b most)
 
@@ -55,20 +55,20 @@ projections-pass : (t : Bool) (m : ℕ) → (t ≡ true → (0 < m) × (m ≤ 40
 projections-pass true m h = let both = h refl in rw (ne-eqb m 0 (λ z. omega (arith, z, both .0)), le-ltb 4096 m (both .1))
 projections-pass false m h = refl
 
-bounds-told : (t : Bool) (range : Range) → wrongBounds (cond t BlockLinearU16 F32) range ≡ false → t ≡ true → badBounds range ≡ false
+bounds-told : (t : Bool) (range : Range) → badBoundsFor (cond t BlockLinearU16 F32) range ≡ false → t ≡ true → badBounds range ≡ false
 bounds-told true range e s = e
 bounds-told false range e s = true-not-false (sym s)
 
-bounds-pass : (t : Bool) (range : Range) → (t ≡ true → badBounds range ≡ false) → wrongBounds (cond t BlockLinearU16 F32) range ≡ false
+bounds-pass : (t : Bool) (range : Range) → (t ≡ true → badBounds range ≡ false) → badBoundsFor (cond t BlockLinearU16 F32) range ≡ false
 bounds-pass true range h = h refl
 bounds-pass false range h = refl
 
 -- ---- the reader's answer
 
-module _ (bytes : List ℕ) {header : Header} (read : readOf bytes ≡ value header) where
+module _ (bytes : List ℕ) {header : Header} (read : readRecordOf bytes ≡ value header) where
   -- 'the listed conditions are the sole ones': what is read meets them all
   pub read-accepts : Accepted bytes
-  unfolding readOf
+  unfolding readRecordOf
   read-accepts =
       let all = first-all (recordChecks bytes) (value (headerOf bytes)) read in
       let powers = or-false _ _ (all .1 .1 .1 .1 .0) in
@@ -96,12 +96,12 @@ module _ (bytes : List ℕ) {header : Header} (read : readOf bytes ≡ value hea
 
   -- and the header is the one that the bytes hold
   pub read-header : header ≡ headerOf bytes
-  unfolding readOf
+  unfolding readRecordOf
   read-header = sym (first-value (recordChecks bytes) (headerOf bytes) read)
 
 -- an accepted record is read
-pub accepted-reads : (bytes : List ℕ) → Accepted bytes → readOf bytes ≡ value (headerOf bytes)
-unfolding readOf
+pub accepted-reads : (bytes : List ℕ) → Accepted bytes → readRecordOf bytes ≡ value (headerOf bytes)
+unfolding readRecordOf
 accepted-reads bytes a =
     first-accepts (recordChecks bytes) (value (headerOf bytes)) (
       le-ltb (length bytes) 6 (a .long),

@@ -9,7 +9,7 @@ use lib.Ieee.{binary32, ofBits, add, sub, mul, div, lt, ofInt}
 use Rattle.error.specs.Answer.{value, refused, place}
 use Rattle.digits.specs.Digits.{number, digits}
 use Rattle.float.specs.Bytes.{ofLeBytes}
-use Rattle.bitpack.specs.Padding.{padded}
+use Rattle.bitpack.specs.Padding.{badPadding}
 use Rattle.radius.specs.Chunks.{chunks}
 use Rattle.radius.specs.Radii.{zeroFloat, oneFloat}
 use Rattle.radius.specs.Linear.{restored, linearRadius}
@@ -17,14 +17,14 @@ use Rattle.radius.specs.declared.RadiusCodecProfileV1.the-variants.{F32}
 use Rattle.setup.specs.declared.TurboMode.the-variants.{PolarOnly, PolarWithQjl}
 use Rattle.packed.specs.Fields.{boundsOf, projectionsOf}
 use Rattle.packed.specs.Layout.{radiiBytes, indicesBytes, signsBytes, headerOf}
-use Rattle.packed.specs.Reading.{radiiOf, indicesOf, signsOf, readOf}
+use Rattle.packed.specs.Reading.{radiiOf, indicesOf, signsOf, readRecordOf}
 
 -- 'n 2, 1 bit, radius 1.0, index 1: 00 02 00 00 00 01 00 00 80 3F 01.'
 abbrev pub bytes12 : List ℕ
 bytes12 = 0x00 ∷ 0x02 ∷ 0x00 ∷ 0x00 ∷ 0x00 ∷ 0x01 ∷ 0x00 ∷ 0x00 ∷ 0x80 ∷ 0x3F ∷ 0x01 ∷ []
 
-pub p12 : readOf bytes12 ≡ value (record { mode = PolarOnly; profile = F32; dim = 2; bits = 1; projections = 0; range = record { min = zeroFloat; max = zeroFloat }; radii = 6; indices = 10; signs = 11; end = 11 })
-unfolding readOf headerOf radiiOf radiiBytes indicesBytes signsBytes boundsOf projectionsOf number ones onesIn place chunks ofLeBytes ofBits lt padded
+pub p12 : readRecordOf bytes12 ≡ value (record { mode = PolarOnly; profile = F32; dim = 2; bits = 1; projections = 0; range = record { min = zeroFloat; max = zeroFloat }; radii = 6; indices = 10; signs = 11; end = 11 })
+unfolding readRecordOf headerOf radiiOf radiiBytes indicesBytes signsBytes boundsOf projectionsOf number ones onesIn place chunks ofLeBytes ofBits lt badPadding
 p12 = refl
 
 pub p12-radii : radiiOf bytes12 ≡ oneFloat ∷ []
@@ -43,8 +43,8 @@ p12-signs = refl
 abbrev pub bytes13 : List ℕ
 bytes13 = 0x02 ∷ 0x02 ∷ 0x00 ∷ 0x00 ∷ 0x00 ∷ 0x01 ∷ 0x03 ∷ 0x00 ∷ 0x00 ∷ 0x00 ∷ 0x00 ∷ 0x00 ∷ 0x80 ∷ 0x3F ∷ 0x01 ∷ 0x05 ∷ []
 
-pub p13 : readOf bytes13 ≡ value (record { mode = PolarWithQjl; profile = F32; dim = 2; bits = 1; projections = 3; range = record { min = zeroFloat; max = zeroFloat }; radii = 10; indices = 14; signs = 15; end = 16 })
-unfolding readOf headerOf radiiOf radiiBytes indicesBytes signsBytes boundsOf projectionsOf number ones onesIn place chunks ofLeBytes ofBits lt padded
+pub p13 : readRecordOf bytes13 ≡ value (record { mode = PolarWithQjl; profile = F32; dim = 2; bits = 1; projections = 3; range = record { min = zeroFloat; max = zeroFloat }; radii = 10; indices = 14; signs = 15; end = 16 })
+unfolding readRecordOf headerOf radiiOf radiiBytes indicesBytes signsBytes boundsOf projectionsOf number ones onesIn place chunks ofLeBytes ofBits lt badPadding
 p13 = refl
 
 pub p13-radii : radiiOf bytes13 ≡ oneFloat ∷ []
@@ -65,8 +65,8 @@ abbrev linear : List ℕ → List ℕ
 linear rest = 0x01 ∷ 0x02 ∷ 0x00 ∷ 0x00 ∷ 0x00 ∷ 0x01 ∷ rest
 
 -- 'min 1.5 × 2^104, max the largest f32, value 65,535': 16
-pub infinite-radius : readOf (linear (0x00 ∷ 0x00 ∷ 0xC0 ∷ 0x73 ∷ 0xFF ∷ 0xFF ∷ 0x7F ∷ 0x7F ∷ 0xFF ∷ 0xFF ∷ 0x01 ∷ [])) ≡ refused 16 0
-unfolding readOf radiiOf radiiBytes boundsOf projectionsOf number ones onesIn place chunks ofLeBytes ofBits lt restored linearRadius add sub mul div ofInt
+pub infinite-radius : readRecordOf (linear (0x00 ∷ 0x00 ∷ 0xC0 ∷ 0x73 ∷ 0xFF ∷ 0xFF ∷ 0x7F ∷ 0x7F ∷ 0xFF ∷ 0xFF ∷ 0x01 ∷ [])) ≡ refused 16 0
+unfolding readRecordOf radiiOf radiiBytes boundsOf projectionsOf number ones onesIn place chunks ofLeBytes ofBits lt restored linearRadius add sub mul div ofInt
 infinite-radius = refl
 
 -- the value 0 of the same range is fine
@@ -75,62 +75,62 @@ unfolding radiiOf radiiBytes boundsOf number chunks ofLeBytes ofBits restored li
 finite-radius = refl
 
 -- 'min above max': from 1 to 0
-pub wrong-order : readOf (linear (0x00 ∷ 0x00 ∷ 0x80 ∷ 0x3F ∷ 0x00 ∷ 0x00 ∷ 0x00 ∷ 0x00 ∷ 0x00 ∷ 0x00 ∷ 0x01 ∷ [])) ≡ refused 17 0
-unfolding readOf boundsOf projectionsOf number ones onesIn ofLeBytes ofBits lt
+pub wrong-order : readRecordOf (linear (0x00 ∷ 0x00 ∷ 0x80 ∷ 0x3F ∷ 0x00 ∷ 0x00 ∷ 0x00 ∷ 0x00 ∷ 0x00 ∷ 0x00 ∷ 0x01 ∷ [])) ≡ refused 17 0
+unfolding readRecordOf boundsOf projectionsOf number ones onesIn ofLeBytes ofBits lt
 wrong-order = refl
 
 -- 'below zero': from −1 to 0; `PackedPolarCode::unpack` admits it
-pub negative-bound : readOf (linear (0x00 ∷ 0x00 ∷ 0x80 ∷ 0xBF ∷ 0x00 ∷ 0x00 ∷ 0x00 ∷ 0x00 ∷ 0x00 ∷ 0x00 ∷ 0x01 ∷ [])) ≡ refused 17 0
-unfolding readOf boundsOf projectionsOf number ones onesIn ofLeBytes ofBits lt
+pub negative-bound : readRecordOf (linear (0x00 ∷ 0x00 ∷ 0x80 ∷ 0xBF ∷ 0x00 ∷ 0x00 ∷ 0x00 ∷ 0x00 ∷ 0x00 ∷ 0x00 ∷ 0x01 ∷ [])) ≡ refused 17 0
+unfolding readRecordOf boundsOf projectionsOf number ones onesIn ofLeBytes ofBits lt
 negative-bound = refl
 
 -- 13 comes before 17: the same range, one byte short
-pub length-first : readOf (linear (0x00 ∷ 0x00 ∷ 0x80 ∷ 0xBF ∷ 0x00 ∷ 0x00 ∷ 0x00 ∷ 0x00 ∷ 0x00 ∷ 0x00 ∷ [])) ≡ refused 13 16
-unfolding readOf boundsOf projectionsOf number ones onesIn
+pub length-first : readRecordOf (linear (0x00 ∷ 0x00 ∷ 0x80 ∷ 0xBF ∷ 0x00 ∷ 0x00 ∷ 0x00 ∷ 0x00 ∷ 0x00 ∷ 0x00 ∷ [])) ≡ refused 13 16
+unfolding readRecordOf boundsOf projectionsOf number ones onesIn
 length-first = refl
 
 -- ---- the other refusals, in their order
 
-pub empty : readOf [] ≡ refused 13 0
-unfolding readOf
+pub empty : readRecordOf [] ≡ refused 13 0
+unfolding readRecordOf
 empty = refl
 
-pub map-bit-2 : readOf (0x04 ∷ 0x00 ∷ 0x00 ∷ 0x00 ∷ 0x00 ∷ 0x00 ∷ []) ≡ refused 18 4
-unfolding readOf
+pub map-bit-2 : readRecordOf (0x04 ∷ 0x00 ∷ 0x00 ∷ 0x00 ∷ 0x00 ∷ 0x00 ∷ []) ≡ refused 18 4
+unfolding readRecordOf
 map-bit-2 = refl
 
-pub dimension-0 : readOf (0x00 ∷ 0x00 ∷ 0x00 ∷ 0x00 ∷ 0x00 ∷ 0x00 ∷ []) ≡ refused 2 0
-unfolding readOf number
+pub dimension-0 : readRecordOf (0x00 ∷ 0x00 ∷ 0x00 ∷ 0x00 ∷ 0x00 ∷ 0x00 ∷ []) ≡ refused 2 0
+unfolding readRecordOf number
 dimension-0 = refl
 
-pub dimension-3 : readOf (0x00 ∷ 0x03 ∷ 0x00 ∷ 0x00 ∷ 0x00 ∷ 0x00 ∷ []) ≡ refused 3 3
-unfolding readOf number
+pub dimension-3 : readRecordOf (0x00 ∷ 0x03 ∷ 0x00 ∷ 0x00 ∷ 0x00 ∷ 0x00 ∷ []) ≡ refused 3 3
+unfolding readRecordOf number
 dimension-3 = refl
 
-pub dimension-6 : readOf (0x00 ∷ 0x06 ∷ 0x00 ∷ 0x00 ∷ 0x00 ∷ 0x00 ∷ []) ≡ refused 4 6
-unfolding readOf number ones onesIn
+pub dimension-6 : readRecordOf (0x00 ∷ 0x06 ∷ 0x00 ∷ 0x00 ∷ 0x00 ∷ 0x00 ∷ []) ≡ refused 4 6
+unfolding readRecordOf number ones onesIn
 dimension-6 = refl
 
 -- '16 is refused beside bit 1'
-pub bits-16 : readOf (0x02 ∷ 0x02 ∷ 0x00 ∷ 0x00 ∷ 0x00 ∷ 0x10 ∷ []) ≡ refused 1 16
-unfolding readOf number ones onesIn
+pub bits-16 : readRecordOf (0x02 ∷ 0x02 ∷ 0x00 ∷ 0x00 ∷ 0x00 ∷ 0x10 ∷ []) ≡ refused 1 16
+unfolding readRecordOf number ones onesIn
 bits-16 = refl
 
 -- 'header cut short'
-pub header-cut : readOf (0x02 ∷ 0x02 ∷ 0x00 ∷ 0x00 ∷ 0x00 ∷ 0x0F ∷ 0x00 ∷ 0x00 ∷ 0x00 ∷ []) ≡ refused 13 9
-unfolding readOf number ones onesIn
+pub header-cut : readRecordOf (0x02 ∷ 0x02 ∷ 0x00 ∷ 0x00 ∷ 0x00 ∷ 0x0F ∷ 0x00 ∷ 0x00 ∷ 0x00 ∷ []) ≡ refused 13 9
+unfolding readRecordOf number ones onesIn
 header-cut = refl
 
-pub projections-0 : readOf (0x02 ∷ 0x02 ∷ 0x00 ∷ 0x00 ∷ 0x00 ∷ 0x0F ∷ 0x00 ∷ 0x00 ∷ 0x00 ∷ 0x00 ∷ []) ≡ refused 8 0
-unfolding readOf number ones onesIn projectionsOf
+pub projections-0 : readRecordOf (0x02 ∷ 0x02 ∷ 0x00 ∷ 0x00 ∷ 0x00 ∷ 0x0F ∷ 0x00 ∷ 0x00 ∷ 0x00 ∷ 0x00 ∷ []) ≡ refused 8 0
+unfolding readRecordOf number ones onesIn projectionsOf
 projections-0 = refl
 
 -- P12 with a padding bit: its place is the byte's index in its payload, not in the record
-pub padding-indices : readOf (0x00 ∷ 0x02 ∷ 0x00 ∷ 0x00 ∷ 0x00 ∷ 0x01 ∷ 0x00 ∷ 0x00 ∷ 0x80 ∷ 0x3F ∷ 0x03 ∷ []) ≡ refused 14 0
-unfolding readOf radiiOf radiiBytes indicesBytes boundsOf projectionsOf number ones onesIn place chunks ofLeBytes ofBits lt padded
+pub padding-indices : readRecordOf (0x00 ∷ 0x02 ∷ 0x00 ∷ 0x00 ∷ 0x00 ∷ 0x01 ∷ 0x00 ∷ 0x00 ∷ 0x80 ∷ 0x3F ∷ 0x03 ∷ []) ≡ refused 14 0
+unfolding readRecordOf radiiOf radiiBytes indicesBytes boundsOf projectionsOf number ones onesIn place chunks ofLeBytes ofBits lt badPadding
 padding-indices = refl
 
 -- P13 with one
-pub padding-signs : readOf (0x02 ∷ 0x02 ∷ 0x00 ∷ 0x00 ∷ 0x00 ∷ 0x01 ∷ 0x03 ∷ 0x00 ∷ 0x00 ∷ 0x00 ∷ 0x00 ∷ 0x00 ∷ 0x80 ∷ 0x3F ∷ 0x01 ∷ 0x0D ∷ []) ≡ refused 14 0
-unfolding readOf radiiOf radiiBytes indicesBytes signsBytes boundsOf projectionsOf number ones onesIn place chunks ofLeBytes ofBits lt padded
+pub padding-signs : readRecordOf (0x02 ∷ 0x02 ∷ 0x00 ∷ 0x00 ∷ 0x00 ∷ 0x01 ∷ 0x03 ∷ 0x00 ∷ 0x00 ∷ 0x00 ∷ 0x00 ∷ 0x00 ∷ 0x80 ∷ 0x3F ∷ 0x01 ∷ 0x0D ∷ []) ≡ refused 14 0
+unfolding readRecordOf radiiOf radiiBytes indicesBytes signsBytes boundsOf projectionsOf number ones onesIn place chunks ofLeBytes ofBits lt badPadding
 padding-signs = refl

@@ -16,11 +16,11 @@ use Rattle.radius.specs.declared.RadiusCodecProfileV1.{RadiusCodecProfileV1}
 use Rattle.radius.specs.declared.RadiusCodecProfileV1.the-variants.{F32, BlockLinearU16, BlockLogU8}
 use Rattle.setup.specs.declared.TurboMode.{TurboMode}
 use Rattle.setup.specs.declared.TurboMode.the-variants.{PolarOnly, PolarWithQjl}
-use Rattle.rotation.specs.Checks.{outsidePowers}
+use Rattle.rotation.specs.Checks.{badPower}
 use Rattle.setup.specs.Setups.{byMode}
 use Rattle.packed.specs.Fields.{mapOf, hasSigns, modeOf, wordAt, projectionsAt, dimOf, bitsOf, projectionsOf}
 use Rattle.packed.specs.Layout.{headerLength}
-use Rattle.packed.specs.Reading.{wrongSize, outsideBits, outsideProjections, shapeChecks, headerChecks}
+use Rattle.packed.specs.Reading.{wrongSize, badPolarBits, outsideProjections, shapeChecks, headerChecks}
 
 pub record Usable (bytes : List ℕ) : Type 0 where
   pub long : 6 ≤ length bytes
@@ -93,8 +93,8 @@ pub record Passed (bytes : List ℕ) : Type 0 where
   pub map : ltb 3 (mapOf bytes) ≡ false
   pub above : eqb (dimOf bytes) 0 ≡ false
   pub even : eqb (dimOf bytes % 2) 1 ≡ false
-  pub power : outsidePowers (dimOf bytes) ≡ false
-  pub bits : outsideBits (modeOf (mapOf bytes)) (bitsOf bytes) ≡ false
+  pub power : badPower (dimOf bytes) ≡ false
+  pub bits : badPolarBits (modeOf (mapOf bytes)) (bitsOf bytes) ≡ false
   pub header : ltb (length bytes) (headerLength (mapOf bytes)) ≡ false
 
 module _ {A : Type 0} (bytes : List ℕ) (a : Answer A) (p : Passed bytes) where

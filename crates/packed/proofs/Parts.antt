@@ -9,7 +9,7 @@ use Rattle.error.specs.Answer.{place}
 use Rattle.radius.specs.Codec.{widthOf, radiiFor}
 use Rattle.radius.specs.Radii.{badRadius}
 use Rattle.packed.specs.Fields.{mapOf, profileOf, boundsOf, projectionsOf}
-use Rattle.packed.specs.Radii.{wrongBounds}
+use Rattle.packed.specs.Radii.{badBoundsFor}
 use Rattle.packed.specs.Reading.{radiiOf}
 use Rattle.packed.specs.Layout.{pairsOf, indicesUsed, radiiAt, radiiLength, indicesAt, indicesLength, signsAt, signsLength, totalOf, partAt, radiiBytes, indicesBytes, signsBytes, headerOf}
 use Rattle.packed.specs.declared.Header.{Header}
@@ -77,9 +77,9 @@ module _ (bytes : List ℕ) {header : Header} (is : header ≡ headerOf bytes) w
   unfolding headerOf
   header-projections = ap (λ (h : Header). h .projections) is
 
-  pub header-bounds : wrongBounds (header .profile) (header .range) ≡ wrongBounds (profileOf (mapOf bytes)) (boundsOf bytes)
+  pub header-bounds : badBoundsFor (header .profile) (header .range) ≡ badBoundsFor (profileOf (mapOf bytes)) (boundsOf bytes)
   unfolding headerOf
-  header-bounds = ap (λ (h : Header). wrongBounds (h .profile) (h .range)) is
+  header-bounds = ap (λ (h : Header). badBoundsFor (h .profile) (h .range)) is
 
   pub header-width : widthOf (header .profile) * (header .dim / 2) ≡ radiiLength bytes
   unfolding headerOf

@@ -7,7 +7,7 @@ use native.Mathlib.Omega.{arith}
 use borrow.Author.Tests.{lt-ltb, le-ltb, eq-eqb, ne-eqb}
 use lib.ListN.{length}
 use Rattle.error.specs.Answer.{refused, place, first, accepted}
-use Rattle.bitpack.specs.Padding.{bytesFor, wrongPadding, paddingOf}
+use Rattle.bitpack.specs.Padding.{bytesFor, wrongPadding, validatePaddingZeroOf}
 use Rattle.error.proofs.Chains.{append-refused, append-passed}
 use Rattle.radius.specs.Codec.{widthOf, radiiFor}
 use Rattle.radius.specs.declared.Range.{Range}
@@ -17,7 +17,7 @@ use Rattle.radius.proofs.Chunks.{chunks-length}
 use Rattle.radius.specs.Radii.{badRadius}
 use Rattle.packed.specs.Fields.{mapOf, hasRange, profileOf, boundsOf, projectionsOf}
 use Rattle.packed.specs.Layout.{pairsOf, indicesUsed, totalOf, radiiBytes, indicesBytes, signsBytes}
-use Rattle.packed.specs.Radii.{wrongBounds, firstBad}
+use Rattle.packed.specs.Radii.{badBoundsFor, firstBad}
 use Rattle.packed.specs.Reading.{radiiOf, payloadChecks}
 use Rattle.packed.proofs.Parts.{length-indices, length-signs}
 use mathlib.Core.Bool.{Bool, cond}
@@ -44,8 +44,8 @@ unfolding firstBad
 first-bad-whole profile range payload count h = ap (λ (n : ℕ). place badRadius (radiiFor profile n range payload)) (whole-count profile (length payload) count h)
 
 -- of a payload of the right length only the padding is left to say
-pub padding-only : (packed : List ℕ) (used : ℕ) → length packed ≡ bytesFor used → paddingOf packed used ≡ first (wrongPadding packed used ∷ []) accepted
-unfolding paddingOf
+pub padding-only : (packed : List ℕ) (used : ℕ) → length packed ≡ bytesFor used → validatePaddingZeroOf packed used ≡ first (wrongPadding packed used ∷ []) accepted
+unfolding validatePaddingZeroOf
 padding-only packed used h = simp (eq-eqb _ _ h)
 
 module _ (bytes : List ℕ) where
@@ -53,10 +53,10 @@ module _ (bytes : List ℕ) where
   payload-size h = simp (ne-eqb _ _ h)
 
   module _ (sized : length bytes ≡ totalOf bytes) where
-    pub payload-bounds : wrongBounds (profileOf (mapOf bytes)) (boundsOf bytes) ≡ true → first (payloadChecks bytes) accepted ≡ refused 17 0
+    pub payload-bounds : badBoundsFor (profileOf (mapOf bytes)) (boundsOf bytes) ≡ true → first (payloadChecks bytes) accepted ≡ refused 17 0
     payload-bounds h = simp (eq-eqb _ _ sized, h)
 
-    module _ (bounds : wrongBounds (profileOf (mapOf bytes)) (boundsOf bytes) ≡ false) {bad : ℕ} (found : bad ≡ place badRadius (radiiOf bytes)) where
+    module _ (bounds : badBoundsFor (profileOf (mapOf bytes)) (boundsOf bytes) ≡ false) {bad : ℕ} (found : bad ≡ place badRadius (radiiOf bytes)) where
       pub payload-radius : bad < pairsOf bytes → first (payloadChecks bytes) accepted ≡ refused 16 bad
       payload-radius h = rw (eq-eqb _ _ sized, bounds, ← found, length-radiiOf, lt-ltb _ _ h)
 
@@ -64,13 +64,13 @@ module _ (bytes : List ℕ) where
         rest : first (payloadChecks bytes) accepted ≡ first (wrongPadding (indicesBytes bytes) (indicesUsed bytes) ∷ wrongPadding (signsBytes bytes) (projectionsOf bytes) ∷ []) accepted
         rest = rw (eq-eqb _ _ sized, bounds, ← found, length-radiiOf, le-ltb _ _ all)
 
-        pub payload-indices : {n p : ℕ} → paddingOf (indicesBytes bytes) (indicesUsed bytes) ≡ refused n p → first (payloadChecks bytes) accepted ≡ refused n p
+        pub payload-indices : {n p : ℕ} → validatePaddingZeroOf (indicesBytes bytes) (indicesUsed bytes) ≡ refused n p → first (payloadChecks bytes) accepted ≡ refused n p
         payload-indices e =
             rest
             ∙ append-refused (wrongPadding (indicesBytes bytes) (indicesUsed bytes) ∷ []) (wrongPadding (signsBytes bytes) (projectionsOf bytes) ∷ []) tt accepted
             (sym (padding-only (indicesBytes bytes) (indicesUsed bytes) (length-indices bytes sized)) ∙ e)
 
-        pub payload-signs : paddingOf (indicesBytes bytes) (indicesUsed bytes) ≡ accepted → first (payloadChecks bytes) accepted ≡ paddingOf (signsBytes bytes) (projectionsOf bytes)
+        pub payload-signs : validatePaddingZeroOf (indicesBytes bytes) (indicesUsed bytes) ≡ accepted → first (payloadChecks bytes) accepted ≡ validatePaddingZeroOf (signsBytes bytes) (projectionsOf bytes)
         payload-signs e =
             rest
             ∙ append-passed (wrongPadding (indicesBytes bytes) (indicesUsed bytes) ∷ []) (wrongPadding (signsBytes bytes) (projectionsOf bytes) ∷ []) tt accepted

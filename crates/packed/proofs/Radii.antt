@@ -16,7 +16,7 @@ use lib.Ieee.Fits.{add-fits}
 use Rattle.float.specs.Bytes.{ofLeBytes}
 use Rattle.digits.specs.Digits.{number, digits}
 use Rattle.digits.proofs.Laws.{Below, length-digits, digits-below}
-use Rattle.bitpack.specs.Signs.{signOf, notSign}
+use Rattle.bitpack.specs.Signs.{signOfBit, badSketchSign}
 use Rattle.radius.specs.Radii.{zeroFloat}
 use Rattle.radius.proofs.Radii.{radius-finite, radius-not-nan, radius-not-below}
 use Rattle.radius.specs.Codec.{radiiFor}
@@ -65,21 +65,21 @@ indices-below bytes = digits-below (2 ^ bitsOf bytes) (pairsOf bytes) (number 25
 
 pub length-signsOf : (bytes : List ℕ) → length (signsOf bytes) ≡ projectionsOf bytes
 unfolding signsOf
-length-signsOf bytes = length-map (digits 2 (projectionsOf bytes) (number 256 (signsBytes bytes))) signOf ∙ length-digits 2 (projectionsOf bytes) (number 256 (signsBytes bytes))
+length-signsOf bytes = length-map (digits 2 (projectionsOf bytes) (number 256 (signsBytes bytes))) signOfBit ∙ length-digits 2 (projectionsOf bytes) (number 256 (signsBytes bytes))
 
-sign-good : (b : ℕ) → notSign (signOf b) ≡ false
+sign-good : (b : ℕ) → badSketchSign (signOfBit b) ≡ false
 sign-good b = by (eqb b 1)
   where
-    by : (t : Bool) → notSign (cond t (pos 1) (negsuc 0)) ≡ false
+    by : (t : Bool) → badSketchSign (cond t (pos 1) (negsuc 0)) ≡ false
     by true = refl
     by false = refl
 
-each-good : (bits : List ℕ) (i : ℕ) → i < length (map signOf bits) → notSign (getD (map signOf bits) i (pos 0)) ≡ false
+each-good : (bits : List ℕ) (i : ℕ) → i < length (map signOfBit bits) → badSketchSign (getD (map signOfBit bits) i (pos 0)) ≡ false
 each-good [] i h = absurd (not-suc-le-zero h)
 each-good (b ∷ bs) zero h = sign-good b
 each-good (b ∷ bs) (suc i) h = each-good bs i (le-of-suc-le-suc h)
 
 -- every sign is −1 or 1
-pub signs-good : (bytes : List ℕ) (i : ℕ) → i < length (signsOf bytes) → notSign (getD (signsOf bytes) i (pos 0)) ≡ false
+pub signs-good : (bytes : List ℕ) (i : ℕ) → i < length (signsOf bytes) → badSketchSign (getD (signsOf bytes) i (pos 0)) ≡ false
 unfolding signsOf
 signs-good bytes i h = each-good (digits 2 (projectionsOf bytes) (number 256 (signsBytes bytes))) i h

@@ -6,7 +6,7 @@ use mathlib.Core.List.{List}
 use lib.Count.{ones}
 use lib.ListN.{length, getD}
 use lib.Ieee.{nan}
-use Rattle.bitpack.specs.Padding.{padded}
+use Rattle.bitpack.specs.Padding.{badPadding}
 use Rattle.radius.specs.Radii.{badRadius}
 use Rattle.packed.specs.Fields.{mapOf, hasRange, hasSigns, dimOf, bitsOf, boundsOf, projectionsOf}
 use Rattle.packed.specs.Layout.{headerLength, indicesUsed, totalOf, indicesBytes, signsBytes}
@@ -40,5 +40,5 @@ pub record Accepted (bytes : List ℕ) : Type 0 where
   -- '16: a radius is NaN, infinite or below zero', as it is read
   pub radii : (i : ℕ) → i < length (radiiOf bytes) → badRadius (getD (radiiOf bytes) i nan) ≡ false
   -- '14 for indices; 14 for signs'
-  pub indices : padded (indicesBytes bytes) (indicesUsed bytes) ≡ false
-  pub signs : padded (signsBytes bytes) (projectionsOf bytes) ≡ false
+  pub indices : badPadding (indicesBytes bytes) (indicesUsed bytes) ≡ false
+  pub signs : badPadding (signsBytes bytes) (projectionsOf bytes) ≡ false

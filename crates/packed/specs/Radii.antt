@@ -17,10 +17,10 @@ abbrev pub badBounds : Range → Bool
 badBounds range = badRadius (range .min) || badRadius (range .max) || lt (range .max) (range .min)
 
 -- the range of linear radii; F32 radii have none
-abbrev pub wrongBounds : RadiusCodecProfileV1 → Range → Bool
-wrongBounds F32 range = false
-wrongBounds BlockLinearU16 range = badBounds range
-wrongBounds BlockLogU8 range = false
+abbrev pub badBoundsFor : RadiusCodecProfileV1 → Range → Bool
+badBoundsFor F32 range = false
+badBoundsFor BlockLinearU16 range = badBounds range
+badBoundsFor BlockLogU8 range = false
 
 -- the place of the first radius that is refused, of as many as the payload holds whole, or how many these are
 unfoldable pub firstBad : RadiusCodecProfileV1 → Range → List ℕ → ℕ

@@ -8,19 +8,19 @@ use lib.Dec.{ltb, eqb}
 use lib.IntN.{ℤ}
 use lib.ListN.{length}
 use lib.Ieee.{Float}
-use Rattle.error.specs.Answer.{Answer, value, refused, Check, check, first, each, accepted}
+use Rattle.error.specs.Answer.{Answer, value, refused, Check, check, first, each}
 use Rattle.digits.specs.Digits.{number, digits}
 use Rattle.bitpack.specs.Padding.{wrongPadding}
 use Rattle.error.specs.Checks.{differs, wrongRoom}
-use Rattle.bitpack.specs.Signs.{signOf}
+use Rattle.bitpack.specs.Signs.{signOfBit}
 use Rattle.radius.specs.Codec.{radiiFor}
 use Rattle.radius.specs.Radii.{badRadius}
-use Rattle.rotation.specs.Checks.{zeroDimension, oddDimension, noPower}
+use Rattle.rotation.specs.Checks.{wrongZeroDimension, wrongOddDimension, wrongPower}
 use Rattle.setup.specs.declared.TurboMode.{TurboMode}
 use Rattle.setup.specs.Setups.{byMode}
 use Rattle.packed.specs.Fields.{mapOf, profileOf, modeOf, dimOf, bitsOf, boundsOf, projectionsOf}
 use Rattle.packed.specs.Layout.{headerLength, pairsOf, indicesUsed, totalOf, radiiBytes, indicesBytes, signsBytes, headerOf}
-use Rattle.packed.specs.Radii.{wrongBounds}
+use Rattle.packed.specs.Radii.{badBoundsFor}
 use Rattle.packed.specs.declared.Header.{Header}
 use Rattle.packed.specs.declared.Reading.{Reading}
 use Rattle.packed.specs.declared.Reading.the-variants.{Read, Refused}
@@ -40,7 +40,7 @@ unfoldable pub indicesOf : List ℕ → List ℕ
 indicesOf bytes = digits (2 ^ bitsOf bytes) (pairsOf bytes) (number 256 (indicesBytes bytes))
 
 unfoldable pub signsOf : List ℕ → List ℤ
-signsOf bytes = map signOf (digits 2 (projectionsOf bytes) (number 256 (signsBytes bytes)))
+signsOf bytes = map signOfBit (digits 2 (projectionsOf bytes) (number 256 (signsBytes bytes)))
 
 -- ---- the checks
 
@@ -53,8 +53,8 @@ abbrev pub wrongMap : List ℕ → Check
 wrongMap bytes = check (ltb 3 (mapOf bytes)) 18 (mapOf bytes)
 
 -- 'bits outside 1..16', '16 is refused beside bit 1'
-abbrev pub outsideBits : TurboMode → ℕ → Bool
-outsideBits mode bits = ltb bits 1 || ltb (byMode mode 16 15) bits
+abbrev pub badPolarBits : TurboMode → ℕ → Bool
+badPolarBits mode bits = ltb bits 1 || ltb (byMode mode 16 15) bits
 
 -- '8: in residual mode, projections 0 or above 4,096.'
 abbrev pub outsideProjections : TurboMode → ℕ → Bool
@@ -62,7 +62,7 @@ outsideProjections mode m = byMode mode false (eqb m 0 || ltb 4096 m)
 
 -- '2; 3; 4; 1', in reading and in writing
 abbrev pub shapeChecks : TurboMode → ℕ → ℕ → List Check
-shapeChecks mode dim bits = zeroDimension dim ∷ oddDimension dim ∷ noPower dim ∷ check (outsideBits mode bits) 1 bits ∷ []
+shapeChecks mode dim bits = wrongZeroDimension dim ∷ wrongOddDimension dim ∷ wrongPower dim ∷ check (badPolarBits mode bits) 1 bits ∷ []
 
 -- the checks of the header up to its projections
 abbrev pub headerChecks : List ℕ → List Check
@@ -79,7 +79,7 @@ headerChecks bytes =
 abbrev pub payloadChecks : List ℕ → List Check
 payloadChecks bytes =
     wrongSize (differs (length bytes) (totalOf bytes)) bytes
-    ∷ check (wrongBounds (profileOf (mapOf bytes)) (boundsOf bytes)) 17 0
+    ∷ check (badBoundsFor (profileOf (mapOf bytes)) (boundsOf bytes)) 17 0
     ∷ each badRadius 16 (radiiOf bytes)
     ∷ wrongPadding (indicesBytes bytes) (indicesUsed bytes)
     ∷ wrongPadding (signsBytes bytes) (projectionsOf bytes)
@@ -89,8 +89,8 @@ abbrev pub recordChecks : List ℕ → List Check
 recordChecks bytes = headerChecks bytes ++ payloadChecks bytes
 
 -- the reader's answer
-unfoldable pub readOf : List ℕ → Answer Header
-readOf bytes = first (recordChecks bytes) (value (headerOf bytes))
+unfoldable pub readRecordOf : List ℕ → Answer Header
+readRecordOf bytes = first (recordChecks bytes) (value (headerOf bytes))
 
 -- ---- 'The reader hands back each payload as a part of the record's own bytes.'
 
@@ -99,26 +99,26 @@ abbrev pub partWhere : Answer Header → List ℕ → List ℕ
 partWhere (value header) part = part
 partWhere (refused n p) part = []
 
-unfoldable pub radiiPart : List ℕ → List ℕ
-radiiPart bytes = partWhere (readOf bytes) (radiiBytes bytes)
+unfoldable pub radiiPartOf : List ℕ → List ℕ
+radiiPartOf bytes = partWhere (readRecordOf bytes) (radiiBytes bytes)
 
-unfoldable pub indicesPart : List ℕ → List ℕ
-indicesPart bytes = partWhere (readOf bytes) (indicesBytes bytes)
+unfoldable pub indicesPartOf : List ℕ → List ℕ
+indicesPartOf bytes = partWhere (readRecordOf bytes) (indicesBytes bytes)
 
 -- '.. or for signs that aren't there, the part is empty': no projections take no byte
-unfoldable pub signsPart : List ℕ → List ℕ
-signsPart bytes = partWhere (readOf bytes) (signsBytes bytes)
+unfoldable pub signsPartOf : List ℕ → List ℕ
+signsPartOf bytes = partWhere (readRecordOf bytes) (signsBytes bytes)
 
 -- ---- the values in lent memory: the reader's refusals, then 6
 
 abbrev pub fillOf : {A : Type 0} → List ℕ → ℕ → ℕ → A → Answer A
 fillOf bytes needed room x = first (recordChecks bytes ++ (wrongRoom room needed ∷ [])) (value x)
 
-unfoldable pub radiiReadOf : List ℕ → ℕ → Answer (List Float)
-radiiReadOf bytes room = fillOf bytes (pairsOf bytes) room (radiiOf bytes)
+unfoldable pub readRadiiOf : List ℕ → ℕ → Answer (List Float)
+readRadiiOf bytes room = fillOf bytes (pairsOf bytes) room (radiiOf bytes)
 
-unfoldable pub indicesReadOf : List ℕ → ℕ → Answer (List ℕ)
-indicesReadOf bytes room = fillOf bytes (pairsOf bytes) room (indicesOf bytes)
+unfoldable pub readIndicesOf : List ℕ → ℕ → Answer (List ℕ)
+readIndicesOf bytes room = fillOf bytes (pairsOf bytes) room (indicesOf bytes)
 
-unfoldable pub signsReadOf : List ℕ → ℕ → Answer (List ℤ)
-signsReadOf bytes room = fillOf bytes (projectionsOf bytes) room (signsOf bytes)
+unfoldable pub readSignsOf : List ℕ → ℕ → Answer (List ℤ)
+readSignsOf bytes room = fillOf bytes (projectionsOf bytes) room (signsOf bytes)

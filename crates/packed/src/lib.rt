@@ -26,8 +26,8 @@ ghost use Rattle.radius.specs.Linear.{linearRadius};
 ghost use Rattle.radius.specs.Radii.{badRadius};
 ghost use Rattle.packed.specs.Fields.{mapOf, profileOf, modeOf, wordAt, floatAt, boundsOf, projectionsOf};
 ghost use Rattle.packed.specs.Layout.{headerLength, headerOf};
-ghost use Rattle.packed.specs.Radii.{badBounds, wrongBounds, firstBad};
-ghost use Rattle.packed.specs.Reading.{saysReading, outsideBits, outsideProjections, shapeChecks, headerChecks, payloadChecks, readOf};
+ghost use Rattle.packed.specs.Radii.{badBounds, badBoundsFor, firstBad};
+ghost use Rattle.packed.specs.Reading.{saysReading, badPolarBits, outsideProjections, shapeChecks, headerChecks, payloadChecks, readRecordOf};
 
 // What a record says before its payloads, and where these stand: each from its own field to the next one, the signs to `end`.
 pub struct Header {
@@ -51,7 +51,7 @@ pub enum Reading {
 
 // Reads a record: its header, where nothing offends.
 pub fn read_record(bytes: &[u8]) -> Reading
-    ensures { λ r. ⌜ saysReading r ≡ readOf (now (bytes .entry)) ⌝ }
+    ensures { λ r. ⌜ saysReading r ≡ readRecordOf (now (bytes .entry)) ⌝ }
 {
     if let Outcome::Refused { number, place } = check_header(bytes) {
         return Reading::Refused { number, place };
@@ -336,7 +336,7 @@ fn projections_of(bytes: &[u8]) -> usize
 
 // Whether polar bits are outside 1..16, or 16 beside signs.
 fn outside_bits(mode: TurboMode, bits: u8) -> bool
-    ensures { λ r. ⌜ r ≡ outsideBits mode bits ⌝ }
+    ensures { λ r. ⌜ r ≡ badPolarBits mode bits ⌝ }
 {
     if bits < 1 {
         return true;
@@ -349,7 +349,7 @@ fn outside_bits(mode: TurboMode, bits: u8) -> bool
 
 // Whether linear radii have a range that is refused.
 fn wrong_bounds(profile: RadiusCodecProfileV1, range: Range) -> bool
-    ensures { λ r. ⌜ r ≡ wrongBounds profile range ⌝ }
+    ensures { λ r. ⌜ r ≡ badBoundsFor profile range ⌝ }
 {
     match profile {
         RadiusCodecProfileV1::F32 => false,

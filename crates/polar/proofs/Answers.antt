@@ -6,16 +6,16 @@ use borrow.Author.Tests.{eq-eqb, ne-eqb}
 use lib.ListN.{length}
 use lib.Ieee.{Float}
 use Rattle.error.specs.Answer.{value, refused}
-use Rattle.polar.specs.Polar.{along, across, pairs, decodedPairs, pairsOf}
+use Rattle.polar.specs.Polar.{along, across, pairs, decodedPairs, polarPairsOf}
 use Rattle.polar.proofs.Loops.{laid-length, from-length}
 
 module _ (directions : List Float) (indices : List ℕ) (radii : List Float) (room : ℕ) where
-  pub pairs-refused : (room ≡ 2 * length radii → ⊥) → pairsOf directions indices radii room ≡ refused 6 (2 * length radii)
-  unfolding pairsOf
+  pub pairs-refused : (room ≡ 2 * length radii → ⊥) → polarPairsOf directions indices radii room ≡ refused 6 (2 * length radii)
+  unfolding polarPairsOf
   pairs-refused h = rw (ne-eqb room (2 * length radii) h)
 
-  pub pairs-value : room ≡ 2 * length radii → pairsOf directions indices radii room ≡ value (decodedPairs directions indices radii)
-  unfolding pairsOf
+  pub pairs-value : room ≡ 2 * length radii → polarPairsOf directions indices radii room ≡ value (decodedPairs directions indices radii)
+  unfolding polarPairsOf
   pairs-value h = rw (eq-eqb room (2 * length radii) h)
 
 -- two floats for each radius

@@ -13,7 +13,7 @@ use Rattle.rounding.specs.Value.{unit, mag}
 use Rattle.rounding.specs.Close.{Close}
 use Rattle.rounding.specs.Sums.{AllFit, AllClose}
 use Rattle.rounding.proofs.Calculus.{close-weaken}
-use Rattle.polar.specs.Polar.{at, directionAt, cosine, sine, polarSum}
+use Rattle.polar.specs.Polar.{valueAt, directionAt, cosine, sine, polarSumOf}
 use Rattle.polar.specs.Exact.{exactPolar, sizeTerm, polarSize, errorTerm, polarError, directionTerm, directionSum, radiusSum}
 use Rattle.polar.proofs.Tables.{table-times, table-most}
 use Rattle.polar.proofs.Errors.{close-polar}
@@ -38,29 +38,29 @@ one-error s u r c d x y p q v w =
     let both : c * x + s * u + (d * y + s * u) ≤ 4 * (s * u) = omega (arith, left, right) in
     omega (arith, mul-le-mul-left r both)
 
-pub polar-error-most : (s : ℕ) (rs : List ℕ) (directions : List Float) (indices : List ℕ) (radii : List Float) → ((j : ℕ) → mag (at directions j) ≤ unit)
+pub polar-error-most : (s : ℕ) (rs : List ℕ) (directions : List Float) (indices : List ℕ) (radii : List Float) → ((j : ℕ) → mag (valueAt directions j) ≤ unit)
     → ((j : ℕ) → j < 2 * length radii → getD rs j 0 ≤ s)
     → polarError s rs directions indices radii ≤ 4 * (s * unit) * radiusSum radii + length radii * (s * unit * unit)
 unfolding polarError errorTerm radiusSum
 polar-error-most s rs directions indices radii D R =
     table-most (λ i. errorTerm s rs directions indices radii i) (4 * (s * unit)) (s * unit * unit) 0 radii (λ i l. rw zero-add (pair i l))
   where
-    pair : (i : ℕ) → i < length radii → errorTerm s rs directions indices radii i ≤ 4 * (s * unit) * mag (at radii i) + s * unit * unit
+    pair : (i : ℕ) → i < length radii → errorTerm s rs directions indices radii i ≤ 4 * (s * unit) * mag (valueAt radii i) + s * unit * unit
     pair i l =
-        one-error s unit (mag (at radii i)) (mag (cosine directions indices i)) (mag (sine directions indices i)) (getD rs (2 * i) 0) (getD rs (2 * i + 1) 0)
+        one-error s unit (mag (valueAt radii i)) (mag (cosine directions indices i)) (mag (sine directions indices i)) (getD rs (2 * i) 0) (getD rs (2 * i + 1) 0)
         (D (directionAt indices i)) (D (directionAt indices i + 1)) (R (2 * i) (omega arith)) (R (2 * i + 1) (omega arith))
 
 -- ---- both at once
-module _ {k b : ℕ} {rs bs : List ℕ} {rotated : List Float} {xs : List Diff} (directions : List Float) (indices : List ℕ) (radii : List Float) (table : AllFit directions) (read : AllFit radii) (small : (j : ℕ) → mag (at directions j) ≤ unit) where
+module _ {k b : ℕ} {rs bs : List ℕ} {rotated : List Float} {xs : List Diff} (directions : List Float) (indices : List ℕ) (radii : List Float) (table : AllFit directions) (read : AllFit radii) (small : (j : ℕ) → mag (valueAt directions j) ≤ unit) where
   -- over any rotation whose entries have an error of at most s, which is 2 ^ -149, and one size b
   pub close-polar-even : {s : ℕ} → k + 3 + length radii ≤ 2 ^ 23 → ((j : ℕ) → j < 2 * length radii → getD rs j 0 ≤ s) → ((j : ℕ) → j < 2 * length radii → getD bs j 0 ≡ b)
       → AllClose s k rs bs rotated xs
-      → Close (s * unit * unit) (k + 3 + length radii) (4 * (s * unit) * radiusSum radii + length radii * (s * unit * unit)) (b * directionSum directions indices radii) (polarSum rotated directions indices radii) (exactPolar xs directions indices radii)
+      → Close (s * unit * unit) (k + 3 + length radii) (4 * (s * unit) * radiusSum radii + length radii * (s * unit * unit)) (b * directionSum directions indices radii) (polarSumOf rotated directions indices radii) (exactPolar xs directions indices radii)
   close-polar-even {s} K R B all =
       close-weaken (le-refl _) (polar-error-most s rs directions indices radii small R) (le-of-eq (polar-size-even b bs directions indices radii B)) (close-polar directions indices radii table read all K)
 
   -- the Hadamard rotation: its scale is a product with an f32, so the s of its entries is unit, and the error of each is one such product's
   pub close-polar-hadamard : k + 3 + length radii ≤ 2 ^ 23 → ((j : ℕ) → j < 2 * length radii → getD rs j 0 ≡ unit) → ((j : ℕ) → j < 2 * length radii → getD bs j 0 ≡ b)
       → AllClose unit k rs bs rotated xs
-      → Close (unit * unit * unit) (k + 3 + length radii) (4 * (unit * unit) * radiusSum radii + length radii * (unit * unit * unit)) (b * directionSum directions indices radii) (polarSum rotated directions indices radii) (exactPolar xs directions indices radii)
+      → Close (unit * unit * unit) (k + 3 + length radii) (4 * (unit * unit) * radiusSum radii + length radii * (unit * unit * unit)) (b * directionSum directions indices radii) (polarSumOf rotated directions indices radii) (exactPolar xs directions indices radii)
   close-polar-hadamard K R B all = close-polar-even K (λ j l. le-of-eq (R j l)) B all

@@ -11,7 +11,7 @@ use lib.ListN.{length, getD}
 use lib.Ieee.{Float, nan, inf, fin, lt, up, down}
 use Rattle.rounding.specs.Value.{unit, mag}
 use Rattle.rounding.proofs.Values.{mag-zero}
-use Rattle.polar.specs.Polar.{at}
+use Rattle.polar.specs.Polar.{valueAt}
 
 quotient-small : (n d : ℕ) → n ≤ d → n * unit / d ≤ unit
 quotient-small n d h = div-le-of-le-mul d (mul-le-mul-right unit h)
@@ -25,7 +25,7 @@ within-small (fin false m e) low high = quotient-small (m * up e) (down e) (omeg
 within-small (fin true m e) low high = quotient-small (m * up e) (down e) (omega (arith, ltb-false (1 * 1 * down e) (m * up e * 1) low))
 
 -- in a table each of whose entries is at most 1.0 in size, so is what is missing
-pub missing-small : (vs : List Float) → ((j : ℕ) → j < length vs → mag (getD vs j nan) ≤ unit) → (j : ℕ) → mag (at vs j) ≤ unit
+pub missing-small : (vs : List Float) → ((j : ℕ) → j < length vs → mag (getD vs j nan) ≤ unit) → (j : ℕ) → mag (valueAt vs j) ≤ unit
 missing-small [] h j = rw (mag-zero false (pos 0)) zero-le
 missing-small (v ∷ vs) h zero = h 0 (suc-le-suc zero-le)
 missing-small (v ∷ vs) h (suc j) = missing-small vs (λ i l. h (suc i) (suc-le-suc l)) j

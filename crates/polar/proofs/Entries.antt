@@ -5,9 +5,9 @@ use mathlib.Core.List.{List}
 use lib.ListN.{length, getD}
 use lib.Ieee.{Float, nan, binary32, mul}
 use Rattle.rounding.proofs.Lists.{getD-any}
-use Rattle.polar.specs.Polar.{at}
+use Rattle.polar.specs.Polar.{valueAt}
 use Rattle.rounding.specs.Value.{posZero}
 
 -- a product with an entry that is there
-pub product-at : (vs : List Float) (i : ℕ) (v : Float) {w : Float} → i < length vs → v ≡ w → mul binary32 (getD vs i nan) v ≡ mul binary32 (at vs i) w
-product-at vs i v h e = ap (λ (u : Float). mul binary32 u v) (getD-any vs nan posZero i h) ∙ ap (mul binary32 (at vs i)) e
+pub product-at : (vs : List Float) (i : ℕ) (v : Float) {w : Float} → i < length vs → v ≡ w → mul binary32 (getD vs i nan) v ≡ mul binary32 (valueAt vs i) w
+product-at vs i v h e = ap (λ (u : Float). mul binary32 u v) (getD-any vs nan posZero i h) ∙ ap (mul binary32 (valueAt vs i)) e

@@ -13,12 +13,12 @@ use Rattle.rounding.specs.Close.{Close}
 use Rattle.rounding.specs.Sums.{AllFit, AllClose}
 use Rattle.rounding.proofs.Calculus.{close-zero, close-weaken, close-add, close-mul, close-mul-left}
 use Rattle.rounding.proofs.Folds.{close-total, all-close-at, all-fit-at}
-use Rattle.polar.specs.Polar.{at, directionAt, cosine, sine, pairs, term, polarSum}
+use Rattle.polar.specs.Polar.{valueAt, directionAt, cosine, sine, pairs, term, polarSumOf}
 use Rattle.polar.specs.Exact.{exactTerm, exactPolar, sizeTerm, polarSize, errorTerm, polarError}
 use Rattle.polar.proofs.Tables.{table-length, table-close}
 
 -- an entry of f32s is an f32, where it is missing too
-fit-at : (vs : List Float) → AllFit vs → (i : ℕ) → T (fits binary32 (at vs i))
+fit-at : (vs : List Float) → AllFit vs → (i : ℕ) → T (fits binary32 (valueAt vs i))
 fit-at vs f i = all-fit-at vs posZero (close-zero 1 0 .fit) f i
 
 module _ {s k : ℕ} {rs bs : List ℕ} {rotated : List Float} {xs : List Diff} (directions : List Float) (indices : List ℕ) (radii : List Float) (table : AllFit directions) (read : AllFit radii) (all : AllClose s k rs bs rotated xs) where
@@ -30,12 +30,12 @@ module _ {s k : ℕ} {rs bs : List ℕ} {rotated : List Float} {xs : List Diff} 
       let zero = close-zero s k in
       let along = close-mul (cosine directions indices i) (fit-at directions table (directionAt indices i)) (omega arith) (all-close-at posZero zero all (2 * i)) in
       let across = close-mul (sine directions indices i) (fit-at directions table (directionAt indices i + 1)) (omega arith) (all-close-at posZero zero all (2 * i + 1)) in
-      close-weaken (omega arith) (le-refl _) (le-refl _) (close-mul-left (at radii i) (fit-at radii read i) (omega arith) (close-add (omega arith) along across))
+      close-weaken (omega arith) (le-refl _) (le-refl _) (close-mul-left (valueAt radii i) (fit-at radii read i) (omega arith) (close-add (omega arith) along across))
 
   -- 'added in pair order'
   pub close-polar : k + 3 + length radii ≤ 2 ^ 23
-      → Close (s * unit * unit) (k + 3 + length radii) (polarError s rs directions indices radii) (polarSize bs directions indices radii) (polarSum rotated directions indices radii) (exactPolar xs directions indices radii)
-  unfolding polarError polarSize polarSum exactPolar
+      → Close (s * unit * unit) (k + 3 + length radii) (polarError s rs directions indices radii) (polarSize bs directions indices radii) (polarSumOf rotated directions indices radii) (exactPolar xs directions indices radii)
+  unfolding polarError polarSize polarSumOf exactPolar
   close-polar K =
       let n = table-length (λ i. term rotated directions indices radii i) 0 (length radii) in
       close-weaken (omega (arith, n)) (le-refl _) (le-refl _)

@@ -12,7 +12,7 @@ use Rattle.rounding.specs.Value.{mag}
 use Rattle.rounding.specs.Close.{Close}
 use Rattle.rounding.specs.Butterfly.{from}
 use Rattle.rounding.specs.Sums.{sum, AllClose, none, next}
-use Rattle.polar.specs.Polar.{at}
+use Rattle.polar.specs.Polar.{valueAt}
 use Rattle.polar.proofs.Loops.{from-length}
 
 pub table-length : {A : Type 0} (f : ℕ → A) (start count : ℕ) → length (map f (from start count)) ≡ count
@@ -30,11 +30,11 @@ table-times f g b start zero h = omega arith
 table-times f g b start (suc count) h = omega (arith, h start (omega arith), table-times f g b (suc start) count (λ i l. h i (omega arith)))
 
 -- each term is at most c times the size of its float, and w more
-pub table-most : (f : ℕ → ℕ) (c w start : ℕ) (vs : List Float) → ((i : ℕ) → i < length vs → f (start + i) ≤ c * mag (at vs i) + w)
+pub table-most : (f : ℕ → ℕ) (c w start : ℕ) (vs : List Float) → ((i : ℕ) → i < length vs → f (start + i) ≤ c * mag (valueAt vs i) + w)
     → sum (map f (from start (length vs))) ≤ c * sum (map mag vs) + length vs * w
 unfolding from sum
 table-most f c w start [] h = zero-le
 table-most f c w start (v ∷ vs) h =
     let here : f start ≤ c * mag v + w = rw add-zero at (h 0 (suc-le-suc zero-le)) in
-    let rest = table-most f c w (suc start) vs (λ i l. subst (λ (n : ℕ). f n ≤ c * mag (at vs i) + w) (omega arith) (h (suc i) (suc-le-suc l))) in
+    let rest = table-most f c w (suc start) vs (λ i l. subst (λ (n : ℕ). f n ≤ c * mag (valueAt vs i) + w) (omega arith) (h (suc i) (suc-le-suc l))) in
     omega (arith, here, rest)

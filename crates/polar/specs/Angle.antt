@@ -22,8 +22,8 @@ unfoldable pub radians : ℕ → ℕ → Float
 radians bits index = sub binary32 (mul binary32 (div binary32 (ofInt binary32 (pos index)) (ofInt binary32 (pos (2 ^ bits)))) twicePi) pi
 
 -- what the call answers
-unfoldable pub angleOf : ℕ → ℕ → Answer Float
-angleOf bits index = first (wrongBits bits ∷ wrongIndex bits index ∷ []) (value (radians bits index))
+unfoldable pub dequantizeAngleOf : ℕ → ℕ → Answer Float
+dequantizeAngleOf bits index = first (wrongBits bits ∷ wrongIndex bits index ∷ []) (value (radians bits index))
 
 -- what an `Angle` says
 abbrev pub saysAngle : Angle → Answer Float

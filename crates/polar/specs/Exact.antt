@@ -8,13 +8,13 @@ use lib.Ieee.{Float}
 use Rattle.rounding.specs.Signed.{Diff, nought, _⊞_, _⊠_}
 use Rattle.rounding.specs.Value.{unit, mag, val}
 use Rattle.rounding.specs.Sums.{exactTotal, sum}
-use Rattle.polar.specs.Polar.{at, cosine, sine, pairs}
+use Rattle.polar.specs.Polar.{valueAt, cosine, sine, pairs}
 
 -- ---- the exact sum
 -- (qa × c + qb × s) × r, of pair i
 unfoldable pub exactTerm : List Diff → List Float → List ℕ → List Float → ℕ → Diff
 exactTerm xs directions indices radii i =
-    (getD xs (2 * i) nought ⊠ val (cosine directions indices i) ⊞ getD xs (2 * i + 1) nought ⊠ val (sine directions indices i)) ⊠ val (at radii i)
+    (getD xs (2 * i) nought ⊠ val (cosine directions indices i) ⊞ getD xs (2 * i + 1) nought ⊠ val (sine directions indices i)) ⊠ val (valueAt radii i)
 
 unfoldable pub exactPolar : List Diff → List Float → List ℕ → List Float → Diff
 exactPolar xs directions indices radii = exactTotal (map (λ i. exactTerm xs directions indices radii i) (pairs radii))
@@ -23,7 +23,7 @@ exactPolar xs directions indices radii = exactTotal (map (λ i. exactTerm xs dir
 -- |r| × (|c| × ba + |s| × bb), of pair i
 unfoldable pub sizeTerm : List ℕ → List Float → List ℕ → List Float → ℕ → ℕ
 sizeTerm bs directions indices radii i =
-    mag (at radii i) * (mag (cosine directions indices i) * getD bs (2 * i) 0 + mag (sine directions indices i) * getD bs (2 * i + 1) 0)
+    mag (valueAt radii i) * (mag (cosine directions indices i) * getD bs (2 * i) 0 + mag (sine directions indices i) * getD bs (2 * i + 1) 0)
 
 unfoldable pub polarSize : List ℕ → List Float → List ℕ → List Float → ℕ
 polarSize bs directions indices radii = sum (map (λ i. sizeTerm bs directions indices radii i) (pairs radii))
@@ -32,7 +32,7 @@ polarSize bs directions indices radii = sum (map (λ i. sizeTerm bs directions i
 -- each of the three products of pair i adds a unit of its own
 unfoldable pub errorTerm : ℕ → List ℕ → List Float → List ℕ → List Float → ℕ → ℕ
 errorTerm s rs directions indices radii i =
-    mag (at radii i) * (mag (cosine directions indices i) * getD rs (2 * i) 0 + s * unit + (mag (sine directions indices i) * getD rs (2 * i + 1) 0 + s * unit))
+    mag (valueAt radii i) * (mag (cosine directions indices i) * getD rs (2 * i) 0 + s * unit + (mag (sine directions indices i) * getD rs (2 * i + 1) 0 + s * unit))
     + s * unit * unit
 
 unfoldable pub polarError : ℕ → List ℕ → List Float → List ℕ → List Float → ℕ
@@ -40,7 +40,7 @@ polarError s rs directions indices radii = sum (map (λ i. errorTerm s rs direct
 
 -- ---- 'sum of r(|c| + |s|)' (document 01), and the sum of radii
 unfoldable pub directionTerm : List Float → List ℕ → List Float → ℕ → ℕ
-directionTerm directions indices radii i = mag (at radii i) * (mag (cosine directions indices i) + mag (sine directions indices i))
+directionTerm directions indices radii i = mag (valueAt radii i) * (mag (cosine directions indices i) + mag (sine directions indices i))
 
 unfoldable pub directionSum : List Float → List ℕ → List Float → ℕ
 directionSum directions indices radii = sum (map (λ i. directionTerm directions indices radii i) (pairs radii))

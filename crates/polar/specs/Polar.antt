@@ -13,8 +13,8 @@ use Rattle.rounding.specs.Value.{posZero}
 
 -- ---- what a pair has
 -- the float at a place
-abbrev pub at : List Float → ℕ → Float
-at vs i = getD vs i posZero
+abbrev pub valueAt : List Float → ℕ → Float
+valueAt vs i = getD vs i posZero
 
 -- where the direction of pair i stands in the table
 abbrev pub directionAt : List ℕ → ℕ → ℕ
@@ -22,10 +22,10 @@ directionAt indices i = 2 * getD indices i 0
 
 -- 'Direction pair i holds the host's cosine and sine' (document 01): those that pair i has by its index
 abbrev pub cosine : List Float → List ℕ → ℕ → Float
-cosine directions indices i = at directions (directionAt indices i)
+cosine directions indices i = valueAt directions (directionAt indices i)
 
 abbrev pub sine : List Float → List ℕ → ℕ → Float
-sine directions indices i = at directions (directionAt indices i + 1)
+sine directions indices i = valueAt directions (directionAt indices i + 1)
 
 -- the pairs in their order, one for each radius
 abbrev pub pairs : List Float → List ℕ
@@ -35,14 +35,14 @@ pairs radii = from 0 (length radii)
 -- 'r × (qa × c + qb × s)' (document 01), of pair i: products and sum are separate roundings
 unfoldable pub term : List Float → List Float → List ℕ → List Float → ℕ → Float
 term rotated directions indices radii i =
-    mul binary32 (at radii i)
+    mul binary32 (valueAt radii i)
     (add binary32
-    (mul binary32 (at rotated (2 * i)) (cosine directions indices i))
-    (mul binary32 (at rotated (2 * i + 1)) (sine directions indices i)))
+    (mul binary32 (valueAt rotated (2 * i)) (cosine directions indices i))
+    (mul binary32 (valueAt rotated (2 * i + 1)) (sine directions indices i)))
 
 -- 'Polar sum: r × (qa × c + qb × s), added in pair order'; 'Sums run in index order from +0.0.'
-unfoldable pub polarSum : List Float → List Float → List ℕ → List Float → Float
-polarSum rotated directions indices radii = total (map (λ i. term rotated directions indices radii i) (pairs radii))
+unfoldable pub polarSumOf : List Float → List Float → List ℕ → List Float → Float
+polarSumOf rotated directions indices radii = total (map (λ i. term rotated directions indices radii i) (pairs radii))
 
 -- ---- the pairs of a decoded code
 -- of each item its first, then its second
@@ -52,15 +52,15 @@ laid f g (i ∷ is) = f i ∷ g i ∷ laid f g is
 
 -- r × c and r × s, of pair i
 abbrev pub along : List Float → List ℕ → List Float → ℕ → Float
-along directions indices radii i = mul binary32 (at radii i) (cosine directions indices i)
+along directions indices radii i = mul binary32 (valueAt radii i) (cosine directions indices i)
 
 abbrev pub across : List Float → List ℕ → List Float → ℕ → Float
-across directions indices radii i = mul binary32 (at radii i) (sine directions indices i)
+across directions indices radii i = mul binary32 (valueAt radii i) (sine directions indices i)
 
 -- both, of each pair
 unfoldable pub decodedPairs : List Float → List ℕ → List Float → List Float
 decodedPairs directions indices radii = laid (along directions indices radii) (across directions indices radii) (pairs radii)
 
 -- what the call answers, into an output that has so much room
-unfoldable pub pairsOf : List Float → List ℕ → List Float → ℕ → Answer (List Float)
-pairsOf directions indices radii room = first (wrongRoom room (2 * length radii) ∷ []) (value (decodedPairs directions indices radii))
+unfoldable pub polarPairsOf : List Float → List ℕ → List Float → ℕ → Answer (List Float)
+polarPairsOf directions indices radii room = first (wrongRoom room (2 * length radii) ∷ []) (value (decodedPairs directions indices radii))

@@ -11,8 +11,8 @@ ghost use Prim.Native.Nat.{_*_, _<_};
 ghost use lib.ListN.{length};
 ghost use Rattle.error.specs.Answer.{done, after};
 ghost use Rattle.error.specs.Outcomes.{says};
-ghost use Rattle.polar.specs.Angle.{angleOf, saysAngle};
-ghost use Rattle.polar.specs.Polar.{at, directionAt, term, polarSum, decodedPairs, pairsOf};
+ghost use Rattle.polar.specs.Angle.{dequantizeAngleOf, saysAngle};
+ghost use Rattle.polar.specs.Polar.{valueAt, directionAt, term, polarSumOf, decodedPairs, polarPairsOf};
 
 // An angle in radians, or a refusal.
 pub enum Angle {
@@ -25,7 +25,7 @@ const PI: f32 = 3.14159274;
 
 // The angle of an index of so many bits, from -PI on.
 pub fn dequantize_angle(bits: u8, index: u16) -> Angle
-    ensures { λ r. ⌜ saysAngle r ≡ angleOf bits index ⌝ }
+    ensures { λ r. ⌜ saysAngle r ≡ dequantizeAngleOf bits index ⌝ }
 {
     if bits < 1 || 16 < bits {
         return Angle::Refused {
@@ -48,8 +48,8 @@ pub fn dequantize_angle(bits: u8, index: u16) -> Angle
 // The pairs of a code before the inverse rotation: r × c and r × s of each, into the output.
 // A direction or an index that is missing counts as in `polar_sum`.
 pub fn polar_pairs(directions: &[f32], indices: &[u16], radii: &[f32], out: &mut [f32]) -> Outcome
-    ensures { λ r. ⌜ says r ≡ done (pairsOf (now (directions .entry)) (now (indices .entry)) (now (radii .entry)) (length (now (out .entry)))) ⌝ }
-    ensures { λ _. ⌜ now (out .exit) ≡ after (pairsOf (now (directions .entry)) (now (indices .entry)) (now (radii .entry)) (length (now (out .entry)))) (now (out .entry)) ⌝ }
+    ensures { λ r. ⌜ says r ≡ done (polarPairsOf (now (directions .entry)) (now (indices .entry)) (now (radii .entry)) (length (now (out .entry)))) ⌝ }
+    ensures { λ _. ⌜ now (out .exit) ≡ after (polarPairsOf (now (directions .entry)) (now (indices .entry)) (now (radii .entry)) (length (now (out .entry)))) (now (out .entry)) ⌝ }
 {
     let needed = 2 * radii.len();
     if out.len() != needed {
@@ -65,7 +65,7 @@ pub fn polar_pairs(directions: &[f32], indices: &[u16], radii: &[f32], out: &mut
 // The polar sum of a rotated query and a code: r × (qa × c + qb × s), added in pair order from +0.0, one pair for each radius.
 // A float that is missing counts as +0.0, and an index that is missing as 0.
 pub fn polar_sum(rotated: &[f32], directions: &[f32], indices: &[u16], radii: &[f32]) -> f32
-    ensures { λ r. ⌜ r ≡ polarSum (now (rotated .entry)) (now (directions .entry)) (now (indices .entry)) (now (radii .entry)) ⌝ }
+    ensures { λ r. ⌜ r ≡ polarSumOf (now (rotated .entry)) (now (directions .entry)) (now (indices .entry)) (now (radii .entry)) ⌝ }
 {
     let mut sum = 0.0f32;
     let mut i = 0;
@@ -121,7 +121,7 @@ fn direction_at(indices: &[u16], i: usize) -> usize
 
 // The float at a place, or +0.0 where the slice has none.
 fn value_at(values: &[f32], i: usize) -> f32
-    ensures { λ r. ⌜ r ≡ at (now (values .entry)) i ⌝ }
+    ensures { λ r. ⌜ r ≡ valueAt (now (values .entry)) i ⌝ }
 {
     if i < values.len() { values[i] } else { 0.0 }
 }

@@ -17,14 +17,14 @@ use Rattle.error.specs.Checks.{wrongInput, wrongRoom}
 use Rattle.setup.specs.declared.Setup.{Setup}
 use Rattle.setup.specs.declared.TurboMode.{TurboMode}
 use Rattle.setup.specs.declared.TurboMode.the-variants.{PolarOnly, PolarWithQjl}
-use Rattle.setup.specs.Setups.{byMode, countedProjections}
-use Rattle.setup.specs.Checks.{notFinite, setupChecks, setupChecksButEntries}
-use Rattle.setup.specs.Accepted.{Accepted}
+use Rattle.setup.specs.Setups.{byMode, countedProjectionsOf}
+use Rattle.setup.specs.Checks.{badValue, setupChecks, setupChecksButEntries}
+use Rattle.setup.specs.Accepted.{AcceptedSetup}
 use Rattle.setup.proofs.Accepted.{setup-accepted, but-entries-usable, but-entries-long, but-entries-rest}
 use Rattle.qjl.specs.Projection.{projected, projectOf}
 use Rattle.qjl.specs.Filled.{Rowed}
-use Rattle.qjl.specs.Sketch.{signOf, vectorChecks, sketchOf}
-use Rattle.bitpack.specs.Signs.{notSign}
+use Rattle.qjl.specs.Sketch.{signOfSum, vectorChecks, sketchOf}
+use Rattle.bitpack.specs.Signs.{badSketchSign}
 use Rattle.qjl.proofs.FiniteSums.{matrix-finite, query-finite}
 use Rattle.qjl.proofs.Rows.{above-zero}
 use Rattle.qjl.specs.Score.{unitResidual, signedScore, modeScore, sketchScoreOf}
@@ -56,63 +56,63 @@ module _ (n : ℕ) (matrix query : List Float) (room : ℕ) where
 module _ (s : Setup) (signs directions matrix vector : List Float) where
   pub vector-refused : {number place : ℕ} → first (setupChecks s signs directions matrix) accepted ≡ refused number place
       → first (vectorChecks s signs directions matrix vector) accepted ≡ refused number place
-  vector-refused e = append-refused (setupChecks s signs directions matrix) (wrongInput (length vector) (s .dim) ∷ each notFinite 11 vector ∷ []) tt accepted e
+  vector-refused e = append-refused (setupChecks s signs directions matrix) (wrongInput (length vector) (s .dim) ∷ each badValue 11 vector ∷ []) tt accepted e
 
   vector-rest : first (setupChecks s signs directions matrix) accepted ≡ accepted
-      → first (vectorChecks s signs directions matrix vector) accepted ≡ first (wrongInput (length vector) (s .dim) ∷ each notFinite 11 vector ∷ []) accepted
-  vector-rest e = append-passed (setupChecks s signs directions matrix) (wrongInput (length vector) (s .dim) ∷ each notFinite 11 vector ∷ []) tt accepted e
+      → first (vectorChecks s signs directions matrix vector) accepted ≡ first (wrongInput (length vector) (s .dim) ∷ each badValue 11 vector ∷ []) accepted
+  vector-rest e = append-passed (setupChecks s signs directions matrix) (wrongInput (length vector) (s .dim) ∷ each badValue 11 vector ∷ []) tt accepted e
 
   pub vector-length : first (setupChecks s signs directions matrix) accepted ≡ accepted → (length vector ≡ s .dim → ⊥)
       → first (vectorChecks s signs directions matrix vector) accepted ≡ refused 5 (length vector)
   vector-length e h = vector-rest e ∙ simp (ne-eqb (length vector) (s .dim) h)
 
-  pub vector-entry : {i : ℕ} → first (setupChecks s signs directions matrix) accepted ≡ accepted → length vector ≡ s .dim → i ≡ place notFinite vector → i < length vector
+  pub vector-entry : {i : ℕ} → first (setupChecks s signs directions matrix) accepted ≡ accepted → length vector ≡ s .dim → i ≡ place badValue vector → i < length vector
       → first (vectorChecks s signs directions matrix vector) accepted ≡ refused 11 i
-  vector-entry e h p l = vector-rest e ∙ simp (eq-eqb (length vector) (s .dim) h, each-offends notFinite vector p l, p)
+  vector-entry e h p l = vector-rest e ∙ simp (eq-eqb (length vector) (s .dim) h, each-offends badValue vector p l, p)
 
-  pub vector-passed : {i : ℕ} → first (setupChecks s signs directions matrix) accepted ≡ accepted → length vector ≡ s .dim → i ≡ place notFinite vector → length vector ≤ i
+  pub vector-passed : {i : ℕ} → first (setupChecks s signs directions matrix) accepted ≡ accepted → length vector ≡ s .dim → i ≡ place badValue vector → length vector ≤ i
       → first (vectorChecks s signs directions matrix vector) accepted ≡ accepted
-  vector-passed e h p l = vector-rest e ∙ simp (eq-eqb (length vector) (s .dim) h, each-passes notFinite vector p l)
+  vector-passed e h p l = vector-rest e ∙ simp (eq-eqb (length vector) (s .dim) h, each-passes badValue vector p l)
 
 -- ---- a score from a projected query
 
 module _ (m : ℕ) (values : List Float) (signs : List ℤ) where
-  pub signed-entry : {i : ℕ} → i ≡ place notFinite values → i < length values → signedScore m values signs ≡ refused 11 i
+  pub signed-entry : {i : ℕ} → i ≡ place badValue values → i < length values → signedScore m values signs ≡ refused 11 i
   unfolding signedScore
-  signed-entry p l = simp (each-offends notFinite values p l, p)
+  signed-entry p l = simp (each-offends badValue values p l, p)
 
-  module _ {i : ℕ} (p : i ≡ place notFinite values) (l : length values ≤ i) where
+  module _ {i : ℕ} (p : i ≡ place badValue values) (l : length values ≤ i) where
     pub signed-length : (length signs ≡ m → ⊥) → signedScore m values signs ≡ refused 5 (length signs)
     unfolding signedScore
-    signed-length h = simp (each-passes notFinite values p l, ne-eqb (length signs) m h)
+    signed-length h = simp (each-passes badValue values p l, ne-eqb (length signs) m h)
 
     module _ (h : length signs ≡ m) where
-      pub signed-sign : {j : ℕ} → j ≡ place notSign signs → j < length signs → signedScore m values signs ≡ refused 10 j
+      pub signed-sign : {j : ℕ} → j ≡ place badSketchSign signs → j < length signs → signedScore m values signs ≡ refused 10 j
       unfolding signedScore
-      signed-sign q k = simp (each-passes notFinite values p l, eq-eqb (length signs) m h, each-offends notSign signs q k, q)
+      signed-sign q k = simp (each-passes badValue values p l, eq-eqb (length signs) m h, each-offends badSketchSign signs q k, q)
 
-      module _ {j : ℕ} (q : j ≡ place notSign signs) (k : length signs ≤ j) where
+      module _ {j : ℕ} (q : j ≡ place badSketchSign signs) (k : length signs ≤ j) where
         pub signed-infinite : finite (unitResidual m values signs) ≡ false → signedScore m values signs ≡ refused 12 0
         unfolding signedScore
-        signed-infinite f = simp (each-passes notFinite values p l, eq-eqb (length signs) m h, each-passes notSign signs q k, f)
+        signed-infinite f = simp (each-passes badValue values p l, eq-eqb (length signs) m h, each-passes badSketchSign signs q k, f)
 
         pub signed-value : finite (unitResidual m values signs) ≡ true → signedScore m values signs ≡ value (unitResidual m values signs)
         unfolding signedScore
-        signed-value f = simp (each-passes notFinite values p l, eq-eqb (length signs) m h, each-passes notSign signs q k, f)
+        signed-value f = simp (each-passes badValue values p l, eq-eqb (length signs) m h, each-passes badSketchSign signs q k, f)
 
 -- ---- what a vector has whose checks all pass
 
 module _ (s : Setup) (signs directions matrix vector : List Float) (passed : first (vectorChecks s signs directions matrix vector) accepted ≡ accepted) where
-  pub vector-setup : Accepted s signs directions matrix
-  vector-setup = setup-accepted s signs directions matrix (append-left (setupChecks s signs directions matrix) (wrongInput (length vector) (s .dim) ∷ each notFinite 11 vector ∷ []) accepted passed)
+  pub vector-setup : AcceptedSetup s signs directions matrix
+  vector-setup = setup-accepted s signs directions matrix (append-left (setupChecks s signs directions matrix) (wrongInput (length vector) (s .dim) ∷ each badValue 11 vector ∷ []) accepted passed)
 
-  pub vector-rowed : Rowed (s .dim) matrix vector (countedProjections s)
+  pub vector-rowed : Rowed (s .dim) matrix vector (countedProjectionsOf s)
   vector-rowed =
-      let k = first-passes (wrongInput (length vector) (s .dim) ∷ each notFinite 11 vector ∷ []) tt (append-right (setupChecks s signs directions matrix) (wrongInput (length vector) (s .dim) ∷ each notFinite 11 vector ∷ []) accepted passed) in
+      let k = first-passes (wrongInput (length vector) (s .dim) ∷ each badValue 11 vector ∷ []) tt (append-right (setupChecks s signs directions matrix) (wrongInput (length vector) (s .dim) ∷ each badValue 11 vector ∷ []) accepted passed) in
       record { query-long = eqb-true (length vector) (s .dim) (not-false _ (k .0)); matrix-long = vector-setup .matrix-long }
 
   -- an output of as many entries as projections count
-  pub vector-ready : {counted room : ℕ} → counted ≡ countedProjections s → room ≡ counted → Rowed (s .dim) matrix vector room × (room ≤ 4096)
+  pub vector-ready : {counted room : ℕ} → counted ≡ countedProjectionsOf s → room ≡ counted → Rowed (s .dim) matrix vector room × (room ≤ 4096)
   vector-ready {counted} {room} e f =
       subst (λ (m : ℕ). Rowed (s .dim) matrix vector m × (m ≤ 4096)) (sym (f ∙ e)) (vector-rowed, vector-setup .usable .most-projections)
 
@@ -126,23 +126,23 @@ module _ (s : Setup) (signs directions matrix vector : List Float) (room : ℕ) 
   pub sketch-refused : {number place : ℕ} → first (vectorChecks s signs directions matrix vector) accepted ≡ refused number place
       → sketchOf s signs directions matrix vector room ≡ refused number place
   unfolding sketchOf
-  sketch-refused e = append-refused (vectorChecks s signs directions matrix vector) (wrongRoom room (countedProjections s) ∷ []) tt _ e
+  sketch-refused e = append-refused (vectorChecks s signs directions matrix vector) (wrongRoom room (countedProjectionsOf s) ∷ []) tt _ e
 
   sketch-rest : first (vectorChecks s signs directions matrix vector) accepted ≡ accepted
       → sketchOf s signs directions matrix vector room
-      ≡ first (wrongRoom room (countedProjections s) ∷ []) (value (map signOf (projected (s .dim) (countedProjections s) matrix vector)))
+      ≡ first (wrongRoom room (countedProjectionsOf s) ∷ []) (value (map signOfSum (projected (s .dim) (countedProjectionsOf s) matrix vector)))
   unfolding sketchOf
-  sketch-rest e = append-passed (vectorChecks s signs directions matrix vector) (wrongRoom room (countedProjections s) ∷ []) tt _ e
+  sketch-rest e = append-passed (vectorChecks s signs directions matrix vector) (wrongRoom room (countedProjectionsOf s) ∷ []) tt _ e
 
-  pub sketch-room : {counted : ℕ} → first (vectorChecks s signs directions matrix vector) accepted ≡ accepted → counted ≡ countedProjections s → (room ≡ counted → ⊥)
+  pub sketch-room : {counted : ℕ} → first (vectorChecks s signs directions matrix vector) accepted ≡ accepted → counted ≡ countedProjectionsOf s → (room ≡ counted → ⊥)
       → sketchOf s signs directions matrix vector room ≡ refused 6 counted
-  sketch-room e c h = sketch-rest e ∙ simp (ne-eqb room (countedProjections s) (λ f. h (f ∙ sym c))) (ap (refused 6) (sym c))
+  sketch-room e c h = sketch-rest e ∙ simp (ne-eqb room (countedProjectionsOf s) (λ f. h (f ∙ sym c))) (ap (refused 6) (sym c))
 
-  pub sketch-value : {counted : ℕ} → first (vectorChecks s signs directions matrix vector) accepted ≡ accepted → counted ≡ countedProjections s → room ≡ counted
-      → sketchOf s signs directions matrix vector room ≡ value (map signOf (projected (s .dim) room matrix vector))
+  pub sketch-value : {counted : ℕ} → first (vectorChecks s signs directions matrix vector) accepted ≡ accepted → counted ≡ countedProjectionsOf s → room ≡ counted
+      → sketchOf s signs directions matrix vector room ≡ value (map signOfSum (projected (s .dim) room matrix vector))
   sketch-value e c f =
       let h = f ∙ c in
-      sketch-rest e ∙ simp (eq-eqb room (countedProjections s) h) (ap (λ (k : ℕ). value (map signOf (projected (s .dim) k matrix vector))) (sym h))
+      sketch-rest e ∙ simp (eq-eqb room (countedProjectionsOf s) h) (ap (λ (k : ℕ). value (map signOfSum (projected (s .dim) k matrix vector))) (sym h))
 
 module _ (s : Setup) (signs directions matrix vector : List Float) where
   -- after a try that left the output as it was
@@ -155,20 +155,20 @@ module _ (s : Setup) (signs directions matrix vector : List Float) where
 -- ---- a sketch from finite projections
 
 module _ (s : Setup) (signs directions matrix vector : List Float) (room : ℕ) (passed : first (setupChecksButEntries s signs directions matrix) accepted ≡ accepted) where
-  pub shaped-ready : {counted : ℕ} → length vector ≡ s .dim → counted ≡ countedProjections s → room ≡ counted → Rowed (s .dim) matrix vector room × (room ≤ 4096)
+  pub shaped-ready : {counted : ℕ} → length vector ≡ s .dim → counted ≡ countedProjectionsOf s → room ≡ counted → Rowed (s .dim) matrix vector room × (room ≤ 4096)
   shaped-ready {counted} e c f =
       subst (λ (m : ℕ). Rowed (s .dim) matrix vector m × (m ≤ 4096)) (sym (f ∙ c))
       (record { query-long = e; matrix-long = but-entries-long s signs directions matrix passed }, but-entries-usable s signs directions matrix passed .most-projections)
 
-  pub shaped-value : {counted : ℕ} → length vector ≡ s .dim → counted ≡ countedProjections s → room ≡ counted → (counted ≡ 0 → ⊥)
-      → ltb (place notFinite (projected (s .dim) room matrix vector)) (length (projected (s .dim) room matrix vector)) ≡ false
-      → sketchOf s signs directions matrix vector room ≡ value (map signOf (projected (s .dim) room matrix vector))
+  pub shaped-value : {counted : ℕ} → length vector ≡ s .dim → counted ≡ countedProjectionsOf s → room ≡ counted → (counted ≡ 0 → ⊥)
+      → ltb (place badValue (projected (s .dim) room matrix vector)) (length (projected (s .dim) room matrix vector)) ≡ false
+      → sketchOf s signs directions matrix vector room ≡ value (map signOfSum (projected (s .dim) room matrix vector))
   shaped-value {counted} e c f some clean =
       let rowed = shaped-ready e c f .0 in
       let entries : first (setupChecks s signs directions matrix) accepted ≡ accepted = but-entries-rest s signs directions matrix passed ∙ simp (matrix-finite (s .dim) room matrix vector rowed clean) in
       let above : 0 < room = rw f (above-zero counted some) in
       let whole = query-finite (s .dim) room matrix vector rowed clean above in
-      sketch-value s signs directions matrix vector room (vector-passed s signs directions matrix vector {i = place notFinite vector} entries e refl (ltb-false _ _ whole)) c f
+      sketch-value s signs directions matrix vector room (vector-passed s signs directions matrix vector {i = place badValue vector} entries e refl (ltb-false _ _ whole)) c f
 
 -- ---- a sketch score
 

@@ -19,8 +19,8 @@ use Rattle.rounding.proofs.Calculus.{close-weaken, close-same, close-mul-left}
 use Rattle.rounding.proofs.Folds.{close-dot-self}
 use Rattle.rounding.proofs.Totals.{sum-replicate}
 use Rattle.qjl.specs.Projection.{rows, projected}
-use Rattle.bitpack.specs.Signs.{isMinus, notSign}
-use Rattle.qjl.specs.Score.{scaleOf, signSum, residualOf}
+use Rattle.bitpack.specs.Signs.{isMinus, badSketchSign}
+use Rattle.qjl.specs.Score.{scaleOf, signSumOf, residualOf}
 use Rattle.qjl.specs.Exact.{exactProjected, exactResidual, projectedSizes, residualSize}
 use Rattle.qjl.proofs.Rows.{projected-length}
 use Rattle.qjl.proofs.SignValues.{close-sign-sum}
@@ -58,9 +58,9 @@ close-projected n (suc m) matrix query f g L =
     next (close-row n (take n matrix) query (take-most n matrix) (all-fit-take n matrix f) g L) (close-projected n m (drop n matrix) query (all-fit-drop n matrix f) g L)
 
 module _ (n m : ℕ) (matrix query : List Float) (signs : List ℤ) (f : AllFit matrix) (g : AllFit query) (L : n + m + 1 ≤ 2 ^ 23) (long : length signs ≡ m)
-    (good : (i : ℕ) → i < length signs → notSign (getD signs i (pos 0)) ≡ false) where
+    (good : (i : ℕ) → i < length signs → badSketchSign (getD signs i (pos 0)) ≡ false) where
   -- ---- the sum over the signs
-  pub close-projected-sum : Close unit (n + m + 1) (m * (n * unit)) (sum (projectedSizes n m matrix query)) (signSum signs (projected n m matrix query))
+  pub close-projected-sum : Close unit (n + m + 1) (m * (n * unit)) (sum (projectedSizes n m matrix query)) (signSumOf signs (projected n m matrix query))
       (exactTotal (turnedEach (map isMinus signs) (exactProjected n m matrix query)))
   close-projected-sum =
       let count = projected-length n m matrix query in

@@ -9,20 +9,20 @@ use Rattle.float.specs.SquareRoot.{squareRoot}
 use Rattle.rounding.specs.Value.{posZero, one}
 use Rattle.rounding.specs.Sums.{running, products}
 use Rattle.qjl.specs.Projection.{rows, projected}
-use Rattle.qjl.specs.Sketch.{signOf}
-use Rattle.qjl.specs.Score.{root, scaleOf, signSum}
+use Rattle.qjl.specs.Sketch.{signOfSum}
+use Rattle.qjl.specs.Score.{root, scaleOf, signSumOf}
 
 -- 'a row's sum at or above zero gives +1; below, or NaN, −1': both zeros are at zero
-pub sign-of-zero : signOf posZero ≡ pos 1
-unfolding signOf le lt eq
+pub sign-of-zero : signOfSum posZero ≡ pos 1
+unfolding signOfSum le lt eq
 sign-of-zero = refl
 
-pub sign-of-minus-zero : signOf (fin true 0 (pos 0)) ≡ pos 1
-unfolding signOf le lt eq
+pub sign-of-minus-zero : signOfSum (fin true 0 (pos 0)) ≡ pos 1
+unfolding signOfSum le lt eq
 sign-of-minus-zero = refl
 
-pub sign-of-nan : signOf nan ≡ negsuc 0
-unfolding signOf le lt eq
+pub sign-of-nan : signOfSum nan ≡ negsuc 0
+unfolding signOfSum le lt eq
 sign-of-nan = refl
 
 -- (1, 2) and (3, -1) on (2, 0.5): 3 and 5.5
@@ -41,6 +41,6 @@ unfolding scaleOf root squareRoot div mul ofInt ofBits toBits
 scale-of-four = refl
 
 -- signs (+, −) and values (3, 5.5): the sum is -2.5
-pub small-sign-sum : signSum (pos 1 ∷ negsuc 0 ∷ []) (fin false 3 (pos 0) ∷ fin false 11 (negsuc 0) ∷ []) ≡ fin true 5 (negsuc 0)
-unfolding signSum running products add mul ofInt
+pub small-sign-sum : signSumOf (pos 1 ∷ negsuc 0 ∷ []) (fin false 3 (pos 0) ∷ fin false 11 (negsuc 0) ∷ []) ≡ fin true 5 (negsuc 0)
+unfolding signSumOf running products add mul ofInt
 small-sign-sum = refl

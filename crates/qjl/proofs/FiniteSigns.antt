@@ -7,13 +7,13 @@ use lib.IntN.{ℤ}
 use lib.ListN.{length}
 use lib.Ieee.{Float}
 use Rattle.error.specs.Answer.{Answer, value, place}
-use Rattle.setup.specs.Checks.{notFinite}
-use Rattle.qjl.specs.Sketch.{signOf, FiniteSigns, AtOnce}
+use Rattle.setup.specs.Checks.{badValue}
+use Rattle.qjl.specs.Sketch.{signOfSum, FiniteSigns, AtOnce}
 
 pub signs-left : (values : List Float) (old : List ℤ) → FiniteSigns values old false old
 signs-left values old = record { clean = λ e. absurd (false≢true e); signs = λ e. absurd (false≢true e); kept = λ e. refl }
 
-pub signs-made : (values : List Float) (old new : List ℤ) → ltb (place notFinite values) (length values) ≡ false → new ≡ map signOf values → FiniteSigns values old true new
+pub signs-made : (values : List Float) (old new : List ℤ) → ltb (place badValue values) (length values) ≡ false → new ≡ map signOfSum values → FiniteSigns values old true new
 signs-made values old new c s = record { clean = λ e. c; signs = λ e. s; kept = λ e. absurd (true≢false e) }
 
 -- of the same values by another name
@@ -23,7 +23,7 @@ signs-same {values} {others} {old} {new} {wrote} e s = subst (λ (vs : List Floa
 pub at-once-left : (answer : Answer (List ℤ)) (old : List ℤ) → AtOnce answer old false old
 at-once-left answer old = record { made = λ e. absurd (false≢true e); kept = λ e. refl }
 
-pub at-once-signs : {values : List Float} {old new : List ℤ} {wrote : Bool} (answer : Answer (List ℤ)) → (ltb (place notFinite values) (length values) ≡ false → answer ≡ value (map signOf values))
+pub at-once-signs : {values : List Float} {old new : List ℤ} {wrote : Bool} (answer : Answer (List ℤ)) → (ltb (place badValue values) (length values) ≡ false → answer ≡ value (map signOfSum values))
     → FiniteSigns values old wrote new
     → AtOnce answer old wrote new
 at-once-signs answer h s = record { made = λ e. h (s .clean e) ∙ ap value (sym (s .signs e)); kept = s .kept }

@@ -1,10 +1,10 @@
 -- No hidden infinity in a projection: a sum that is finite has finite terms only, so that finite projections tell of a finite matrix and a
 -- finite query. Assumes nothing.
-use Prim.Native.Nat.{ℕ, zero, suc, _+_, _*_, _/_, _%_, _≤_, _<_}
-use mathlib.Core.Path.{_≡_, refl, sym, ap, _∙_, subst}
+use Prim.Native.Nat.{ℕ, zero, suc, _+_, _*_, _/_, _%_, _<_}
+use mathlib.Core.Path.{_≡_, refl, sym, subst}
 use mathlib.Core.Bool.{Bool, true, false}
 use mathlib.Core.List.{List, [], _∷_}
-use native.Mathlib.Nat.{not-suc-le-zero, le-of-suc-le-suc, zero-mul, zero-add, mod-lt, div-add-mod', div-lt-iff-lt-mul}
+use native.Mathlib.Nat.{not-suc-le-zero, le-of-suc-le-suc, mod-lt, div-add-mod', div-lt-iff-lt-mul}
 use native.Mathlib.Omega.{arith}
 use lib.Dec.{T, ltb}
 use lib.ListN.{length, getD, drop, length-drop}
@@ -13,9 +13,9 @@ use lib.Ieee.{Float, nan, binary32, add, mul}
 use lib.Ieee.Scale.{finite}
 use Rattle.error.specs.Answer.{place}
 use Rattle.error.proofs.Places.{each-clear, each-none}
-use Rattle.rounding.specs.Sums.{running, products, dot}
+use Rattle.rounding.specs.Sums.{running, products}
 use Rattle.rounding.proofs.Finite.{add-finite, mul-finite}
-use Rattle.setup.specs.Checks.{notFinite}
+use Rattle.setup.specs.Checks.{badValue}
 use Rattle.setup.proofs.Rows.{finite-passes, passes-finite}
 use Rattle.qjl.specs.Projection.{projected}
 use Rattle.qjl.specs.Filled.{Rowed, onRow}
@@ -44,11 +44,11 @@ told : (b : Bool) → b ≡ true → T b
 told true e = tt
 told false e = subst T (sym e) tt
 
-module _ (n m : ℕ) (matrix query : List Float) (rowed : Rowed n matrix query m) (clean : ltb (place notFinite (projected n m matrix query)) (length (projected n m matrix query)) ≡ false) where
+module _ (n m : ℕ) (matrix query : List Float) (rowed : Rowed n matrix query m) (clean : ltb (place badValue (projected n m matrix query)) (length (projected n m matrix query)) ≡ false) where
   row-finite : (j : ℕ) → j < m → T (finite (onRow n matrix query j))
   row-finite j l =
       let within : j < length (projected n m matrix query) = rw (projected-length n m matrix query) l in
-      subst (λ (x : Float). T (finite x)) (projected-row n m matrix query j (rowed .query-long) l) (told _ (passes-finite _ (each-clear notFinite (projected n m matrix query) nan clean j within)))
+      subst (λ (x : Float). T (finite x)) (projected-row n m matrix query j (rowed .query-long) l) (told _ (passes-finite _ (each-clear badValue (projected n m matrix query) nan clean j within)))
 
   -- row j and column i
   cell-finite : (j i : ℕ) → j < m → i < n → j * n + i < length matrix → T (finite (getD matrix (j * n + i) nan)) × T (finite (getD query i nan))
@@ -64,7 +64,7 @@ module _ (n m : ℕ) (matrix query : List Float) (rowed : Rowed n matrix query m
       above zero e = absurd (omega (arith, e))
       above (suc w) e = omega arith
 
-  entry-finite : (k : ℕ) → k < length matrix → notFinite (getD matrix k nan) ≡ false
+  entry-finite : (k : ℕ) → k < length matrix → badValue (getD matrix k nan) ≡ false
   entry-finite k h =
       let above = columns-above k h in
       let e = div-add-mod' k n in
@@ -72,11 +72,11 @@ module _ (n m : ℕ) (matrix query : List Float) (rowed : Rowed n matrix query m
       let cell = cell-finite (k / n) (k % n) row (mod-lt k above) (omega (arith, e)) in
       finite-passes _ (is-true _ (rw e at (cell .0)))
 
-  pub matrix-finite : ltb (place notFinite matrix) (length matrix) ≡ false
-  matrix-finite = each-none notFinite matrix nan entry-finite
+  pub matrix-finite : ltb (place badValue matrix) (length matrix) ≡ false
+  matrix-finite = each-none badValue matrix nan entry-finite
 
-  pub query-finite : 0 < m → ltb (place notFinite query) (length query) ≡ false
-  query-finite l = each-none notFinite query nan (λ i h. finite-passes _ (is-true _ (cell-finite 0 i l (omega (arith, rowed .query-long)) (first-within i h) .1)))
+  pub query-finite : 0 < m → ltb (place badValue query) (length query) ≡ false
+  query-finite l = each-none badValue query nan (λ i h. finite-passes _ (is-true _ (cell-finite 0 i l (omega (arith, rowed .query-long)) (first-within i h) .1)))
     where
       first-within : (i : ℕ) → i < length query → 0 * n + i < length matrix
       first-within i h = whole m l (rowed .matrix-long)

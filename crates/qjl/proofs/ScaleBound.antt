@@ -25,7 +25,7 @@ use Rattle.rounding.proofs.Product.{div-near}
 use Rattle.rounding.proofs.Signed.{size-least, abs-times}
 use Rattle.rounding.proofs.Values.{mag-of-value, finite-of-value, val-sized, unit-pos}
 use Rattle.qjl.specs.Projection.{projected}
-use Rattle.bitpack.specs.Signs.{notSign}
+use Rattle.bitpack.specs.Signs.{badSketchSign}
 use Rattle.qjl.specs.Score.{root, scaleOf, residualOf}
 use Rattle.qjl.specs.Exact.{exactResidual, residualSize}
 use Rattle.qjl.proofs.SignSums.{root-pattern}
@@ -94,7 +94,7 @@ scale-most m l = split (mag-either (div binary32 (mul binary32 root (one false))
 
 -- ---- the residual with the norm 1.0: its absolute error is at most 2 n + 1 units of its scale
 module _ (n m : ℕ) (matrix query : List Float) (signs : List ℤ) (f : AllFit matrix) (g : AllFit query) (L : n + m + 1 ≤ 2 ^ 23) (long : length signs ≡ m)
-    (good : (i : ℕ) → i < length signs → notSign (getD signs i (pos 0)) ≡ false) where
+    (good : (i : ℕ) → i < length signs → badSketchSign (getD signs i (pos 0)) ≡ false) where
   pub close-unit-residual : Close (unit * unit) (n + m + 2) (2 * n * (unit * unit) + unit * unit) (residualSize (scaleOf m (one false)) n m matrix query)
       (residualOf m (one false) (projected n m matrix query) signs) (exactResidual (scaleOf m (one false)) n m matrix query signs)
   close-unit-residual =

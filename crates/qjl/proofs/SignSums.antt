@@ -9,7 +9,7 @@ use lib.Seq.{drop-cons}
 use lib.Ieee.{Float, nan, binary32, add, mul, div, ofInt, ofBits}
 use Rattle.float.specs.SquareRoot.{squareRoot}
 use Rattle.rounding.specs.Sums.{running, products}
-use Rattle.qjl.specs.Score.{root, scaleOf, signSum, residualOf}
+use Rattle.qjl.specs.Score.{root, scaleOf, signSumOf, residualOf}
 use Rattle.qjl.proofs.Rows.{nothing-left}
 
 -- the root's pattern
@@ -18,7 +18,7 @@ unfolding root squareRoot div ofBits
 root-pattern = refl
 
 -- the residual from its two factors
-pub residual-product : (m : ℕ) (norm : Float) (values : List Float) (signs : List ℤ) {a b : Float} → a ≡ scaleOf m norm → b ≡ signSum signs values → mul binary32 a b ≡ residualOf m norm values signs
+pub residual-product : (m : ℕ) (norm : Float) (values : List Float) (signs : List ℤ) {a b : Float} → a ≡ scaleOf m norm → b ≡ signSumOf signs values → mul binary32 a b ≡ residualOf m norm values signs
 unfolding residualOf
 residual-product m norm values signs {a} {b} e f = ap (λ (x : Float). mul binary32 x b) e ∙ ap (mul binary32 (scaleOf m norm)) f
 

@@ -16,8 +16,8 @@ use Rattle.rounding.specs.Sums.{total, products, exactTotal, turnedEach, sum, A
 use Rattle.rounding.proofs.Exact.{mul-commutes}
 use Rattle.rounding.proofs.Folds.{close-signs, close-total}
 use Rattle.rounding.proofs.Lists.{length-products}
-use Rattle.bitpack.specs.Signs.{isMinus, notSign}
-use Rattle.qjl.specs.Score.{signSum}
+use Rattle.bitpack.specs.Signs.{isMinus, badSketchSign}
+use Rattle.qjl.specs.Score.{signSumOf}
 
 or-none : (b : Bool) → (b || false) ≡ true → b ≡ true
 or-none true e = refl
@@ -31,12 +31,12 @@ sign-minus : (n : ℕ) → n ≡ 0 → ofInt binary32 (negsuc n) ≡ one true
 unfolding ofInt
 sign-minus n e = rw e refl
 
-pub sign-value : (z : ℤ) → notSign z ≡ false → ofInt binary32 z ≡ one (isMinus z)
+pub sign-value : (z : ℤ) → badSketchSign z ≡ false → ofInt binary32 z ≡ one (isMinus z)
 sign-value (pos n) e = sign-plus n (eqb-true n 1 (or-none (eqb n 1) (not-false (eqb n 1 || false) e)))
 sign-value (negsuc n) e = let f = eqb-true n 0 (not-false (eqb n 0) e) in sign-minus n f ∙ ap (λ (k : ℕ). one (eqb k 0)) (sym f)
 
 -- each of them
-pub sign-values : (signs : List ℤ) → ((i : ℕ) → i < length signs → notSign (getD signs i (pos 0)) ≡ false) → map (ofInt binary32) signs ≡ map one (map isMinus signs)
+pub sign-values : (signs : List ℤ) → ((i : ℕ) → i < length signs → badSketchSign (getD signs i (pos 0)) ≡ false) → map (ofInt binary32) signs ≡ map one (map isMinus signs)
 sign-values [] good = refl
 sign-values (z ∷ signs) good = cc (sign-value z (good 0 (suc-le-suc zero-le)), sign-values signs (λ i l. good (suc i) (suc-le-suc l)))
 
@@ -49,9 +49,9 @@ products-commute (v ∷ vs) (c ∷ cs) = cc (mul-commutes binary32 v c, products
 
 -- the sum of sign times value, of values that are close
 pub close-sign-sum : {s k : ℕ} {rs bs : List ℕ} {vs : List Float} {xs : List Diff} (signs : List ℤ) → length signs ≡ length vs
-    → ((i : ℕ) → i < length signs → notSign (getD signs i (pos 0)) ≡ false) → k + length vs ≤ 2 ^ 23 → AllClose s k rs bs vs xs
-    → Close s (k + length vs) (sum rs) (sum bs) (signSum signs vs) (exactTotal (turnedEach (map isMinus signs) xs))
-unfolding signSum
+    → ((i : ℕ) → i < length signs → badSketchSign (getD signs i (pos 0)) ≡ false) → k + length vs ≤ 2 ^ 23 → AllClose s k rs bs vs xs
+    → Close s (k + length vs) (sum rs) (sum bs) (signSumOf signs vs) (exactTotal (turnedEach (map isMinus signs) xs))
+unfolding signSumOf
 close-sign-sum {s} {k} {rs} {bs} {vs} {xs} signs e good L all =
     let ss = map isMinus signs in
     let long : length ss ≡ length vs = simp length-map e in

@@ -16,8 +16,8 @@ use mir.Facts.{toZ-ofZ}
 use borrow.Author.Tests.{eq-eqb, ne-eqb}
 use Rattle.rounding.specs.Value.{posZero}
 use Rattle.qjl.specs.Projection.{projected}
-use Rattle.qjl.specs.Sketch.{signOf}
-use Rattle.bitpack.specs.Signs.{isPlus, isMinus, notSign}
+use Rattle.qjl.specs.Sketch.{signOfSum}
+use Rattle.bitpack.specs.Signs.{isPlus, isMinus, badSketchSign}
 use Rattle.qjl.proofs.Rows.{projected-length}
 
 pub signed-back : (z : ℤ) → mag z < 2 ^ 7 → toZ w8 (ofZ w8 z) ≡ z
@@ -47,29 +47,29 @@ either-back : (t : Bool) → toZ w8 (ofZ w8 (cond t (pos 1) (negsuc 0))) ≡ con
 either-back true = refl
 either-back false = refl
 
-pub sign-back : (sum : Float) → toZ w8 (ofZ w8 (signOf sum)) ≡ signOf sum
-unfolding signOf
+pub sign-back : (sum : Float) → toZ w8 (ofZ w8 (signOfSum sum)) ≡ signOfSum sum
+unfolding signOfSum
 sign-back sum = either-back (le posZero sum)
 
 -- the signs of a list, by the index
-pub getD-signs : (values : List Float) (j : ℕ) → j < length values → signOf (getD values j nan) ≡ getD (map signOf values) j (pos 0)
+pub getD-signs : (values : List Float) (j : ℕ) → j < length values → signOfSum (getD values j nan) ≡ getD (map signOfSum values) j (pos 0)
 getD-signs [] j l = absurd (not-suc-le-zero l)
 getD-signs (v ∷ values) zero l = refl
 getD-signs (v ∷ values) (suc j) l = getD-signs values j (le-of-suc-le-suc l)
 
 -- ---- a sketch can be scored: its entries are signs, one for each projection
-either-good : (t : Bool) → notSign (cond t (pos 1) (negsuc 0)) ≡ false
+either-good : (t : Bool) → badSketchSign (cond t (pos 1) (negsuc 0)) ≡ false
 either-good true = refl
 either-good false = refl
 
-pub sign-good : (sum : Float) → notSign (signOf sum) ≡ false
-unfolding signOf
+pub sign-good : (sum : Float) → badSketchSign (signOfSum sum) ≡ false
+unfolding signOfSum
 sign-good sum = either-good (le posZero sum)
 
-pub sketch-length : (n m : ℕ) (matrix vector : List Float) → length (map signOf (projected n m matrix vector)) ≡ m
+pub sketch-length : (n m : ℕ) (matrix vector : List Float) → length (map signOfSum (projected n m matrix vector)) ≡ m
 sketch-length n m matrix vector = simp length-map (projected-length n m matrix vector)
 
-pub sketch-good : (n m : ℕ) (matrix vector : List Float) (i : ℕ) → i < m → notSign (getD (map signOf (projected n m matrix vector)) i (pos 0)) ≡ false
+pub sketch-good : (n m : ℕ) (matrix vector : List Float) (i : ℕ) → i < m → badSketchSign (getD (map signOfSum (projected n m matrix vector)) i (pos 0)) ≡ false
 sketch-good n m matrix vector i l =
     let inside : i < length (projected n m matrix vector) = omega (arith, projected-length n m matrix vector) in
-    ap notSign (sym (getD-signs (projected n m matrix vector) i inside)) ∙ sign-good (getD (projected n m matrix vector) i nan)
+    ap badSketchSign (sym (getD-signs (projected n m matrix vector) i inside)) ∙ sign-good (getD (projected n m matrix vector) i nan)

@@ -8,7 +8,7 @@ use lib.ListN.{length}
 use lib.Ieee.{Float, binary32, mul, div, ofInt, ofBits}
 use lib.Ieee.Scale.{finite}
 use Rattle.error.specs.Answer.{Answer, value, refused, Check, check, first, each}
-use Rattle.bitpack.specs.Signs.{notSign}
+use Rattle.bitpack.specs.Signs.{badSketchSign}
 use Rattle.float.specs.SquareRoot.{squareRoot}
 use Rattle.rounding.specs.Sums.{dot}
 use Rattle.rounding.specs.Value.{posZero, one}
@@ -16,7 +16,7 @@ use Rattle.error.specs.Checks.{wrongInput}
 use Rattle.setup.specs.declared.Setup.{Setup}
 use Rattle.setup.specs.declared.TurboMode.{TurboMode}
 use Rattle.setup.specs.declared.TurboMode.the-variants.{PolarOnly, PolarWithQjl}
-use Rattle.setup.specs.Checks.{notFinite}
+use Rattle.setup.specs.Checks.{badValue}
 use Rattle.qjl.specs.declared.Scored.{Scored}
 use Rattle.qjl.specs.declared.Scored.the-variants.{Score, Refused}
 use Rattle.qjl.specs.Projection.{projected}
@@ -36,20 +36,20 @@ unfoldable pub scaleOf : ℕ → Float → Float
 scaleOf m norm = div binary32 (mul binary32 root norm) (ofInt binary32 (pos m))
 
 -- 'the sum of sign times projected value'; 'Sums run in index order from +0.0.' It ends with the shorter list, and a sign counts by its value
-unfoldable pub signSum : List ℤ → List Float → Float
-signSum signs values = dot (map (ofInt binary32) signs) values
+unfoldable pub signSumOf : List ℤ → List Float → Float
+signSumOf signs values = dot (map (ofInt binary32) signs) values
 
 -- 'Residual: scale times the sum of sign times projected value'
 unfoldable pub residualOf : ℕ → Float → List Float → List ℤ → Float
-residualOf m norm values signs = mul binary32 (scaleOf m norm) (signSum signs values)
+residualOf m norm values signs = mul binary32 (scaleOf m norm) (signSumOf signs values)
 
 -- '12: a score or distance is not finite. Place 0.'
-abbrev pub badScore : Float → Check
-badScore x = check (not (finite x)) 12 0
+abbrev pub wrongScore : Float → Check
+wrongScore x = check (not (finite x)) 12 0
 
 -- 'projected 11, 5 and 10 for the signs, 12': what follows the checks of the query; m signs are asked for
 abbrev pub signedChecks : ℕ → List Float → List ℤ → Float → List Check
-signedChecks m values signs score = each notFinite 11 values ∷ wrongInput (length signs) m ∷ each notSign 10 signs ∷ badScore score ∷ []
+signedChecks m values signs score = each badValue 11 values ∷ wrongInput (length signs) m ∷ each badSketchSign 10 signs ∷ wrongScore score ∷ []
 
 -- the residual of a projected query and lent signs, with the norm 1.0
 abbrev pub unitResidual : ℕ → List Float → List ℤ → Float

@@ -21,9 +21,9 @@ ghost use Rattle.error.specs.Outcomes.{says};
 ghost use Rattle.rounding.specs.Sums.{dot};
 ghost use Rattle.qjl.specs.Projection.{projected, projectOf};
 ghost use Rattle.qjl.specs.Filled.{Filled, SoFar, FourSoFar, FourDots, fourMore, onRow, Rowed};
-ghost use Rattle.qjl.specs.Sketch.{signOf, vectorChecks, sketchOf, FiniteSigns, AtOnce};
-ghost use Rattle.bitpack.specs.Signs.{notSign};
-ghost use Rattle.qjl.specs.Score.{saysScore, scaleOf, signSum, residualOf, signedScore, sketchScoreOf};
+ghost use Rattle.qjl.specs.Sketch.{signOfSum, vectorChecks, sketchOf, FiniteSigns, AtOnce};
+ghost use Rattle.bitpack.specs.Signs.{badSketchSign};
+ghost use Rattle.qjl.specs.Score.{saysScore, scaleOf, signSumOf, residualOf, signedScore, sketchScoreOf};
 
 // A score with its value, or a refusal.
 pub enum Scored {
@@ -141,7 +141,7 @@ pub fn scale(projections: u16, norm: f32) -> f32
 
 // The sum of sign times projected value, as far as the shorter of the two goes.
 pub fn sign_sum(signs: &[i8], projected: &[f32]) -> f32
-    ensures { λ r. ⌜ r ≡ signSum (now (signs .entry)) (now (projected .entry)) ⌝ }
+    ensures { λ r. ⌜ r ≡ signSumOf (now (signs .entry)) (now (projected .entry)) ⌝ }
 {
     let mut sum = 0.0f32;
     let mut i = 0;
@@ -268,7 +268,7 @@ fn sketch_checked(
 // The sign of each projection, into the output.
 fn sketch_rows(dim: usize, matrix: &[f32], vector: &[f32], out: &mut [i8])
     requires { ⌜ Rowed dim (now matrix) (now vector) (length (now out)) × (length (now out) ≤ 4096) ⌝ }
-    ensures { λ _. ⌜ now (out .exit) ≡ map signOf (projected dim (length (now (out .entry))) (now (matrix .entry)) (now (vector .entry))) ⌝ }
+    ensures { λ _. ⌜ now (out .exit) ≡ map signOfSum (projected dim (length (now (out .entry))) (now (matrix .entry)) (now (vector .entry))) ⌝ }
 {
     let rows = out.len();
     let mut values = zeros();
@@ -279,7 +279,7 @@ fn sketch_rows(dim: usize, matrix: &[f32], vector: &[f32], out: &mut [i8])
 // The sign of each value, into the output.
 fn signs_into(values: &[f32], out: &mut [i8])
     requires { ⌜ length (now out) ≡ length (now values) ⌝ }
-    ensures { λ _. ⌜ now (out .exit) ≡ map signOf (now (values .entry)) ⌝ }
+    ensures { λ _. ⌜ now (out .exit) ≡ map signOfSum (now (values .entry)) ⌝ }
 {
     let mut i = 0;
     while i < out.len() {
@@ -290,7 +290,7 @@ fn signs_into(values: &[f32], out: &mut [i8])
 
 // The sign of a row's sum.
 fn sign(sum: f32) -> i8
-    ensures { λ r. ⌜ r ≡ signOf sum ⌝ }
+    ensures { λ r. ⌜ r ≡ signOfSum sum ⌝ }
 {
     if sum >= 0.0 { 1 } else { -1 }
 }
@@ -469,7 +469,7 @@ fn times(sign: i8, value: f32) -> f32
 
 // The index of the first number that is neither -1 nor 1, or how many there are.
 fn first_no_sign(signs: &[i8]) -> usize
-    ensures { λ r. ⌜ r ≡ place notSign (now (signs .entry)) ⌝ }
+    ensures { λ r. ⌜ r ≡ place badSketchSign (now (signs .entry)) ⌝ }
 {
     let mut i = 0;
     while i < signs.len() {
@@ -483,7 +483,7 @@ fn first_no_sign(signs: &[i8]) -> usize
 
 // Whether a number is neither -1 nor 1.
 fn no_sign(sign: i8) -> bool
-    ensures { λ r. ⌜ r ≡ notSign sign ⌝ }
+    ensures { λ r. ⌜ r ≡ badSketchSign sign ⌝ }
 {
     if sign == 1 {
         return false;

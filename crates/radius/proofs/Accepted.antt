@@ -14,7 +14,7 @@ use Rattle.error.proofs.Places.{place-le, place-passed}
 use Rattle.float.specs.Bytes.{ofLeBytes}
 use Rattle.radius.specs.Chunks.{chunks}
 use Rattle.radius.specs.Radii.{zeroFloat, badRadius}
-use Rattle.radius.specs.Codec.{widthOf, compressChecks, bytesFor, compressedBytes, decompressChecks, radiiFor, decompressOf}
+use Rattle.radius.specs.Codec.{widthOf, compressChecks, payloadFor, compressBytesOf, decompressChecks, radiiFor, decompressOf}
 use Rattle.radius.proofs.Radii.{radius-finite, radius-not-nan, radius-not-below}
 use Rattle.radius.specs.declared.Range.{Range}
 use Rattle.radius.specs.declared.RadiusCodecProfileV1.{RadiusCodecProfileV1}
@@ -39,18 +39,18 @@ module _ {A : Type 0} {x : A} where
 
 -- ---- what compress accepts
 
-module _ (radii : List Float) (profile : RadiusCodecProfileV1) (room : ℕ) (bytes : List ℕ) (made : compressedBytes radii profile room ≡ value bytes) where
+module _ (radii : List Float) (profile : RadiusCodecProfileV1) (room : ℕ) (bytes : List ℕ) (made : compressBytesOf radii profile room ≡ value bytes) where
   pub compressed-place : place badRadius radii ≡ length radii
-  unfolding compressedBytes
-  compressed-place = let h = ltb-false (place badRadius radii) (length radii) (no-offence (compressChecks radii profile room) (value (bytesFor profile radii)) made 0) in let k = place-le badRadius radii in omega (arith, h, k)
+  unfolding compressBytesOf
+  compressed-place = let h = ltb-false (place badRadius radii) (length radii) (no-offence (compressChecks radii profile room) (value (payloadFor profile radii)) made 0) in let k = place-le badRadius radii in omega (arith, h, k)
 
   pub compressed-room : room ≡ widthOf profile * length radii
-  unfolding compressedBytes
-  compressed-room = eqb-true _ _ (not-false _ (no-offence (compressChecks radii profile room) (value (bytesFor profile radii)) made 2))
+  unfolding compressBytesOf
+  compressed-room = eqb-true _ _ (not-false _ (no-offence (compressChecks radii profile room) (value (payloadFor profile radii)) made 2))
 
-  pub compressed-is : bytes ≡ bytesFor profile radii
-  unfolding compressedBytes
-  compressed-is = value-kept (compressChecks radii profile room) (bytesFor profile radii) made
+  pub compressed-is : bytes ≡ payloadFor profile radii
+  unfolding compressBytesOf
+  compressed-is = value-kept (compressChecks radii profile room) (payloadFor profile radii) made
 
   pub compressed-radius : (i : ℕ) → i < length radii → badRadius (getD radii i nan) ≡ false
   compressed-radius i h = place-passed badRadius radii nan compressed-place i h

@@ -12,7 +12,7 @@ use Rattle.float.specs.Rounding.{clamped, roundUnsigned}
 use Rattle.radius.specs.Chunks.{chunks}
 use Rattle.radius.specs.Radii.{least, greatest, rangeOf}
 use Rattle.radius.specs.Linear.{spanOf, quantized, linearBytes, restored, linearRadius}
-use Rattle.radius.specs.Codec.{compressedRange, compressedBytes, decompressOf, encodedBytes}
+use Rattle.radius.specs.Codec.{compressRangeOf, compressBytesOf, decompressOf, encodedBytesOf}
 use Rattle.radius.specs.declared.Range.{Range}
 use Rattle.radius.specs.declared.RadiusCodecProfileV1.the-variants.{F32, BlockLinearU16, BlockLogU8}
 
@@ -30,17 +30,17 @@ between lo hi = record { min = float lo; max = float hi }
 abbrev pub halves : List Float
 halves = float 0x0000_0000 ∷ float 0x3F00_0000 ∷ float 0x3F80_0000 ∷ []
 
-pub compress-halves : compressedBytes halves BlockLinearU16 6 ≡ value (0x00 ∷ 0x00 ∷ 0x00 ∷ 0x80 ∷ 0xFF ∷ 0xFF ∷ [])
-unfolding flatMap ofBits sub mul div lt place digits roundUnsigned least greatest rangeOf clamped spanOf quantized linearBytes compressedBytes
+pub compress-halves : compressBytesOf halves BlockLinearU16 6 ≡ value (0x00 ∷ 0x00 ∷ 0x00 ∷ 0x80 ∷ 0xFF ∷ 0xFF ∷ [])
+unfolding flatMap ofBits sub mul div lt place digits roundUnsigned least greatest rangeOf clamped spanOf quantized linearBytes compressBytesOf
 compress-halves = refl
 
-range-halves : compressedRange halves BlockLinearU16 6 ≡ value (upTo 0x3F80_0000)
-unfolding ofBits lt place least greatest rangeOf compressedRange
+range-halves : compressRangeOf halves BlockLinearU16 6 ≡ value (upTo 0x3F80_0000)
+unfolding ofBits lt place least greatest rangeOf compressRangeOf
 range-halves = refl
 
 -- '(0, 2^−24): the second is 32,768 and comes back near 2^−25': as 2^−25 × (1 + 2^−16), pattern 33000080
-pub compress-narrow : compressedBytes (float 0x0000_0000 ∷ float 0x3380_0000 ∷ []) BlockLinearU16 4 ≡ value (0x00 ∷ 0x00 ∷ 0x00 ∷ 0x80 ∷ [])
-unfolding flatMap ofBits sub mul div lt place digits roundUnsigned least greatest rangeOf clamped spanOf quantized linearBytes compressedBytes
+pub compress-narrow : compressBytesOf (float 0x0000_0000 ∷ float 0x3380_0000 ∷ []) BlockLinearU16 4 ≡ value (0x00 ∷ 0x00 ∷ 0x00 ∷ 0x80 ∷ [])
+unfolding flatMap ofBits sub mul div lt place digits roundUnsigned least greatest rangeOf clamped spanOf quantized linearBytes compressBytesOf
 compress-narrow = refl
 
 pub decompress-narrow : decompressOf BlockLinearU16 2 (upTo 0x3380_0000) (0x00 ∷ 0x00 ∷ 0x00 ∷ 0x80 ∷ []) 2 ≡ value (float 0x0000_0000 ∷ float 0x3300_0080 ∷ [])
@@ -48,8 +48,8 @@ unfolding ofBits add sub mul div lt ofInt number chunks restored linearRadius de
 decompress-narrow = refl
 
 -- a half goes away from zero: 37000080 × 65,535 is 0.5, and its number is 1
-compress-half : compressedBytes (float 0x0000_0000 ∷ float 0x3700_0080 ∷ float 0x3F80_0000 ∷ []) BlockLinearU16 6 ≡ value (0x00 ∷ 0x00 ∷ 0x01 ∷ 0x00 ∷ 0xFF ∷ 0xFF ∷ [])
-unfolding flatMap ofBits sub mul div lt place digits roundUnsigned least greatest rangeOf clamped spanOf quantized linearBytes compressedBytes
+compress-half : compressBytesOf (float 0x0000_0000 ∷ float 0x3700_0080 ∷ float 0x3F80_0000 ∷ []) BlockLinearU16 6 ≡ value (0x00 ∷ 0x00 ∷ 0x01 ∷ 0x00 ∷ 0xFF ∷ 0xFF ∷ [])
+unfolding flatMap ofBits sub mul div lt place digits roundUnsigned least greatest rangeOf clamped spanOf quantized linearBytes compressBytesOf
 compress-half = refl
 
 -- 'min 1.5 × 2^104, max the largest f32, value 65,535' reads as infinite
@@ -70,8 +70,8 @@ decompress-negative = refl
 -- ---- the two zeros, and no radii
 
 -- '−0.0 is kept'
-compress-minus-zero : compressedBytes (float 0x8000_0000 ∷ []) F32 4 ≡ value (0x00 ∷ 0x00 ∷ 0x00 ∷ 0x80 ∷ [])
-unfolding flatMap ofBits toBits lt place digits toLeBytes compressedBytes
+compress-minus-zero : compressBytesOf (float 0x8000_0000 ∷ []) F32 4 ≡ value (0x00 ∷ 0x00 ∷ 0x00 ∷ 0x80 ∷ [])
+unfolding flatMap ofBits toBits lt place digits toLeBytes compressBytesOf
 compress-minus-zero = refl
 
 decompress-minus-zero : decompressOf F32 1 (upTo 0x0000_0000) (0x00 ∷ 0x00 ∷ 0x00 ∷ 0x80 ∷ []) 1 ≡ value (float 0x8000_0000 ∷ [])
@@ -79,28 +79,28 @@ unfolding ofBits lt place number chunks ofLeBytes decompressOf
 decompress-minus-zero = refl
 
 -- 'An equal value doesn't replace the earlier one'
-range-zeros : compressedRange (float 0x8000_0000 ∷ float 0x0000_0000 ∷ []) BlockLinearU16 4 ≡ value (between 0x8000_0000 0x8000_0000)
-unfolding ofBits lt place least greatest rangeOf compressedRange
+range-zeros : compressRangeOf (float 0x8000_0000 ∷ float 0x0000_0000 ∷ []) BlockLinearU16 4 ≡ value (between 0x8000_0000 0x8000_0000)
+unfolding ofBits lt place least greatest rangeOf compressRangeOf
 range-zeros = refl
 
 -- 'no radii give 0, 0'
-range-none : compressedRange [] BlockLinearU16 0 ≡ value (upTo 0x0000_0000)
-unfolding ofBits place rangeOf compressedRange
+range-none : compressRangeOf [] BlockLinearU16 0 ≡ value (upTo 0x0000_0000)
+unfolding ofBits place rangeOf compressRangeOf
 range-none = refl
 
 -- ---- the order of refusals
 
 -- 16 comes before 18 and 6
-refused-radius : compressedBytes (float 0x0000_0000 ∷ float 0xBF80_0000 ∷ []) BlockLogU8 0 ≡ refused 16 1
-unfolding ofBits lt place compressedBytes
+refused-radius : compressBytesOf (float 0x0000_0000 ∷ float 0xBF80_0000 ∷ []) BlockLogU8 0 ≡ refused 16 1
+unfolding ofBits lt place compressBytesOf
 refused-radius = refl
 
-refused-log : compressedBytes [] BlockLogU8 7 ≡ refused 18 0
-unfolding place compressedBytes
+refused-log : compressBytesOf [] BlockLogU8 7 ≡ refused 18 0
+unfolding place compressBytesOf
 refused-log = refl
 
-refused-room : compressedBytes halves BlockLinearU16 5 ≡ refused 6 6
-unfolding ofBits lt place compressedBytes
+refused-room : compressBytesOf halves BlockLinearU16 5 ≡ refused 6 6
+unfolding ofBits lt place compressBytesOf
 refused-room = refl
 
 -- 13 comes before 17
@@ -122,6 +122,6 @@ unfolding ofBits lt place number chunks ofLeBytes decompressOf
 refused-nan = refl
 
 -- two floats more than the payload
-encoded-linear : encodedBytes BlockLinearU16 (0x00 ∷ 0x00 ∷ []) ≡ value 10
-unfolding encodedBytes
+encoded-linear : encodedBytesOf BlockLinearU16 (0x00 ∷ 0x00 ∷ []) ≡ value 10
+unfolding encodedBytesOf
 encoded-linear = refl

@@ -12,7 +12,7 @@ use Rattle.float.specs.Bytes.{ofLeBytes}
 use Rattle.radius.specs.Chunks.{chunks}
 use Rattle.radius.specs.Radii.{badRadius, badRange}
 use Rattle.error.specs.Checks.{differs}
-use Rattle.radius.specs.Codec.{isLog, widthOf, compressChecks, radiiFor, decompressOf}
+use Rattle.radius.specs.Codec.{badProfile, widthOf, compressChecks, radiiFor, decompressOf}
 use Rattle.radius.proofs.Chunks.{chunks-length}
 use Rattle.radius.specs.declared.Range.{Range}
 use Rattle.radius.specs.declared.RadiusCodecProfileV1.{RadiusCodecProfileV1}
@@ -27,10 +27,10 @@ module _ {A : Type 0} (radii : List Float) (room : ℕ) (x : A) (bad : ℕ) (fou
   pub compress-log : length radii ≤ bad → first (compressChecks radii BlockLogU8 room) (value x) ≡ refused 18 0
   compress-log h = simp (← found, le-ltb _ _ h)
 
-  pub compress-room : (profile : RadiusCodecProfileV1) → isLog profile ≡ false → length radii ≤ bad → (room ≡ widthOf profile * length radii → ⊥) → first (compressChecks radii profile room) (value x) ≡ refused 6 (widthOf profile * length radii)
+  pub compress-room : (profile : RadiusCodecProfileV1) → badProfile profile ≡ false → length radii ≤ bad → (room ≡ widthOf profile * length radii → ⊥) → first (compressChecks radii profile room) (value x) ≡ refused 6 (widthOf profile * length radii)
   compress-room profile e h n = simp (← found, le-ltb _ _ h, e, ne-eqb _ _ n)
 
-  pub compress-value : (profile : RadiusCodecProfileV1) → isLog profile ≡ false → length radii ≤ bad → room ≡ widthOf profile * length radii → first (compressChecks radii profile room) (value x) ≡ value x
+  pub compress-value : (profile : RadiusCodecProfileV1) → badProfile profile ≡ false → length radii ≤ bad → room ≡ widthOf profile * length radii → first (compressChecks radii profile room) (value x) ≡ value x
   compress-value profile e h l = simp (← found, le-ltb _ _ h, e, eq-eqb _ _ l)
 
 -- ---- decompress
@@ -40,7 +40,7 @@ module _ (count : ℕ) (range : Range) (payload : List ℕ) (room : ℕ) where
   unfolding decompressOf
   decompress-log = refl
 
-  pub decompress-length : (profile : RadiusCodecProfileV1) → isLog profile ≡ false → differs (length payload) (widthOf profile * count) ≡ true → decompressOf profile count range payload room ≡ refused 13 (length payload)
+  pub decompress-length : (profile : RadiusCodecProfileV1) → badProfile profile ≡ false → differs (length payload) (widthOf profile * count) ≡ true → decompressOf profile count range payload room ≡ refused 13 (length payload)
   unfolding decompressOf
   decompress-length profile e w = simp (e, w)
 

@@ -17,7 +17,7 @@ use Rattle.float.specs.Bytes.{ofLeBytes, toLeBytes}
 use Rattle.float.proofs.Bytes.{length-toLeBytes, ofLeBytes-toLeBytes, toLeBytes-ofLeBytes}
 use Rattle.radius.specs.Chunks.{chunks}
 use Rattle.radius.specs.Radii.{badRadius}
-use Rattle.radius.specs.Codec.{compressedBytes, decompressOf}
+use Rattle.radius.specs.Codec.{compressBytesOf, decompressOf}
 use Rattle.radius.proofs.Radii.{radius-not-nan}
 use Rattle.radius.proofs.Chunks.{chunks-getD, chunks-length, chunks-joined, joined-length, joined-chunks, map-same}
 use Rattle.radius.proofs.Refusals.{compress-value, decompress-floats}
@@ -35,7 +35,7 @@ floats-back radii f =
     chunks-joined toLeBytes 4 length-toLeBytes ofLeBytes radii
     ∙ map-same (λ r. ofLeBytes (toLeBytes r)) radii nan (λ i h. ofLeBytes-toLeBytes (getD radii i nan) (f .at i h))
 
-pub decompress-compress : (radii : List Float) (room : ℕ) (bytes : List ℕ) (range : Range) → Floats radii → compressedBytes radii F32 room ≡ value bytes → decompressOf F32 (length radii) range bytes (length radii) ≡ value radii
+pub decompress-compress : (radii : List Float) (room : ℕ) (bytes : List ℕ) (range : Range) → Floats radii → compressBytesOf radii F32 room ≡ value bytes → decompressOf F32 (length radii) range bytes (length radii) ≡ value radii
 decompress-compress radii room bytes range f made =
     let back = ap (λ (l : List ℕ). map ofLeBytes (chunks 4 (length radii) l)) (compressed-is radii F32 room bytes made) ∙ floats-back radii f in
     let long = ap length (compressed-is radii F32 room bytes made) ∙ joined-length toLeBytes 4 length-toLeBytes radii in
@@ -70,8 +70,8 @@ module _ (count : ℕ) (range : Range) (payload : List ℕ) (room : ℕ) (radii 
       let good = ap badRadius (sym here) ∙ decompressed-radius count range payload room radii read i (omega (arith, h, counted)) in
       toLeBytes-ofLeBytes part (part-below payload (4 * i) b inside) (part-length payload (4 * i) inside) (subst (λ (t : Bool). T (not t)) (sym (radius-not-nan (ofLeBytes part) good)) tt)
 
-  pub compress-decompress : compressedBytes radii F32 (length payload) ≡ value payload
-  unfolding compressedBytes
+  pub compress-decompress : compressBytesOf radii F32 (length payload) ≡ value payload
+  unfolding compressBytesOf
   compress-decompress =
       compress-value radii (length payload) (flatMap toLeBytes radii) (length radii) (sym (decompressed-place count range payload room radii read)) F32 refl (le-refl (length radii))
       (decompressed-length count range payload room radii read ∙ ap (λ (n : ℕ). 4 * n) (sym counted))

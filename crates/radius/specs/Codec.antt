@@ -15,10 +15,10 @@ use Rattle.radius.specs.declared.RadiusCodecProfileV1.{RadiusCodecProfil
 use Rattle.radius.specs.declared.RadiusCodecProfileV1.the-variants.{F32, BlockLinearU16, BlockLogU8}
 
 -- '18: .. profile BlockLogU8. Place: .. 0.'
-abbrev pub isLog : RadiusCodecProfileV1 → Bool
-isLog F32 = false
-isLog BlockLinearU16 = false
-isLog BlockLogU8 = true
+abbrev pub badProfile : RadiusCodecProfileV1 → Bool
+badProfile F32 = false
+badProfile BlockLinearU16 = false
+badProfile BlockLogU8 = true
 
 -- how many bytes a radius takes
 abbrev pub widthOf : RadiusCodecProfileV1 → ℕ
@@ -27,8 +27,8 @@ widthOf BlockLinearU16 = 2
 widthOf BlockLogU8 = 1
 
 -- '13: byte length wrong. Place: the length found.'
-abbrev pub wrongLength : RadiusCodecProfileV1 → ℕ → List ℕ → Check
-wrongLength profile count payload = check (differs (length payload) (widthOf profile * count)) 13 (length payload)
+abbrev pub wrongPayload : RadiusCodecProfileV1 → ℕ → List ℕ → Check
+wrongPayload profile count payload = check (differs (length payload) (widthOf profile * count)) 13 (length payload)
 
 -- ---- compress: 'F32 copies the four little-endian bytes; −0.0 is kept.' 'BlockLinearU16 holds a range of two floats'
 
@@ -36,7 +36,7 @@ wrongLength profile count payload = check (differs (length payload) (widthOf pro
 abbrev pub compressChecks : List Float → RadiusCodecProfileV1 → ℕ → List Check
 compressChecks radii profile room =
     each badRadius 16 radii
-    ∷ check (isLog profile) 18 0
+    ∷ check (badProfile profile) 18 0
     ∷ wrongRoom room (widthOf profile * length radii)
     ∷ []
 
@@ -47,16 +47,16 @@ rangeFor BlockLinearU16 radii = rangeOf radii
 rangeFor BlockLogU8 radii = record { min = zeroFloat; max = zeroFloat }
 
 -- the bytes of all radii, one after the other; BlockLogU8 is refused before
-abbrev pub bytesFor : RadiusCodecProfileV1 → List Float → List ℕ
-bytesFor F32 radii = flatMap toLeBytes radii
-bytesFor BlockLinearU16 radii = flatMap (linearBytes (rangeOf radii)) radii
-bytesFor BlockLogU8 radii = []
+abbrev pub payloadFor : RadiusCodecProfileV1 → List Float → List ℕ
+payloadFor F32 radii = flatMap toLeBytes radii
+payloadFor BlockLinearU16 radii = flatMap (linearBytes (rangeOf radii)) radii
+payloadFor BlockLogU8 radii = []
 
-unfoldable pub compressedRange : List Float → RadiusCodecProfileV1 → ℕ → Answer Range
-compressedRange radii profile room = first (compressChecks radii profile room) (value (rangeFor profile radii))
+unfoldable pub compressRangeOf : List Float → RadiusCodecProfileV1 → ℕ → Answer Range
+compressRangeOf radii profile room = first (compressChecks radii profile room) (value (rangeFor profile radii))
 
-unfoldable pub compressedBytes : List Float → RadiusCodecProfileV1 → ℕ → Answer (List ℕ)
-compressedBytes radii profile room = first (compressChecks radii profile room) (value (bytesFor profile radii))
+unfoldable pub compressBytesOf : List Float → RadiusCodecProfileV1 → ℕ → Answer (List ℕ)
+compressBytesOf radii profile room = first (compressChecks radii profile room) (value (payloadFor profile radii))
 
 -- ---- decompress
 
@@ -76,8 +76,8 @@ wrongContent BlockLogU8 count range payload = check false 18 0
 -- A length here is any natural number. `room` is the output's length
 abbrev pub decompressChecks : RadiusCodecProfileV1 → ℕ → Range → List ℕ → ℕ → List Check
 decompressChecks profile count range payload room =
-    check (isLog profile) 18 0
-    ∷ wrongLength profile count payload
+    check (badProfile profile) 18 0
+    ∷ wrongPayload profile count payload
     ∷ wrongContent profile count range payload
     ∷ wrongRoom room count
     ∷ []
@@ -92,5 +92,5 @@ besides F32 = 0
 besides BlockLinearU16 = 8
 besides BlockLogU8 = 8
 
-unfoldable pub encodedBytes : RadiusCodecProfileV1 → List ℕ → Answer ℕ
-encodedBytes profile payload = first (check (isLog profile) 18 0 ∷ []) (value (length payload + besides profile))
+unfoldable pub encodedBytesOf : RadiusCodecProfileV1 → List ℕ → Answer ℕ
+encodedBytesOf profile payload = first (check (badProfile profile) 18 0 ∷ []) (value (length payload + besides profile))

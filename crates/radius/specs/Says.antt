@@ -12,6 +12,6 @@ abbrev pub saysRange : Compressed → Answer Range
 saysRange (compressed.the-variants.Made range) = value range
 saysRange (compressed.the-variants.Refused n p) = refused n p
 
-abbrev pub saysLength : EncodedLength → Answer ℕ
-saysLength (encoded.the-variants.Bytes n) = value n
-saysLength (encoded.the-variants.Refused n p) = refused n p
+abbrev pub saysEncoded : EncodedLength → Answer ℕ
+saysEncoded (encoded.the-variants.Bytes n) = value n
+saysEncoded (encoded.the-variants.Refused n p) = refused n p

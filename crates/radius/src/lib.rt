@@ -18,8 +18,8 @@ ghost use Rattle.radius.specs.Chunks.{chunks};
 ghost use Rattle.radius.specs.Radii.{badRadius, badRange, rangeOf};
 ghost use Rattle.radius.specs.Linear.{spanOf, quantized, linearBytes, linearRadius};
 ghost use Rattle.error.specs.Checks.{differs};
-ghost use Rattle.radius.specs.Codec.{compressedRange, compressedBytes, decompressOf, encodedBytes};
-ghost use Rattle.radius.specs.Says.{saysRange, saysLength};
+ghost use Rattle.radius.specs.Codec.{compressRangeOf, compressBytesOf, decompressOf, encodedBytesOf};
+ghost use Rattle.radius.specs.Says.{saysRange, saysEncoded};
 
 // How radii are stored. BlockLogU8 is known and refused.
 pub enum RadiusCodecProfileV1 {
@@ -53,8 +53,8 @@ const MOST: f32 = 65535.0;
 
 // Compresses radii into exactly the bytes that they need, and answers their range.
 pub fn compress(radii: &[f32], profile: RadiusCodecProfileV1, out: &mut [u8]) -> Compressed
-    ensures said { λ r. ⌜ saysRange r ≡ compressedRange (now (radii .entry)) profile (length (now (out .entry))) ⌝ }
-    ensures left { λ r. ⌜ now (out .exit) ≡ after (compressedBytes (now (radii .entry)) profile (length (now (out .entry)))) (now (out .entry)) ⌝ }
+    ensures said { λ r. ⌜ saysRange r ≡ compressRangeOf (now (radii .entry)) profile (length (now (out .entry))) ⌝ }
+    ensures left { λ r. ⌜ now (out .exit) ≡ after (compressBytesOf (now (radii .entry)) profile (length (now (out .entry)))) (now (out .entry)) ⌝ }
 {
     let bad = first_bad(radii);
     if bad < radii.len() {
@@ -160,7 +160,7 @@ pub fn decompress(
 
 // How many bytes a payload takes, with its range where the profile has one.
 pub fn encoded_bytes(profile: RadiusCodecProfileV1, payload: &[u8]) -> EncodedLength
-    ensures { λ r. ⌜ saysLength r ≡ encodedBytes profile (now (payload .entry)) ⌝ }
+    ensures { λ r. ⌜ saysEncoded r ≡ encodedBytesOf profile (now (payload .entry)) ⌝ }
 {
     let length = payload.len();
     match profile {

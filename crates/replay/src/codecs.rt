@@ -37,7 +37,7 @@ pub(crate) fn unpack_indices(case: &[u8; 1024], out: &mut [u16]) -> bool {
 pub(crate) fn pack_signs(case: &[u8; 1024], out: &mut [u8]) -> bool {
     let signs = frame::signs(case, frame::SKETCH);
     let count = frame::count(case, frame::SKETCH);
-    let given = signs::pack_signs(&signs[0..count], out);
+    let given = bitpack_signs::pack_signs(&signs[0..count], out);
     same::outcome(case, given)
 }
 
@@ -45,7 +45,7 @@ pub(crate) fn unpack_signs(case: &[u8; 1024], out: &mut [i8]) -> bool {
     let packed = frame::bytes(case, frame::BYTES);
     let length = frame::count(case, frame::BYTES);
     let count = frame::first_number(case) as usize;
-    let given = signs::unpack_signs(&packed[0..length], count, out);
+    let given = bitpack_signs::unpack_signs(&packed[0..length], count, out);
     same::outcome(case, given)
 }
 

@@ -124,7 +124,7 @@ fn prepare_query(
     let second = frame::second_room(case);
     let mut rotated = frame::blank_floats();
     let mut projected = frame::blank_floats();
-    let given = query::prepare_query(
+    let given = turbo_query::prepare_query(
         frame::setup(case),
         signs,
         directions,
@@ -203,7 +203,7 @@ fn decode(case: &[u8; 1024], signs: &[f32], directions: &[f32], matrix: &[f32]) 
     let length = frame::count(case, frame::BYTES);
     let room = frame::room(case);
     let mut out = frame::blank_floats();
-    let given = decode::decode_approximate(
+    let given = turbo_decode::decode_approximate(
         frame::setup(case),
         signs,
         directions,
@@ -221,7 +221,7 @@ pub(crate) fn write_record(case: &[u8; 1024], out: &mut [u8]) -> bool {
     let codes = frame::count(case, frame::INDICES);
     let signs = frame::signs(case, frame::SKETCH);
     let rows = frame::count(case, frame::SKETCH);
-    let given = writing::write_record(
+    let given = packed_writing::write_record(
         frame::profile(case),
         frame::first_number(case) as usize,
         frame::bits(case),
@@ -246,19 +246,19 @@ pub(crate) fn read_record(case: &[u8; 1024]) -> bool {
 pub(crate) fn read_radii(case: &[u8; 1024], out: &mut [f32]) -> bool {
     let record = frame::bytes(case, frame::BYTES);
     let length = frame::count(case, frame::BYTES);
-    same::outcome(case, parts::read_radii(&record[0..length], out))
+    same::outcome(case, packed_parts::read_radii(&record[0..length], out))
 }
 
 pub(crate) fn read_indices(case: &[u8; 1024], out: &mut [u16]) -> bool {
     let record = frame::bytes(case, frame::BYTES);
     let length = frame::count(case, frame::BYTES);
-    same::outcome(case, parts::read_indices(&record[0..length], out))
+    same::outcome(case, packed_parts::read_indices(&record[0..length], out))
 }
 
 pub(crate) fn read_signs(case: &[u8; 1024], out: &mut [i8]) -> bool {
     let record = frame::bytes(case, frame::BYTES);
     let length = frame::count(case, frame::BYTES);
-    same::outcome(case, parts::read_signs(&record[0..length], out))
+    same::outcome(case, packed_parts::read_signs(&record[0..length], out))
 }
 
 // Whether the list accepts the record too, or says this refusal.

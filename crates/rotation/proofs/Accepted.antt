@@ -1,7 +1,7 @@
 -- What the checks of a rotation leave of a dimension, its signs and the lengths: a power of two up to 4,096, signs of that number that are -1 or 1,
 -- an input and an output of that length. Assumes nothing.
-use Prim.Native.Nat.{ℕ, suc, _^_, _≤_, _<_}
-use mathlib.Core.Path.{_≡_, refl, sym, ap, _∙_, subst}
+use Prim.Native.Nat.{ℕ, _^_, _≤_, _<_}
+use mathlib.Core.Path.{_≡_}
 use mathlib.Core.Bool.{false, not}
 use mathlib.Core.List.{List}
 use native.Mathlib.Omega.{arith}

@@ -1,14 +1,14 @@
 -- One turn of a block's loop: two stores make one pair more of the butterflies done. Assumes nothing.
-use Prim.Native.Nat.{ℕ, _+_, _-_, _*_, _≤_, _<_}
-use mathlib.Core.Path.{_≡_, refl, sym, ap, ap₂, _∙_}
+use Prim.Native.Nat.{ℕ, _+_, _*_, _≤_, _<_}
+use mathlib.Core.Path.{_≡_, refl, ap₂, _∙_}
 use mathlib.Core.List.{List}
 use mathlib.Core.Logic.{_≢_}
 use native.Mathlib.Omega.{arith}
 use borrow.Author.Count.{below-more}
-use lib.ListN.{length, getD, set, length-set}
+use lib.ListN.{length, set, length-set}
 use lib.Ieee.{Float, binary32, add, sub}
 use Rattle.rotation.proofs.Stores.{stores-first, stores-second, stores-other}
-use Rattle.rotation.specs.Block.{at, Partly}
+use Rattle.rotation.specs.Block.{entryAt, Partly}
 
 pub partly-start : (h start : ℕ) (xs : List Float) → Partly h start 0 xs xs
 partly-start h start xs =
@@ -24,34 +24,34 @@ partly-start h start xs =
 -- the sum and the difference of the pair (low, low + h), stored
 abbrev pub turned : ℕ → ℕ → List Float → List Float
 turned h low ys =
-    set (set ys low (add binary32 (at ys low) (at ys (low + h)))) (low + h) (sub binary32 (at ys low) (at ys (low + h)))
+    set (set ys low (add binary32 (entryAt ys low) (entryAt ys (low + h)))) (low + h) (sub binary32 (entryAt ys low) (entryAt ys (low + h)))
 
 module _ (h start done : ℕ) (xs ys : List Float) (inv : Partly h start done xs ys) (more : done < h) (room : start + 2 * h ≤ length xs) where
-  low-same : at ys (start + done) ≡ at xs (start + done)
+  low-same : entryAt ys (start + done) ≡ entryAt xs (start + done)
   low-same = inv .lows done (omega arith) more
 
-  high-same : at ys (start + done + h) ≡ at xs (start + done + h)
+  high-same : entryAt ys (start + done + h) ≡ entryAt xs (start + done + h)
   high-same = inv .highs done (omega arith)
 
-  at-high : at (turned h (start + done) ys) (start + done + h) ≡ sub binary32 (at xs (start + done)) (at xs (start + done + h))
+  at-high : entryAt (turned h (start + done) ys) (start + done + h) ≡ sub binary32 (entryAt xs (start + done)) (entryAt xs (start + done + h))
   at-high =
       stores-second ys (start + done) (start + done + h) _ _ _ (omega (arith, inv .long))
       ∙ ap₂ (sub binary32) low-same high-same
 
-  at-low : at (turned h (start + done) ys) (start + done) ≡ add binary32 (at xs (start + done)) (at xs (start + done + h))
+  at-low : entryAt (turned h (start + done) ys) (start + done) ≡ add binary32 (entryAt xs (start + done)) (entryAt xs (start + done + h))
   at-low =
       stores-first ys (start + done) (start + done + h) _ _ _ (omega arith) (omega (arith, inv .long))
       ∙ ap₂ (add binary32) low-same high-same
 
-  at-other : (i : ℕ) → i ≢ start + done → i ≢ start + done + h → at (turned h (start + done) ys) i ≡ at ys i
+  at-other : (i : ℕ) → i ≢ start + done → i ≢ start + done + h → entryAt (turned h (start + done) ys) i ≡ entryAt ys i
   at-other i l g = stores-other ys (start + done) (start + done + h) _ _ _ i l g
 
   pub partly-more : Partly h start (done + 1) xs (turned h (start + done) ys)
   partly-more =
       record {
         long = simp length-set (inv .long);
-        sums = below-more (λ (o : ℕ). at (turned h (start + done) ys) (start + o) ≡ add binary32 (at xs (start + o)) (at xs (start + o + h))) done (λ o l. at-other (start + o) (omega arith) (omega arith) ∙ inv .sums o l) at-low;
-        differences = below-more (λ (o : ℕ). at (turned h (start + done) ys) (start + o + h) ≡ sub binary32 (at xs (start + o)) (at xs (start + o + h))) done (λ o l. at-other (start + o + h) (omega arith) (omega arith) ∙ inv .differences o l) at-high;
+        sums = below-more (λ (o : ℕ). entryAt (turned h (start + done) ys) (start + o) ≡ add binary32 (entryAt xs (start + o)) (entryAt xs (start + o + h))) done (λ o l. at-other (start + o) (omega arith) (omega arith) ∙ inv .sums o l) at-low;
+        differences = below-more (λ (o : ℕ). entryAt (turned h (start + done) ys) (start + o + h) ≡ sub binary32 (entryAt xs (start + o)) (entryAt xs (start + o + h))) done (λ o l. at-other (start + o + h) (omega arith) (omega arith) ∙ inv .differences o l) at-high;
         before = λ i l. at-other i (omega arith) (omega arith) ∙ inv .before i l;
         lows = λ o l m. at-other (start + o) (omega arith) (omega arith) ∙ inv .lows o (omega arith) m;
         highs = λ o l. at-other (start + o + h) (omega arith) (omega arith) ∙ inv .highs o (omega arith);

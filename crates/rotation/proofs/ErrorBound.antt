@@ -2,17 +2,14 @@
 -- unit of 2 ^ -149 for the scale's product. Where an entry is not finite nothing is said of it. Assumes nothing.
 use Prim.Native.Nat.{ℕ, zero, suc, _+_, _*_, _^_, _≤_}
 use mathlib.Core.Path.{_≡_, refl, sym, ap, ap₂, _∙_, transport}
-use mathlib.Core.Bool.{false}
 use mathlib.Core.List.{List, _∷_, map}
-use native.Mathlib.Nat.{mul-one, one-mul}
 use native.Mathlib.Omega.{arith}
 use lib.Count.{trailingZeros}
 use lib.Dec.{T}
-use lib.IntN.{pos}
 use lib.ListN.{length, replicate, length-map}
-use lib.Ieee.{Float, fin, binary32, add, sub, mul, div, fits}
+use lib.Ieee.{Float, binary32, add, sub, fits}
 use lib.Ieee.Fits.{div-fits}
-use Rattle.rounding.specs.Signed.{Diff, nought, _⊞_, _⊟_, _⊠_}
+use Rattle.rounding.specs.Signed.{Diff}
 use Rattle.rounding.specs.Value.{unit, val, mag, one, posZero}
 use Rattle.rounding.specs.Sums.{products, sum, turnedEach, AllFit, AllClose}
 use Rattle.rounding.specs.Butterfly.{stages}

@@ -1,8 +1,8 @@
 -- All the stages in order, done in place: what is left to do is so many stages of what is there now. Assumes nothing.
-use Prim.Native.Nat.{ℕ, zero, suc, _+_, _-_, _*_, _^_, _≤_, _<_}
+use Prim.Native.Nat.{ℕ, suc, _+_, _-_, _*_, _^_, _≤_, _<_}
 use mathlib.Core.Path.{_≡_, refl, sym, ap, _∙_, subst}
 use mathlib.Core.List.{List}
-use native.Mathlib.Nat.{pow-zero, pow-suc, mul-le-mul-right, mul-le-mul-left, one-le-pow}
+use native.Mathlib.Nat.{pow-suc, mul-le-mul-right, one-le-pow}
 use native.Mathlib.Omega.{arith}
 use lib.ListN.{length}
 use lib.Ieee.{Float, binary32, add, sub}

@@ -1,19 +1,17 @@
 -- A sign that passes its check is 1.0 or -1.0, as data and not only as a number. Assumes nothing.
-use Prim.Native.Nat.{ℕ, zero, suc, _+_, _*_, _<_}
+use Prim.Native.Nat.{ℕ, suc, _*_, _<_}
 use mathlib.Core.Path.{_≡_, refl, sym, ap, ap₂, _∙_, subst}
 use mathlib.Core.Bool.{Bool, true, false, not, _&&_, _||_, Bool·beq}
 use mathlib.Core.List.{List, [], _∷_, map}
-use native.Mathlib.Nat.{suc-inj}
 use native.Mathlib.Omega.{arith}
 use borrow.Author.Tests.{eqb-true}
 use lib.Dec.{T, eqb}
-use lib.IntN.{ℤ, pos}
 use lib.ListN.{length, getD}
-use lib.Ieee.{Float, nan, inf, fin, binary32, up, down, fits, eq, ne, lt, level}
+use lib.Ieee.{Float, nan, inf, fin, binary32, up, down, fits, eq, ne, lt}
 use lib.Ieee.Back.{whole-unique}
 use lib.Ieee.Exact.{HasValue}
 use lib.Ieee.Fits.{down-pos}
-use Rattle.rounding.specs.Value.{one, posZero}
+use Rattle.rounding.specs.Value.{one}
 use Rattle.rounding.specs.Sums.{AllFit}
 use Rattle.rotation.specs.Checks.{badSign}
 use Rattle.rotation.specs.Exact.{negative}

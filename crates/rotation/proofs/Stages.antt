@@ -1,17 +1,15 @@
 -- A stage of butterflies, block by block: what an entry of a block becomes, and one turn of the loop over the blocks. Assumes nothing.
 use Prim.Native.Nat.{ℕ, _+_, _-_, _*_, _/_, _%_, _≤_, _<_}
-use mathlib.Core.Path.{_≡_, refl, sym, ap, ap₂, _∙_, subst}
-use mathlib.Core.Bool.{cond}
+use mathlib.Core.Path.{_≡_, refl, sym, ap₂, _∙_, subst}
 use mathlib.Core.List.{List}
 use native.Mathlib.Nat.{add-sub-cancel, mul-mod-left, mul-le-mul-right}
 use native.Mathlib.Decide.{decLt}
 use native.Mathlib.Omega.{arith}
 use lib.Arith.{digits-div}
-use lib.Dec.{eqb}
 use lib.ListN.{length, getD}
 use lib.Seq.{ext-getD}
 use lib.Ieee.{Float, nan, binary32, add, sub}
-use Rattle.rotation.specs.Block.{at, Partly, Stepped}
+use Rattle.rotation.specs.Block.{entryAt, Partly, Stepped}
 use Rattle.rounding.specs.Value.{posZero}
 use Rattle.rounding.specs.Butterfly.{entry, stage}
 use Rattle.rounding.proofs.Butterflies.{stage-length, stage-at}
@@ -49,8 +47,8 @@ pub record Through (h start : ℕ) (xs ys : List Float) : Type 0 where
   pub long : length ys ≡ length xs
   pub turn : ℕ
   pub reached : start ≡ turn * (2 * h)
-  pub passed : (i : ℕ) → i < start → at ys i ≡ rounded h xs i
-  pub left : (i : ℕ) → start ≤ i → at ys i ≡ at xs i
+  pub passed : (i : ℕ) → i < start → entryAt ys i ≡ rounded h xs i
+  pub left : (i : ℕ) → start ≤ i → entryAt ys i ≡ entryAt xs i
 
 pub through-start : (h : ℕ) (xs : List Float) → Through h 0 xs xs
 through-start h xs =
@@ -64,41 +62,41 @@ through-start h xs =
 
 module _ (h start : ℕ) (xs ys zs : List Float) (inv : Through h start xs ys) (done : Partly h start h ys zs) (room : start + 2 * h ≤ length xs) where
   -- an entry that is still as it was, whatever the default
-  as-it-was : (i : ℕ) → start ≤ i → i < start + 2 * h → at ys i ≡ getD xs i posZero
+  as-it-was : (i : ℕ) → start ≤ i → i < start + 2 * h → entryAt ys i ≡ getD xs i posZero
   as-it-was i l m = inv .left i l ∙ getD-any xs nan posZero i (omega arith)
 
-  sum-at : (o : ℕ) → o < h → at zs (start + o) ≡ rounded h xs (start + o)
+  sum-at : (o : ℕ) → o < h → entryAt zs (start + o) ≡ rounded h xs (start + o)
   sum-at o l =
       done .sums o l
       ∙ ap₂ (add binary32) (as-it-was (start + o) (omega arith) (omega arith)) (as-it-was (start + o + h) (omega arith) (omega arith))
       ∙ sym (rw (inv .reached) (entry-low (add binary32) (sub binary32) posZero (inv .turn) h o xs l))
 
-  difference-at : (o : ℕ) → o < h → at zs (start + o + h) ≡ rounded h xs (start + o + h)
+  difference-at : (o : ℕ) → o < h → entryAt zs (start + o + h) ≡ rounded h xs (start + o + h)
   difference-at o l =
       done .differences o l
       ∙ ap₂ (sub binary32) (as-it-was (start + o) (omega arith) (omega arith)) (as-it-was (start + o + h) (omega arith) (omega arith))
       ∙ sym (rw (inv .reached) (entry-high (add binary32) (sub binary32) posZero (inv .turn) h o xs l))
 
-  passed-more : (i : ℕ) → i < start + 2 * h → at zs i ≡ rounded h xs i
+  passed-more : (i : ℕ) → i < start + 2 * h → entryAt zs i ≡ rounded h xs i
   passed-more i l = elim (decLt i start) [ yes b ↦ done .before i b ∙ inv .passed i b | no n ↦ in-block n ]
     where
-      in-block : ¬ (i < start) → at zs i ≡ rounded h xs i
+      in-block : ¬ (i < start) → entryAt zs i ≡ rounded h xs i
       in-block n = elim (decLt i (start + h)) [ yes b ↦ low b | no m ↦ high m ]
         where
-          low : i < start + h → at zs i ≡ rounded h xs i
+          low : i < start + h → entryAt zs i ≡ rounded h xs i
           low b =
               let here : start + (i - start) ≡ i = omega arith in
-              subst (λ (j : ℕ). at zs j ≡ rounded h xs j) here (sum-at (i - start) (omega arith))
+              subst (λ (j : ℕ). entryAt zs j ≡ rounded h xs j) here (sum-at (i - start) (omega arith))
 
-          high : ¬ (i < start + h) → at zs i ≡ rounded h xs i
+          high : ¬ (i < start + h) → entryAt zs i ≡ rounded h xs i
           high m =
               let here : start + (i - start - h) + h ≡ i = omega arith in
-              subst (λ (j : ℕ). at zs j ≡ rounded h xs j) here (difference-at (i - start - h) (omega arith))
+              subst (λ (j : ℕ). entryAt zs j ≡ rounded h xs j) here (difference-at (i - start - h) (omega arith))
 
-  left-more : (i : ℕ) → start + 2 * h ≤ i → at zs i ≡ at xs i
+  left-more : (i : ℕ) → start + 2 * h ≤ i → entryAt zs i ≡ entryAt xs i
   left-more i l =
       let here : start + (i - start - h) + h ≡ i = omega arith in
-      subst (λ (j : ℕ). at zs j ≡ at ys j) here (done .highs (i - start - h) (omega arith))
+      subst (λ (j : ℕ). entryAt zs j ≡ entryAt ys j) here (done .highs (i - start - h) (omega arith))
       ∙ inv .left i (omega arith)
 
   pub through-more : Through h (start + 2 * h) xs zs

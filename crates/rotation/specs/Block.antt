@@ -6,17 +6,17 @@ use lib.Count.{ones}
 use lib.ListN.{length, getD}
 use lib.Ieee.{Float, nan, binary32, add, sub}
 
-abbrev pub at : List Float → ℕ → Float
-at xs i = getD xs i nan
+abbrev pub entryAt : List Float → ℕ → Float
+entryAt xs i = getD xs i nan
 
 -- of the list xs, ys is what is left when the pairs (start + o, start + h + o) with o < done are through
 pub record Partly (h start done : ℕ) (xs ys : List Float) : Type 0 where
   pub long : length ys ≡ length xs
-  pub sums : (o : ℕ) → o < done → at ys (start + o) ≡ add binary32 (at xs (start + o)) (at xs (start + o + h))
-  pub differences : (o : ℕ) → o < done → at ys (start + o + h) ≡ sub binary32 (at xs (start + o)) (at xs (start + o + h))
-  pub before : (i : ℕ) → i < start → at ys i ≡ at xs i
-  pub lows : (o : ℕ) → done ≤ o → o < h → at ys (start + o) ≡ at xs (start + o)
-  pub highs : (o : ℕ) → done ≤ o → at ys (start + o + h) ≡ at xs (start + o + h)
+  pub sums : (o : ℕ) → o < done → entryAt ys (start + o) ≡ add binary32 (entryAt xs (start + o)) (entryAt xs (start + o + h))
+  pub differences : (o : ℕ) → o < done → entryAt ys (start + o + h) ≡ sub binary32 (entryAt xs (start + o)) (entryAt xs (start + o + h))
+  pub before : (i : ℕ) → i < start → entryAt ys i ≡ entryAt xs i
+  pub lows : (o : ℕ) → done ≤ o → o < h → entryAt ys (start + o) ≡ entryAt xs (start + o)
+  pub highs : (o : ℕ) → done ≤ o → entryAt ys (start + o + h) ≡ entryAt xs (start + o + h)
 
 abbrev pub BlockDone : ℕ → ℕ → List Float → List Float → Type 0
 BlockDone h start xs ys = Partly h start h xs ys

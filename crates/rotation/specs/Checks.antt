@@ -11,20 +11,20 @@ use Rattle.error.specs.Answer.{Check, check, each}
 use Rattle.error.specs.Checks.{wrongInput, wrongRoom}
 
 -- '2: dimension 0. Place 0.'
-abbrev pub zeroDimension : ℕ → Check
-zeroDimension n = check (eqb n 0) 2 0
+abbrev pub wrongZeroDimension : ℕ → Check
+wrongZeroDimension n = check (eqb n 0) 2 0
 
 -- '3: odd dimension. Place: the dimension.'
-abbrev pub oddDimension : ℕ → Check
-oddDimension n = check (eqb (n % 2) 1) 3 n
+abbrev pub wrongOddDimension : ℕ → Check
+wrongOddDimension n = check (eqb (n % 2) 1) 3 n
 
 -- 'even dimension that is no power of two, or above 4,096'; 'A dimension is a power of two exactly when one bit of it is set.'
-abbrev pub outsidePowers : ℕ → Bool
-outsidePowers n = not (eqb (ones n) 1) || ltb 4096 n
+abbrev pub badPower : ℕ → Bool
+badPower n = not (eqb (ones n) 1) || ltb 4096 n
 
 -- '4: .. Place: the dimension.'
-abbrev pub noPower : ℕ → Check
-noPower n = check (outsidePowers n) 4 n
+abbrev pub wrongPower : ℕ → Check
+wrongPower n = check (badPower n) 4 n
 
 -- '10: a sign is neither −1 nor 1. Place: its index.'
 abbrev pub badSign : Float → Bool
@@ -33,9 +33,9 @@ badSign s = ne s (fin true 1 (pos 0)) && ne s (fin false 1 (pos 0))
 -- 'Rotating either way: 2, 3, 4, 5 for the signs, 10, 5 for the input'; 'In every call 6 comes after all input checks.'
 abbrev pub rotationChecks : ℕ → List Float → ℕ → ℕ → List Check
 rotationChecks n signs long room =
-    zeroDimension n
-    ∷ oddDimension n
-    ∷ noPower n
+    wrongZeroDimension n
+    ∷ wrongOddDimension n
+    ∷ wrongPower n
     ∷ wrongInput (length signs) n
     ∷ each badSign 10 signs
     ∷ wrongInput long n

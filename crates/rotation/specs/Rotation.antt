@@ -34,8 +34,8 @@ unfoldable pub unrotated : ℕ → List Float → List Float → List Float
 unrotated n signs ys = products (hadamardOf n ys) signs
 
 -- the answers of the two calls; 'values that aren't finite pass through'
-unfoldable pub applied : ℕ → List Float → List Float → ℕ → Answer (List Float)
-applied n signs xs room = first (rotationChecks n signs (length xs) room) (value (rotated n signs xs))
+unfoldable pub applyOf : ℕ → List Float → List Float → ℕ → Answer (List Float)
+applyOf n signs xs room = first (rotationChecks n signs (length xs) room) (value (rotated n signs xs))
 
-unfoldable pub appliedInverse : ℕ → List Float → List Float → ℕ → Answer (List Float)
-appliedInverse n signs ys room = first (rotationChecks n signs (length ys) room) (value (unrotated n signs ys))
+unfoldable pub applyInverseOf : ℕ → List Float → List Float → ℕ → Answer (List Float)
+applyInverseOf n signs ys room = first (rotationChecks n signs (length ys) room) (value (unrotated n signs ys))

@@ -18,13 +18,13 @@ ghost use Rattle.error.specs.Outcomes.{says};
 ghost use Rattle.rounding.specs.Butterfly.{stage, stages};
 ghost use Rattle.rounding.specs.Sums.{products};
 ghost use Rattle.rounding.specs.Value.{posZero};
-ghost use Rattle.rotation.specs.Checks.{badSign, outsidePowers, rotationChecks};
-ghost use Rattle.rotation.specs.Rotation.{inverseRoot, scaled, hadamardOf, applied, appliedInverse};
+ghost use Rattle.rotation.specs.Checks.{badSign, badPower, rotationChecks};
+ghost use Rattle.rotation.specs.Rotation.{inverseRoot, scaled, hadamardOf, applyOf, applyInverseOf};
 ghost use Rattle.rotation.specs.Block.{BlockDone, Stepped, Transformable};
 
 // Whether a dimension is no power of two, or above 4,096.
 pub fn outside_powers(dim: usize) -> bool
-    ensures { λ r. ⌜ r ≡ outsidePowers dim ⌝ }
+    ensures { λ r. ⌜ r ≡ badPower dim ⌝ }
 {
     if usize::count_ones(dim) != 1 {
         return true;
@@ -55,8 +55,8 @@ pub fn first_bad_sign(signs: &[f32]) -> usize
 
 // The rotation of the input into the output: signs, butterflies, scale.
 pub fn apply(dim: usize, signs: &[f32], input: &[f32], output: &mut [f32]) -> Outcome
-    ensures { λ r. ⌜ says r ≡ done (applied dim (now (signs .entry)) (now (input .entry)) (length (now (output .entry)))) ⌝ }
-    ensures { λ _. ⌜ now (output .exit) ≡ after (applied dim (now (signs .entry)) (now (input .entry)) (length (now (output .entry)))) (now (output .entry)) ⌝ }
+    ensures { λ r. ⌜ says r ≡ done (applyOf dim (now (signs .entry)) (now (input .entry)) (length (now (output .entry)))) ⌝ }
+    ensures { λ _. ⌜ now (output .exit) ≡ after (applyOf dim (now (signs .entry)) (now (input .entry)) (length (now (output .entry)))) (now (output .entry)) ⌝ }
 {
     let checked = check(dim, signs, input.len(), output.len());
     if let Outcome::Refused { number, place } = checked {
@@ -69,8 +69,8 @@ pub fn apply(dim: usize, signs: &[f32], input: &[f32], output: &mut [f32]) -> Ou
 
 // The inverse rotation of the input into the output: butterflies, scale, signs.
 pub fn apply_inverse(dim: usize, signs: &[f32], input: &[f32], output: &mut [f32]) -> Outcome
-    ensures { λ r. ⌜ says r ≡ done (appliedInverse dim (now (signs .entry)) (now (input .entry)) (length (now (output .entry)))) ⌝ }
-    ensures { λ _. ⌜ now (output .exit) ≡ after (appliedInverse dim (now (signs .entry)) (now (input .entry)) (length (now (output .entry)))) (now (output .entry)) ⌝ }
+    ensures { λ r. ⌜ says r ≡ done (applyInverseOf dim (now (signs .entry)) (now (input .entry)) (length (now (output .entry)))) ⌝ }
+    ensures { λ _. ⌜ now (output .exit) ≡ after (applyInverseOf dim (now (signs .entry)) (now (input .entry)) (length (now (output .entry)))) (now (output .entry)) ⌝ }
 {
     let checked = check(dim, signs, input.len(), output.len());
     if let Outcome::Refused { number, place } = checked {

@@ -13,9 +13,9 @@ use Rattle.error.proofs.Places.{each-clear}
 use Rattle.rotation.specs.Checks.{badSign}
 use Rattle.setup.specs.declared.Setup.{Setup}
 use Rattle.setup.specs.declared.TurboMode.the-variants.{PolarOnly}
-use Rattle.setup.specs.Setups.{polarBits, countedProjections, directionsNeeded, matrixNeeded}
-use Rattle.setup.specs.Checks.{badDirection, notFinite, scalarChecks, tableChecks, tableChecksButEntries, entryChecks, setupChecks, setupChecksButEntries, directionChecks}
-use Rattle.setup.specs.Accepted.{Usable, Directions, Accepted}
+use Rattle.setup.specs.Setups.{polarBitsOf, countedProjectionsOf, directionsNeeded, matrixNeeded}
+use Rattle.setup.specs.Checks.{badDirection, badValue, scalarChecks, tableChecks, tableChecksButEntries, entryChecks, setupChecks, setupChecksButEntries, directionChecks}
+use Rattle.setup.specs.Accepted.{Usable, Directions, AcceptedSetup}
 use Rattle.setup.proofs.Rows.{passes-finite, entry-below}
 use Rattle.setup.proofs.Scalars.{scalars-usable}
 
@@ -28,7 +28,7 @@ directions-accepted s directions e =
     }
 
 module _ (s : Setup) (signs directions matrix : List Float) where
-  pub tables-accepted : Usable s → first (tableChecks s signs directions matrix) accepted ≡ accepted → Accepted s signs directions matrix
+  pub tables-accepted : Usable s → first (tableChecks s signs directions matrix) accepted ≡ accepted → AcceptedSetup s signs directions matrix
   tables-accepted usable e =
       let k = first-passes (tableChecks s signs directions matrix) tt e in
       record {
@@ -40,14 +40,14 @@ module _ (s : Setup) (signs directions matrix : List Float) where
           good = each-clear badDirection directions nan (k .1 .1 .1 .1 .0);
         };
         matrix-long = eqb-true (length matrix) (matrixNeeded s) (not-false _ (k .1 .1 .0));
-        matrix-finite = λ i h. passes-finite _ (each-clear notFinite matrix nan (k .1 .1 .1 .1 .1 .0) i h);
+        matrix-finite = λ i h. passes-finite _ (each-clear badValue matrix nan (k .1 .1 .1 .1 .1 .0) i h);
       }
 
   -- the checks of the scalars alone pass too
   pub setup-scalars : first (setupChecks s signs directions matrix) accepted ≡ accepted → first (scalarChecks s) accepted ≡ accepted
   setup-scalars e = append-left (scalarChecks s) (tableChecks s signs directions matrix) accepted e
 
-  pub setup-accepted : first (setupChecks s signs directions matrix) accepted ≡ accepted → Accepted s signs directions matrix
+  pub setup-accepted : first (setupChecks s signs directions matrix) accepted ≡ accepted → AcceptedSetup s signs directions matrix
   setup-accepted e = tables-accepted (scalars-usable s (setup-scalars e)) (append-right (scalarChecks s) (tableChecks s signs directions matrix) accepted e)
 
   -- and so do those of the directions alone
@@ -77,9 +77,9 @@ pub matrix-empty : (s : Setup) → s .mode ≡ PolarOnly → matrixNeeded s ≡ 
 matrix-empty s alone = simp (alone, zero-mul)
 
 -- both entries of a direction pair
-pub pair-below : (s : Setup) (directions : List Float) → Directions s directions → (i : ℕ) → i < 2 ^ polarBits s → 2 * i + 1 < length directions
+pub pair-below : (s : Setup) (directions : List Float) → Directions s directions → (i : ℕ) → i < 2 ^ polarBitsOf s → 2 * i + 1 < length directions
 pair-below s directions d i h = let long = d .long in omega (arith, long, h)
 
 -- the entry at a row and a column
-pub cell-below : (s : Setup) (signs directions matrix : List Float) → Accepted s signs directions matrix → (row column : ℕ) → row < countedProjections s → column < s .dim → row * s .dim + column < length matrix
-cell-below s signs directions matrix a row column r c = entry-below (countedProjections s) (s .dim) row column (length matrix) (sym (a .matrix-long)) r c
+pub cell-below : (s : Setup) (signs directions matrix : List Float) → AcceptedSetup s signs directions matrix → (row column : ℕ) → row < countedProjectionsOf s → column < s .dim → row * s .dim + column < length matrix
+cell-below s signs directions matrix a row column r c = entry-below (countedProjectionsOf s) (s .dim) row column (length matrix) (sym (a .matrix-long)) r c

@@ -11,21 +11,21 @@ use lib.ListN.{drop}
 use lib.Ieee.{Float}
 use lib.Ieee.Scale.{finite}
 use Rattle.error.specs.Answer.{place}
-use Rattle.setup.specs.Checks.{notFinite}
+use Rattle.setup.specs.Checks.{badValue}
 
 -- ---- one value
 
-pub finite-passes : (x : Float) → finite x ≡ true → notFinite x ≡ false
-unfolding notFinite
+pub finite-passes : (x : Float) → finite x ≡ true → badValue x ≡ false
+unfolding badValue
 finite-passes x e = ap not e
 
-pub not-finite-offends : (x : Float) → finite x ≡ false → notFinite x ≡ true
-unfolding notFinite
+pub not-finite-offends : (x : Float) → finite x ≡ false → badValue x ≡ true
+unfolding badValue
 not-finite-offends x e = ap not e
 
 -- and back
-pub passes-finite : (x : Float) → notFinite x ≡ false → finite x ≡ true
-unfolding notFinite
+pub passes-finite : (x : Float) → badValue x ≡ false → finite x ≡ true
+unfolding badValue
 passes-finite x e = split (finite x) e
   where
     split : (b : Bool) → not b ≡ false → b ≡ true

@@ -10,7 +10,7 @@ use lib.Ieee.Scale.{finite}
 use Rattle.rotation.specs.Checks.{badSign}
 use Rattle.setup.specs.declared.Setup.{Setup}
 use Rattle.setup.specs.declared.TurboMode.the-variants.{PolarWithQjl}
-use Rattle.setup.specs.Setups.{polarBits, countedProjections, directionsNeeded, matrixNeeded}
+use Rattle.setup.specs.Setups.{polarBitsOf, countedProjectionsOf, directionsNeeded, matrixNeeded}
 use Rattle.setup.specs.Checks.{badDirection}
 
 -- the scalars
@@ -21,11 +21,11 @@ pub record Usable (s : Setup) : Type 0 where
   pub one-bit : ones (s .dim) ≡ 1
   pub power : s .dim ≡ 2 ^ trailingZeros 64 (s .dim)
   pub steps : trailingZeros 64 (s .dim) ≤ 12
-  pub least-bits : 1 ≤ polarBits s
-  pub most-bits : polarBits s ≤ 16
-  pub most-projections : countedProjections s ≤ 4096
-  pub residual-bits : s .mode ≡ PolarWithQjl → polarBits s ≤ 15
-  pub residual-projections : s .mode ≡ PolarWithQjl → 0 < countedProjections s
+  pub least-bits : 1 ≤ polarBitsOf s
+  pub most-bits : polarBitsOf s ≤ 16
+  pub most-projections : countedProjectionsOf s ≤ 4096
+  pub residual-bits : s .mode ≡ PolarWithQjl → polarBitsOf s ≤ 15
+  pub residual-projections : s .mode ≡ PolarWithQjl → 0 < countedProjectionsOf s
 
 -- the table of directions
 pub record Directions (s : Setup) (directions : List Float) : Type 0 where
@@ -33,7 +33,7 @@ pub record Directions (s : Setup) (directions : List Float) : Type 0 where
   pub good : (i : ℕ) → i < length directions → badDirection (getD directions i nan) ≡ false
 
 -- the scalars and the three tables
-pub record Accepted (s : Setup) (signs directions matrix : List Float) : Type 0 where
+pub record AcceptedSetup (s : Setup) (signs directions matrix : List Float) : Type 0 where
   pub usable : Usable s
   pub signs-long : length signs ≡ s .dim
   pub signs-good : (i : ℕ) → i < length signs → badSign (getD signs i nan) ≡ false

@@ -8,43 +8,43 @@ use lib.ListN.{length}
 use lib.Ieee.{Float, fin, lt}
 use lib.Ieee.Scale.{finite}
 use Rattle.error.specs.Answer.{Check, check, each}
-use Rattle.rotation.specs.Checks.{zeroDimension, oddDimension, noPower, badSign}
+use Rattle.rotation.specs.Checks.{wrongZeroDimension, wrongOddDimension, wrongPower, badSign}
 use Rattle.error.specs.Checks.{wrongInput}
 use Rattle.setup.specs.declared.Setup.{Setup}
 use Rattle.setup.specs.Setups.{byMode, directionsNeeded, matrixNeeded}
 
 -- 'bits outside 1..16, or total bits below 2 in residual mode'
-abbrev pub outsideBits : Setup → Bool
-outsideBits s = ltb (s .bits) (byMode (s .mode) 1 2) || ltb 16 (s .bits)
+abbrev pub badTotalBits : Setup → Bool
+badTotalBits s = ltb (s .bits) (byMode (s .mode) 1 2) || ltb 16 (s .bits)
 
 -- '1: .. Place: the bits.'
-abbrev pub badBits : Setup → Check
-badBits s = check (outsideBits s) 1 (s .bits)
+abbrev pub wrongTotalBits : Setup → Check
+wrongTotalBits s = check (badTotalBits s) 1 (s .bits)
 
 -- 'in residual mode, projections 0 or above 4,096'
-abbrev pub outsideProjections : Setup → Bool
-outsideProjections s = byMode (s .mode) false (eqb (s .projections) 0 || ltb 4096 (s .projections))
+abbrev pub badProjections : Setup → Bool
+badProjections s = byMode (s .mode) false (eqb (s .projections) 0 || ltb 4096 (s .projections))
 
 -- '8: .. Place: the count.'
-abbrev pub badProjections : Setup → Check
-badProjections s = check (outsideProjections s) 8 (s .projections)
+abbrev pub wrongProjections : Setup → Check
+wrongProjections s = check (badProjections s) 8 (s .projections)
 
 -- '7: a direction entry is not finite or lies outside −1..1. Place: its index.'
 unfoldable pub badDirection : Float → Bool
 badDirection x = not (finite x) || lt x (fin true 1 (pos 0)) || lt (fin false 1 (pos 0)) x
 
 -- '9: a matrix entry is not finite. Place: its index.'; also 'a value is not finite' of 11
-unfoldable pub notFinite : Float → Bool
-notFinite x = not (finite x)
+unfoldable pub badValue : Float → Bool
+badValue x = not (finite x)
 
 -- 'Setup: 2, 3, 1, 8, 4, ..': the scalars
 abbrev pub scalarChecks : Setup → List Check
 scalarChecks s =
-    zeroDimension (s .dim)
-    ∷ oddDimension (s .dim)
-    ∷ badBits s
-    ∷ badProjections s
-    ∷ noPower (s .dim)
+    wrongZeroDimension (s .dim)
+    ∷ wrongOddDimension (s .dim)
+    ∷ wrongTotalBits s
+    ∷ wrongProjections s
+    ∷ wrongPower (s .dim)
     ∷ []
 
 -- '.. then 5 for signs, directions, matrix, then 10, 7, ..': the tables, but for the matrix's entries
@@ -60,7 +60,7 @@ tableChecksButEntries s signs directions matrix =
 -- '.. 9': the matrix's entries. 'The first matrix entry, row by row, that is not finite is named': the matrix is lent row by row, so the
 -- entry at row r and column c has index r × n + c
 abbrev pub entryChecks : List Float → List Check
-entryChecks matrix = each notFinite 9 matrix ∷ []
+entryChecks matrix = each badValue 9 matrix ∷ []
 
 abbrev pub tableChecks : Setup → List Float → List Float → List Float → List Check
 tableChecks s signs directions matrix = tableChecksButEntries s signs directions matrix ++ entryChecks matrix

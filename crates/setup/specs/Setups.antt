@@ -11,17 +11,17 @@ byMode PolarOnly alone residual = alone
 byMode PolarWithQjl alone residual = residual
 
 -- 'Polar bits are total bits, less 1 in residual mode.'
-abbrev pub polarBits : Setup → ℕ
-polarBits s = byMode (s .mode) (s .bits) (s .bits - 1)
+abbrev pub polarBitsOf : Setup → ℕ
+polarBitsOf s = byMode (s .mode) (s .bits) (s .bits - 1)
 
 -- 'In `PolarOnly` m counts as 0 and the matrix is empty.'
-abbrev pub countedProjections : Setup → ℕ
-countedProjections s = byMode (s .mode) 0 (s .projections)
+abbrev pub countedProjectionsOf : Setup → ℕ
+countedProjectionsOf s = byMode (s .mode) 0 (s .projections)
 
 -- 'the table has 2 × 2^polar bits entries'
 abbrev pub directionsNeeded : Setup → ℕ
-directionsNeeded s = 2 * 2 ^ polarBits s
+directionsNeeded s = 2 * 2 ^ polarBitsOf s
 
 -- 'The matrix has m × n entries.'
 abbrev pub matrixNeeded : Setup → ℕ
-matrixNeeded s = countedProjections s * s .dim
+matrixNeeded s = countedProjectionsOf s * s .dim

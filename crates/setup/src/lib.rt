@@ -17,10 +17,10 @@ ghost use Prim.Native.Nat.{_*_, _^_, _≤_};
 ghost use lib.ListN.{length};
 ghost use Rattle.error.specs.Answer.{first, place, accepted};
 ghost use Rattle.error.specs.Outcomes.{says};
-ghost use Rattle.setup.specs.Setups.{polarBits, countedProjections};
-ghost use Rattle.setup.specs.Checks.{outsideBits, outsideProjections, badDirection, notFinite, scalarChecks, tableChecksButEntries, entryChecks, setupChecks, setupChecksButEntries, directionChecks};
+ghost use Rattle.setup.specs.Setups.{polarBitsOf, countedProjectionsOf};
+ghost use Rattle.setup.specs.Checks.{badTotalBits, badProjections, badDirection, badValue, scalarChecks, tableChecksButEntries, entryChecks, setupChecks, setupChecksButEntries, directionChecks};
 ghost use Rattle.error.specs.Sweep.{clear};
-ghost use Rattle.setup.specs.Seeds.{hadamardSeed, matrixSeed};
+ghost use Rattle.setup.specs.Seeds.{hadamardSeedOf, matrixSeedOf};
 
 // Whether a residual sketch stands beside the polar code.
 pub enum TurboMode {
@@ -40,7 +40,7 @@ pub struct Setup {
 
 // The polar bits: the total, less 1 in residual mode, and 0 where that has none left.
 pub fn polar_bits(setup: Setup) -> u8
-    ensures { λ r. ⌜ r ≡ polarBits setup ⌝ }
+    ensures { λ r. ⌜ r ≡ polarBitsOf setup ⌝ }
 {
     let mode = setup.mode;
     let bits = setup.bits;
@@ -52,7 +52,7 @@ pub fn polar_bits(setup: Setup) -> u8
 
 // The projections that count: none without residual.
 pub fn counted_projections(setup: Setup) -> usize
-    ensures { λ r. ⌜ r ≡ countedProjections setup ⌝ }
+    ensures { λ r. ⌜ r ≡ countedProjectionsOf setup ⌝ }
 {
     let mode = setup.mode;
     match mode {
@@ -161,7 +161,7 @@ pub fn first_bad_direction(directions: &[f32]) -> usize
 
 // The index of the first value that is not finite, or their number where there is none.
 pub fn first_non_finite(values: &[f32]) -> usize
-    ensures { λ r. ⌜ r ≡ place notFinite (now (values .entry)) ⌝ }
+    ensures { λ r. ⌜ r ≡ place badValue (now (values .entry)) ⌝ }
 {
     if all_finite(values) {
         return values.len();
@@ -171,14 +171,14 @@ pub fn first_non_finite(values: &[f32]) -> usize
 
 // The seed of the host's generator of rotation signs.
 pub fn hadamard_seed(seed: u64) -> u64
-    ensures { λ r. ⌜ r ≡ hadamardSeed seed ⌝ }
+    ensures { λ r. ⌜ r ≡ hadamardSeedOf seed ⌝ }
 {
     std::num::wrapping_add_u64(seed, 0xA11C_E55E_D5A5_EED5)
 }
 
 // The seed of the host's generator of matrix entries.
 pub fn matrix_seed(seed: u64) -> u64
-    ensures { λ r. ⌜ r ≡ matrixSeed seed ⌝ }
+    ensures { λ r. ⌜ r ≡ matrixSeedOf seed ⌝ }
 {
     let residual = std::num::wrapping_add_u64(seed, 0xCAFE_BABE_0000_0001);
     std::num::wrapping_add_u64(residual, 0xDEAD_BEEF_1234_5678)
@@ -186,7 +186,7 @@ pub fn matrix_seed(seed: u64) -> u64
 
 // Whether the total bits are outside 1..16, or below 2 in residual mode.
 fn outside_bits(setup: Setup) -> bool
-    ensures { λ r. ⌜ r ≡ outsideBits setup ⌝ }
+    ensures { λ r. ⌜ r ≡ badTotalBits setup ⌝ }
 {
     let mode = setup.mode;
     let bits = setup.bits;
@@ -208,7 +208,7 @@ fn outside_bits(setup: Setup) -> bool
 
 // Whether, in residual mode, the projections are 0 or above 4,096.
 fn outside_projections(setup: Setup) -> bool
-    ensures { λ r. ⌜ r ≡ outsideProjections setup ⌝ }
+    ensures { λ r. ⌜ r ≡ badProjections setup ⌝ }
 {
     let mode = setup.mode;
     let projections = setup.projections;
@@ -330,7 +330,7 @@ fn find_bad_direction(directions: &[f32]) -> usize
 
 // Whether every value is finite. The pass goes to the end, so that it is done for several values at a time.
 fn all_finite(values: &[f32]) -> bool
-    ensures { λ r. ⌜ r ≡ clear notFinite (now (values .entry)) ⌝ }
+    ensures { λ r. ⌜ r ≡ clear badValue (now (values .entry)) ⌝ }
 {
     let mut ok = true;
     let mut i = 0;
@@ -345,7 +345,7 @@ fn all_finite(values: &[f32]) -> bool
 
 // The index of the first value that is not finite, one by one, or their number where there is none.
 fn find_non_finite(values: &[f32]) -> usize
-    ensures { λ r. ⌜ r ≡ place notFinite (now (values .entry)) ⌝ }
+    ensures { λ r. ⌜ r ≡ place badValue (now (values .entry)) ⌝ }
 {
     let mut i = 0;
     while i < values.len() {
@@ -360,7 +360,7 @@ fn find_non_finite(values: &[f32]) -> usize
 // The index of the first matrix entry that is not finite, row by row, or their number where there is none.
 fn first_non_finite_entry(matrix: &[f32], rows: usize, columns: usize) -> usize
     requires { ⌜ rows * columns ≡ length (now matrix) ⌝ }
-    ensures { λ r. ⌜ r ≡ place notFinite (now (matrix .entry)) ⌝ }
+    ensures { λ r. ⌜ r ≡ place badValue (now (matrix .entry)) ⌝ }
 {
     let mut found = matrix.len();
     let mut row = 0;

@@ -5,7 +5,7 @@ use Rattle.float.proofs.Examples.{root-of-two}
 use Rattle.polar.proofs.Examples.{p10}
 use Rattle.radius.proofs.Examples.{compress-halves}
 use Rattle.packed.proofs.Examples.{p12, p12-radii, p12-indices, p12-signs, p13, p13-radii, p13-indices, p13-signs}
-use Rattle.writing.proofs.Examples.{p12-written, p13-written}
+use Rattle.packed_writing.proofs.Examples.{p12-written, p13-written}
 use Rattle.table.specs.Table.{Table}
 
 pub holds : Table

@@ -8,60 +8,60 @@ use lib.IntN.{pos, negsuc}
 use lib.Ieee.{Float, fin, binary32, ofBits, toBits}
 use Rattle.error.specs.Answer.{value, refused}
 use Rattle.float.specs.SquareRoot.{squareRoot}
-use Rattle.bitpack.specs.Packing.{packOf, unpackOf}
+use Rattle.bitpack.specs.Packing.{packIndicesOf, unpackIndicesOf}
 use Rattle.bitpack.specs.Signs.{packSignsOf, unpackSignsOf}
-use Rattle.radius.specs.Codec.{compressedBytes}
+use Rattle.radius.specs.Codec.{compressBytesOf}
 use Rattle.radius.specs.Radii.{zeroFloat, oneFloat}
 use Rattle.radius.specs.declared.RadiusCodecProfileV1.the-variants.{F32, BlockLinearU16}
-use Rattle.rotation.specs.Rotation.{applied}
-use Rattle.polar.specs.Angle.{angleOf}
+use Rattle.rotation.specs.Rotation.{applyOf}
+use Rattle.polar.specs.Angle.{dequantizeAngleOf}
 use Rattle.setup.specs.declared.TurboMode.the-variants.{PolarOnly, PolarWithQjl}
-use Rattle.packed.specs.Reading.{radiiOf, indicesOf, signsOf, readOf}
-use Rattle.writing.specs.Writing.{writeOf}
+use Rattle.packed.specs.Reading.{radiiOf, indicesOf, signsOf, readRecordOf}
+use Rattle.packed_writing.specs.Writing.{writeRecordOf}
 
 abbrev float : ℕ → Float
 float bits = ofBits binary32 bits
 
 -- the records of P12 and P13
-abbrev pub plain : List ℕ
-plain = 0x00 ∷ 0x02 ∷ 0x00 ∷ 0x00 ∷ 0x00 ∷ 0x01 ∷ 0x00 ∷ 0x00 ∷ 0x80 ∷ 0x3F ∷ 0x01 ∷ []
+abbrev pub withoutSigns : List ℕ
+withoutSigns = 0x00 ∷ 0x02 ∷ 0x00 ∷ 0x00 ∷ 0x00 ∷ 0x01 ∷ 0x00 ∷ 0x00 ∷ 0x80 ∷ 0x3F ∷ 0x01 ∷ []
 
-abbrev pub signed : List ℕ
-signed = 0x02 ∷ 0x02 ∷ 0x00 ∷ 0x00 ∷ 0x00 ∷ 0x01 ∷ 0x03 ∷ 0x00 ∷ 0x00 ∷ 0x00 ∷ 0x00 ∷ 0x00 ∷ 0x80 ∷ 0x3F ∷ 0x01 ∷ 0x05 ∷ []
+abbrev pub withSigns : List ℕ
+withSigns = 0x02 ∷ 0x02 ∷ 0x00 ∷ 0x00 ∷ 0x00 ∷ 0x01 ∷ 0x03 ∷ 0x00 ∷ 0x00 ∷ 0x00 ∷ 0x00 ∷ 0x00 ∷ 0x80 ∷ 0x3F ∷ 0x01 ∷ 0x05 ∷ []
 
 pub record Table : Type 0 where
   -- '2 bits, (1, 2, 3): 39.'
-  pub p1 : packOf (1 ∷ 2 ∷ 3 ∷ []) 2 1 ≡ value (0x39 ∷ [])
+  pub p1 : packIndicesOf (1 ∷ 2 ∷ 3 ∷ []) 2 1 ≡ value (0x39 ∷ [])
   -- '79 with count 3: 14, place 0.'
-  pub p2 : unpackOf (0x79 ∷ []) 3 2 3 ≡ refused 14 0
+  pub p2 : unpackIndicesOf (0x79 ∷ []) 3 2 3 ≡ refused 14 0
   -- '3 bits, (5, 2): 15.'
-  pub p3 : packOf (5 ∷ 2 ∷ []) 3 1 ≡ value (0x15 ∷ [])
+  pub p3 : packIndicesOf (5 ∷ 2 ∷ []) 3 1 ≡ value (0x15 ∷ [])
   -- '9 bits, (256, 1): 00 03 00.'
-  pub p4 : packOf (256 ∷ 1 ∷ []) 9 3 ≡ value (0x00 ∷ 0x03 ∷ 0x00 ∷ [])
+  pub p4 : packIndicesOf (256 ∷ 1 ∷ []) 9 3 ≡ value (0x00 ∷ 0x03 ∷ 0x00 ∷ [])
   -- 'Signs (+, −, +): 05.'
   pub p5 : packSignsOf (pos 1 ∷ negsuc 0 ∷ pos 1 ∷ []) 1 ≡ value (0x05 ∷ [])
   -- '0D with count 3: 14.'
   pub p6 : unpackSignsOf (0x0D ∷ []) 3 3 ≡ refused 14 0
   -- 'No indices: no bytes.'
-  pub p7 : (bits : ℕ) → 1 ≤ bits → bits ≤ 16 → packOf [] bits 0 ≡ value []
+  pub p7 : (bits : ℕ) → 1 ≤ bits → bits ≤ 16 → packIndicesOf [] bits 0 ≡ value []
   -- '(1, 2, 3, 4), all signs +, gives (5, −1, −2, 0).'
-  pub p8 : applied 4 (fin false 1 (pos 0) ∷ fin false 1 (pos 0) ∷ fin false 1 (pos 0) ∷ fin false 1 (pos 0) ∷ []) (fin false 1 (pos 0) ∷ fin false 1 (pos 1) ∷ fin false 3 (pos 0) ∷ fin false 1 (pos 2) ∷ []) 4
+  pub p8 : applyOf 4 (fin false 1 (pos 0) ∷ fin false 1 (pos 0) ∷ fin false 1 (pos 0) ∷ fin false 1 (pos 0) ∷ []) (fin false 1 (pos 0) ∷ fin false 1 (pos 1) ∷ fin false 3 (pos 0) ∷ fin false 1 (pos 2) ∷ []) 4
       ≡ value (fin false 5 (pos 0) ∷ fin true 1 (pos 0) ∷ fin true 1 (pos 1) ∷ fin false 0 (pos 0) ∷ [])
   -- 'The root of 2.0 is 3FB504F3.'
   pub p9 : toBits binary32 (squareRoot (float 0x4000_0000)) ≡ 0x3FB5_04F3
   -- 'With 1 bit, index 1 has angle 0.'
-  pub p10 : angleOf 1 1 ≡ value (fin false 0 (pos 0))
+  pub p10 : dequantizeAngleOf 1 1 ≡ value (fin false 0 (pos 0))
   -- '(0, 0.5, 1): 00 00 00 80 FF FF.'
-  pub p11 : compressedBytes (float 0x0000_0000 ∷ float 0x3F00_0000 ∷ float 0x3F80_0000 ∷ []) BlockLinearU16 6 ≡ value (0x00 ∷ 0x00 ∷ 0x00 ∷ 0x80 ∷ 0xFF ∷ 0xFF ∷ [])
+  pub p11 : compressBytesOf (float 0x0000_0000 ∷ float 0x3F00_0000 ∷ float 0x3F80_0000 ∷ []) BlockLinearU16 6 ≡ value (0x00 ∷ 0x00 ∷ 0x00 ∷ 0x80 ∷ 0xFF ∷ 0xFF ∷ [])
   -- 'n 2, 1 bit, radius 1.0, index 1: 00 02 00 00 00 01 00 00 80 3F 01.' Written, and read again
-  pub p12-written : writeOf F32 2 1 PolarOnly 0 (oneFloat ∷ []) (1 ∷ []) [] 11 ≡ value plain
-  pub p12-read : readOf plain ≡ value (record { mode = PolarOnly; profile = F32; dim = 2; bits = 1; projections = 0; range = record { min = zeroFloat; max = zeroFloat }; radii = 6; indices = 10; signs = 11; end = 11 })
-  pub p12-radii : radiiOf plain ≡ oneFloat ∷ []
-  pub p12-indices : indicesOf plain ≡ 1 ∷ []
-  pub p12-signs : signsOf plain ≡ []
+  pub p12-written : writeRecordOf F32 2 1 PolarOnly 0 (oneFloat ∷ []) (1 ∷ []) [] 11 ≡ value withoutSigns
+  pub p12-read : readRecordOf withoutSigns ≡ value (record { mode = PolarOnly; profile = F32; dim = 2; bits = 1; projections = 0; range = record { min = zeroFloat; max = zeroFloat }; radii = 6; indices = 10; signs = 11; end = 11 })
+  pub p12-radii : radiiOf withoutSigns ≡ oneFloat ∷ []
+  pub p12-indices : indicesOf withoutSigns ≡ 1 ∷ []
+  pub p12-signs : signsOf withoutSigns ≡ []
   -- 'With signs (+, −, +): 02 02 00 00 00 01 03 00 00 00 00 00 80 3F 01 05.'
-  pub p13-written : writeOf F32 2 1 PolarWithQjl 3 (oneFloat ∷ []) (1 ∷ []) (pos 1 ∷ negsuc 0 ∷ pos 1 ∷ []) 16 ≡ value signed
-  pub p13-read : readOf signed ≡ value (record { mode = PolarWithQjl; profile = F32; dim = 2; bits = 1; projections = 3; range = record { min = zeroFloat; max = zeroFloat }; radii = 10; indices = 14; signs = 15; end = 16 })
-  pub p13-radii : radiiOf signed ≡ oneFloat ∷ []
-  pub p13-indices : indicesOf signed ≡ 1 ∷ []
-  pub p13-signs : signsOf signed ≡ pos 1 ∷ negsuc 0 ∷ pos 1 ∷ []
+  pub p13-written : writeRecordOf F32 2 1 PolarWithQjl 3 (oneFloat ∷ []) (1 ∷ []) (pos 1 ∷ negsuc 0 ∷ pos 1 ∷ []) 16 ≡ value withSigns
+  pub p13-read : readRecordOf withSigns ≡ value (record { mode = PolarWithQjl; profile = F32; dim = 2; bits = 1; projections = 3; range = record { min = zeroFloat; max = zeroFloat }; radii = 10; indices = 14; signs = 15; end = 16 })
+  pub p13-radii : radiiOf withSigns ≡ oneFloat ∷ []
+  pub p13-indices : indicesOf withSigns ≡ 1 ∷ []
+  pub p13-signs : signsOf withSigns ≡ pos 1 ∷ negsuc 0 ∷ pos 1 ∷ []

@@ -15,27 +15,27 @@ use Rattle.rounding.specs.Signed.{Near, Under}
 use Rattle.rounding.specs.Sums.{AllFit}
 use Rattle.rounding.proofs.Folds.{all-fit-from}
 use Rattle.setup.specs.declared.Setup.{Setup}
-use Rattle.qjl.specs.Score.{badScore}
+use Rattle.qjl.specs.Score.{wrongScore}
 use Rattle.qjl.specs.Sketch.{vectorChecks}
 use Rattle.qjl.proofs.Answers.{vector-setup, vector-rowed}
 use Rattle.packed.specs.Layout.{headerOf}
 use Rattle.packed.specs.Reading.{radiiOf}
 use Rattle.packed.proofs.Payloads.{length-radiiOf}
 use Rattle.packed.proofs.Radii.{radii-fit, length-signsOf, signs-good}
-use Rattle.order.specs.Scores.{Lent}
-use Rattle.order.proofs.Within.{Scorable, score-within, scores-ordered}
-use Rattle.query.specs.Query.{preparedChecks, queryChecks}
-use Rattle.scoring.specs.Opening.{contentOf, openChecks, openOf}
-use Rattle.scoring.proofs.Answers.{opened-accepted, opened-dim, opened-projections}
-use Rattle.turbo.specs.Estimates.{estimate, scoredChecks, estimateOf}
-use Rattle.turbo.specs.Order.{Scored, scaled, exactOf, boundFor, Demand}
+use Rattle.turbo_order.specs.Scores.{Lent}
+use Rattle.turbo_order.proofs.Within.{Scorable, score-within, scores-ordered}
+use Rattle.turbo_query.specs.Query.{preparedChecks, queryChecks}
+use Rattle.turbo_scoring.specs.Opening.{contentOf, openChecks, openRecordOf}
+use Rattle.turbo_scoring.proofs.Answers.{opened-accepted, opened-dim, opened-projections}
+use Rattle.turbo.specs.Estimates.{estimate, scoredChecks, innerProductEstimateOf}
+use Rattle.turbo.specs.Order.{IsScored, atScale, exactOf, boundFor, Demand}
 
 -- ---- a record that is scored
 
-module _ (s : Setup) (l : Lent) (bytes : List ℕ) {x : Float} (scored : Scored s l bytes x) where
+module _ (s : Setup) (l : Lent) (bytes : List ℕ) {x : Float} (scored : IsScored s l bytes x) where
   scored-clear : first (scoredChecks s l bytes) accepted ≡ accepted
-  unfolding estimateOf
-  scored-clear = append-left (scoredChecks s l bytes) (badScore (estimate s l bytes) ∷ []) (value (estimate s l bytes)) scored
+  unfolding innerProductEstimateOf
+  scored-clear = append-left (scoredChecks s l bytes) (wrongScore (estimate s l bytes) ∷ []) (value (estimate s l bytes)) scored
 
   -- the checks of the setup and the query pass
   pub scored-query : first (queryChecks s (l .signs) (l .directions) (l .matrix) (l .query)) accepted ≡ accepted
@@ -49,8 +49,8 @@ module _ (s : Setup) (l : Lent) (bytes : List ℕ) {x : Float} (scored : Scored 
   scored-opened = append-right (queryChecks s (l .signs) (l .directions) (l .matrix) (l .query)) (openChecks s bytes) accepted scored-clear
 
   -- the record is opened, which needs every check of the reader
-  pub scored-open : openOf s bytes ≡ value (headerOf bytes)
-  unfolding openOf
+  pub scored-open : openRecordOf s bytes ≡ value (headerOf bytes)
+  unfolding openRecordOf
   scored-open = first-passed (openChecks s bytes) (value (headerOf bytes)) scored-opened
 
   -- two coordinates for each radius
@@ -59,15 +59,15 @@ module _ (s : Setup) (l : Lent) (bytes : List ℕ) {x : Float} (scored : Scored 
 
   -- what is answered is the record's score
   pub scored-estimate : estimate s l bytes ≡ x
-  unfolding estimateOf
-  scored-estimate = first-value (scoredChecks s l bytes ++ (badScore (estimate s l bytes) ∷ [])) (estimate s l bytes) scored
+  unfolding innerProductEstimateOf
+  scored-estimate = first-value (scoredChecks s l bytes ++ (wrongScore (estimate s l bytes) ∷ [])) (estimate s l bytes) scored
 
   -- '12: a score .. is not finite' is not answered
   pub scored-finite : T (finite (estimate s l bytes))
-  unfolding estimateOf
+  unfolding innerProductEstimateOf
   scored-finite =
-      let last = append-right (scoredChecks s l bytes) (badScore (estimate s l bytes) ∷ []) (value (estimate s l bytes)) scored in
-      let known = not-false (finite (estimate s l bytes)) (first-passes (badScore (estimate s l bytes) ∷ []) (estimate s l bytes) last .0) in
+      let last = append-right (scoredChecks s l bytes) (wrongScore (estimate s l bytes) ∷ []) (value (estimate s l bytes)) scored in
+      let known = not-false (finite (estimate s l bytes)) (first-passes (wrongScore (estimate s l bytes) ∷ []) (estimate s l bytes) last .0) in
       rw known tt
 
   module _ (signs-fit : AllFit (l .signs)) (directions-fit : AllFit (l .directions)) (matrix-fit : AllFit (l .matrix)) (query-fit : AllFit (l .query)) where
@@ -89,12 +89,12 @@ module _ (s : Setup) (l : Lent) (bytes : List ℕ) {x : Float} (scored : Scored 
 -- ---- demand 3
 
 module _ (s : Setup) (l : Lent) (signs-fit : AllFit (l .signs)) (directions-fit : AllFit (l .directions)) (matrix-fit : AllFit (l .matrix)) (query-fit : AllFit (l .query)) where
-  demand-within : (bytes : List ℕ) (x : Float) → Scored s l bytes x → Near (scaled x) (exactOf s l bytes) (boundFor s l bytes)
+  demand-within : (bytes : List ℕ) (x : Float) → IsScored s l bytes x → Near (atScale x) (exactOf s l bytes) (boundFor s l bytes)
   demand-within bytes x scored =
-      subst (λ (y : Float). Near (scaled y) (exactOf s l bytes) (boundFor s l bytes)) (scored-estimate s l bytes scored)
+      subst (λ (y : Float). Near (atScale y) (exactOf s l bytes) (boundFor s l bytes)) (scored-estimate s l bytes scored)
       (score-within s l (contentOf bytes) (scored-scorable s l bytes scored signs-fit directions-fit matrix-fit query-fit) (scored-finite s l bytes scored))
 
-  demand-ordered : (low high : List ℕ) (x y : Float) → Scored s l low x → Scored s l high y → Under (boundFor s l low + boundFor s l high) (scaled x) (scaled y) → Under 0 (exactOf s l low) (exactOf s l high)
+  demand-ordered : (low high : List ℕ) (x y : Float) → IsScored s l low x → IsScored s l high y → Under (boundFor s l low + boundFor s l high) (atScale x) (atScale y) → Under 0 (exactOf s l low) (exactOf s l high)
   demand-ordered low high x y below above apart =
       scores-ordered s l (contentOf low) (contentOf high) (scored-scorable s l low below signs-fit directions-fit matrix-fit query-fit) (scored-scorable s l high above signs-fit directions-fit matrix-fit query-fit) (scored-finite s l low below) (scored-finite s l high above)
       (rw (scored-estimate s l low below, scored-estimate s l high above) apart)

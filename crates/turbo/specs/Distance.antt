@@ -5,13 +5,13 @@ use mathlib.Core.Bool.{false, cond}
 use mathlib.Core.List.{List, [], _∷_, _++_}
 use lib.IntN.{pos}
 use lib.Ieee.{Float, fin, binary32, add, sub, mul, lt}
-use Rattle.error.specs.Answer.{Answer, value, Check, first}
+use Rattle.error.specs.Answer.{Answer, value, first}
 use Rattle.rounding.specs.Sums.{dot}
 use Rattle.rounding.specs.Value.{posZero}
 use Rattle.setup.specs.declared.Setup.{Setup}
-use Rattle.qjl.specs.Score.{badScore}
+use Rattle.qjl.specs.Score.{wrongScore}
 use Rattle.packed.specs.Reading.{radiiOf}
-use Rattle.order.specs.Scores.{Lent}
+use Rattle.turbo_order.specs.Scores.{Lent}
 use Rattle.turbo.specs.Estimates.{estimate, estimateChecks}
 
 -- a squared norm: 'Sums run in index order from +0.0.'
@@ -29,5 +29,5 @@ cutAtZero x = cond (lt posZero x) x posZero
 abbrev pub distance : Setup → Lent → List ℕ → Float
 distance s l bytes = cutAtZero (apart (l .query) (radiiOf bytes) (estimate s l bytes))
 
-unfoldable pub distanceOf : Setup → Lent → List ℕ → Answer Float
-distanceOf s l bytes = first (estimateChecks s l bytes ++ (badScore (distance s l bytes) ∷ [])) (value (distance s l bytes))
+unfoldable pub l2DistanceEstimateOf : Setup → Lent → List ℕ → Answer Float
+l2DistanceEstimateOf s l bytes = first (estimateChecks s l bytes ++ (wrongScore (distance s l bytes) ∷ [])) (value (distance s l bytes))

@@ -7,13 +7,13 @@ use lib.Ieee.{Float}
 use Rattle.error.specs.Answer.{Answer, value, Check, first, each}
 use Rattle.error.specs.Checks.{wrongInput}
 use Rattle.setup.specs.declared.Setup.{Setup}
-use Rattle.setup.specs.Setups.{countedProjections}
-use Rattle.setup.specs.Checks.{notFinite, scalarChecks, directionChecks}
-use Rattle.qjl.specs.Score.{badScore}
-use Rattle.order.specs.Scores.{Lent, scoreOf}
-use Rattle.query.specs.Query.{queryChecks}
-use Rattle.scoring.specs.Opening.{contentOf, openChecks}
-use Rattle.scoring.specs.Scoring.{recordScore, recordScoreChecks}
+use Rattle.setup.specs.Setups.{countedProjectionsOf}
+use Rattle.setup.specs.Checks.{badValue, scalarChecks, directionChecks}
+use Rattle.qjl.specs.Score.{wrongScore}
+use Rattle.turbo_order.specs.Scores.{Lent, scoreOf}
+use Rattle.turbo_query.specs.Query.{queryChecks}
+use Rattle.turbo_scoring.specs.Opening.{contentOf, openChecks}
+use Rattle.turbo_scoring.specs.Scoring.{recordScore, recordScoreChecks}
 
 -- ---- by a query
 
@@ -27,10 +27,10 @@ scoredChecks s l bytes = queryChecks s (l .signs) (l .directions) (l .matrix) (l
 
 -- '.. then 12'
 abbrev pub estimateChecks : Setup → Lent → List ℕ → List Check
-estimateChecks s l bytes = scoredChecks s l bytes ++ (badScore (estimate s l bytes) ∷ [])
+estimateChecks s l bytes = scoredChecks s l bytes ++ (wrongScore (estimate s l bytes) ∷ [])
 
-unfoldable pub estimateOf : Setup → Lent → List ℕ → Answer Float
-estimateOf s l bytes = first (estimateChecks s l bytes) (value (estimate s l bytes))
+unfoldable pub innerProductEstimateOf : Setup → Lent → List ℕ → Answer Float
+innerProductEstimateOf s l bytes = first (estimateChecks s l bytes) (value (estimate s l bytes))
 
 -- ---- by a prepared query, which needs neither signs nor matrix
 
@@ -40,11 +40,11 @@ readyChecks s directions turned rows =
     scalarChecks s
     ++ directionChecks s directions
     ++ (wrongInput (length turned) (s .dim)
-    ∷ wrongInput (length rows) (countedProjections s)
-    ∷ each notFinite 11 turned
-    ∷ each notFinite 11 rows
+    ∷ wrongInput (length rows) (countedProjectionsOf s)
+    ∷ each badValue 11 turned
+    ∷ each badValue 11 rows
     ∷ [])
 
-unfoldable pub estimatePreparedOf : Setup → List Float → List Float → List Float → List ℕ → Answer Float
-estimatePreparedOf s directions turned rows bytes =
+unfoldable pub innerProductEstimatePreparedOf : Setup → List Float → List Float → List Float → List ℕ → Answer Float
+innerProductEstimatePreparedOf s directions turned rows bytes =
     first (readyChecks s directions turned rows ++ recordScoreChecks s directions turned rows bytes) (value (recordScore s directions turned rows bytes))

@@ -1,7 +1,7 @@
 -- Demand 3, as one claim with both its halves: for every setup and query, and any two records scored under them, whoever wrote their bytes, each score lies
 -- within its bound of its exact score, and scores further apart than the sum of their bounds have exact scores in the same strict order. Score, exact score and
 -- bound are whole numbers at one fixed scale, 2 ^ -619. Assumes nothing.
-use Prim.Native.Nat.{ℕ, _+_, _^_}
+use Prim.Native.Nat.{ℕ, _+_}
 use mathlib.Core.Path.{_≡_}
 use mathlib.Core.List.{List}
 use lib.Ieee.{Float}
@@ -9,17 +9,17 @@ use Rattle.error.specs.Answer.{value}
 use Rattle.rounding.specs.Signed.{Diff, Near, Under, _⊙_}
 use Rattle.rounding.specs.Value.{val}
 use Rattle.setup.specs.declared.Setup.{Setup}
-use Rattle.order.specs.Scores.{Lent, perUnit, scaledExact, boundOf}
-use Rattle.scoring.specs.Opening.{contentOf}
-use Rattle.turbo.specs.Estimates.{estimateOf}
+use Rattle.turbo_order.specs.Scores.{Lent, perUnit, scaledExact, boundOf}
+use Rattle.turbo_scoring.specs.Opening.{contentOf}
+use Rattle.turbo.specs.Estimates.{innerProductEstimateOf}
 
 -- 'A record counts as scored under a setup and a query where scoring it under them answers a number with its value.'
-abbrev pub Scored : Setup → Lent → List ℕ → Float → Type 0
-Scored s l bytes x = estimateOf s l bytes ≡ value x
+abbrev pub IsScored : Setup → Lent → List ℕ → Float → Type 0
+IsScored s l bytes x = innerProductEstimateOf s l bytes ≡ value x
 
 -- at the scale: a score, the exact score of a record, and its bound
-abbrev pub scaled : Float → Diff
-scaled x = perUnit ⊙ val x
+abbrev pub atScale : Float → Diff
+atScale x = perUnit ⊙ val x
 
 abbrev pub exactOf : Setup → Lent → List ℕ → Diff
 exactOf s l bytes = scaledExact s l (contentOf bytes)
@@ -29,8 +29,8 @@ boundFor s l bytes = boundOf s l (contentOf bytes)
 
 pub record Demand (s : Setup) (l : Lent) : Type 0 where
   -- 'That score lies within its bound where it differs from its exact score by at most the bound.'
-  pub within : (bytes : List ℕ) (x : Float) → Scored s l bytes x → Near (scaled x) (exactOf s l bytes) (boundFor s l bytes)
+  pub within : (bytes : List ℕ) (x : Float) → IsScored s l bytes x → Near (atScale x) (exactOf s l bytes) (boundFor s l bytes)
   -- x below y by more than the sum of the bounds
-  pub ordered : (low high : List ℕ) (x y : Float) → Scored s l low x → Scored s l high y
-      → Under (boundFor s l low + boundFor s l high) (scaled x) (scaled y)
+  pub ordered : (low high : List ℕ) (x y : Float) → IsScored s l low x → IsScored s l high y
+      → Under (boundFor s l low + boundFor s l high) (atScale x) (atScale y)
       → Under 0 (exactOf s l low) (exactOf s l high)

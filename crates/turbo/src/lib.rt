@@ -13,11 +13,11 @@ ghost use mathlib.Core.List.{[], _∷_};
 ghost use Rattle.error.specs.Answer.{value, first, accepted};
 ghost use Rattle.error.specs.Outcomes.{says};
 ghost use Rattle.setup.specs.Checks.{scalarChecks};
-ghost use Rattle.qjl.specs.Score.{saysScore, badScore};
+ghost use Rattle.qjl.specs.Score.{saysScore, wrongScore};
 ghost use Rattle.packed.specs.Layout.{pairsOf, headerOf};
-ghost use Rattle.packed.specs.Reading.{readOf, radiiOf};
-ghost use Rattle.turbo.specs.Estimates.{estimateOf, readyChecks, estimatePreparedOf};
-ghost use Rattle.turbo.specs.Distance.{squaredNorm, cutAtZero, distanceOf};
+ghost use Rattle.packed.specs.Reading.{readRecordOf, radiiOf};
+ghost use Rattle.turbo.specs.Estimates.{innerProductEstimateOf, readyChecks, innerProductEstimatePreparedOf};
+ghost use Rattle.turbo.specs.Distance.{squaredNorm, cutAtZero, l2DistanceEstimateOf};
 ghost use Rattle.turbo.specs.Order.{Demand};
 
 // The estimated inner product of a query and the vector that a record stands for.
@@ -29,7 +29,7 @@ pub fn inner_product_estimate(
     query: &[f32],
     bytes: &[u8],
 ) -> Scored
-    ensures said { λ r. ⌜ saysScore r ≡ estimateOf setup (record { signs = now (signs .entry); directions = now (directions .entry); matrix = now (matrix .entry); query = now (query .entry) }) (now (bytes .entry)) ⌝ }
+    ensures said { λ r. ⌜ saysScore r ≡ innerProductEstimateOf setup (record { signs = now (signs .entry); directions = now (directions .entry); matrix = now (matrix .entry); query = now (query .entry) }) (now (bytes .entry)) ⌝ }
     ensures ordered { λ r. ⌜ Demand setup (record { signs = now (signs .entry); directions = now (directions .entry); matrix = now (matrix .entry); query = now (query .entry) }) ⌝ }
 {
     let checked = setup::check_scalars(setup);
@@ -47,13 +47,13 @@ pub fn inner_product_estimate_prepared(
     projected: &[f32],
     bytes: &[u8],
 ) -> Scored
-    ensures { λ r. ⌜ saysScore r ≡ estimatePreparedOf setup (now (directions .entry)) (now (rotated .entry)) (now (projected .entry)) (now (bytes .entry)) ⌝ }
+    ensures { λ r. ⌜ saysScore r ≡ innerProductEstimatePreparedOf setup (now (directions .entry)) (now (rotated .entry)) (now (projected .entry)) (now (bytes .entry)) ⌝ }
 {
     let checked = check_prepared(setup, directions, rotated, projected);
     if let Outcome::Refused { number, place } = checked {
         return Scored::Refused { number, place };
     }
-    scoring::record_score(setup, directions, rotated, projected, bytes)
+    turbo_scoring::record_score(setup, directions, rotated, projected, bytes)
 }
 
 // The estimated squared distance of a query from the vector that a record stands for.
@@ -65,7 +65,7 @@ pub fn l2_distance_estimate(
     query: &[f32],
     bytes: &[u8],
 ) -> Scored
-    ensures { λ r. ⌜ saysScore r ≡ distanceOf setup (record { signs = now (signs .entry); directions = now (directions .entry); matrix = now (matrix .entry); query = now (query .entry) }) (now (bytes .entry)) ⌝ }
+    ensures { λ r. ⌜ saysScore r ≡ l2DistanceEstimateOf setup (record { signs = now (signs .entry); directions = now (directions .entry); matrix = now (matrix .entry); query = now (query .entry) }) (now (bytes .entry)) ⌝ }
 {
     match inner_product_estimate(setup, signs, directions, matrix, query, bytes) {
         Scored::Score(score) => {
@@ -86,13 +86,13 @@ fn score_query(
     bytes: &[u8],
 ) -> Scored
     requires { ⌜ first (scalarChecks setup) accepted ≡ accepted ⌝ }
-    ensures { λ r. ⌜ saysScore r ≡ estimateOf setup (record { signs = now (signs .entry); directions = now (directions .entry); matrix = now (matrix .entry); query = now (query .entry) }) (now (bytes .entry)) ⌝ }
+    ensures { λ r. ⌜ saysScore r ≡ innerProductEstimateOf setup (record { signs = now (signs .entry); directions = now (directions .entry); matrix = now (matrix .entry); query = now (query .entry) }) (now (bytes .entry)) ⌝ }
 {
     let dim = setup.dim;
     let rows = setup::counted_projections(setup);
     let mut rotated = zeros();
     let mut projected = zeros();
-    let prepared = query::prepare_query(
+    let prepared = turbo_query::prepare_query(
         setup,
         signs,
         directions,
@@ -104,7 +104,7 @@ fn score_query(
     if let Outcome::Refused { number, place } = prepared {
         return Scored::Refused { number, place };
     }
-    scoring::record_score(
+    turbo_scoring::record_score(
         setup,
         directions,
         &rotated[0..dim],
@@ -158,11 +158,11 @@ fn check_prepared(setup: Setup, directions: &[f32], rotated: &[f32], projected: 
 
 // The squared norm of the radii of a record that is read.
 fn radii_norm(bytes: &[u8], pairs: usize) -> f32
-    requires { ⌜ (readOf (now bytes) ≡ value (headerOf (now bytes))) × (pairs ≡ pairsOf (now bytes)) ⌝ }
+    requires { ⌜ (readRecordOf (now bytes) ≡ value (headerOf (now bytes))) × (pairs ≡ pairsOf (now bytes)) ⌝ }
     ensures { λ r. ⌜ r ≡ squaredNorm (radiiOf (now (bytes .entry))) ⌝ }
 {
     let mut radii = no_radii();
-    parts::read_radii(bytes, &mut radii[0..pairs]);
+    packed_parts::read_radii(bytes, &mut radii[0..pairs]);
     squared_norm(&radii[0..pairs])
 }
 
@@ -188,7 +188,7 @@ fn cut_at_zero(x: f32) -> f32
 
 // A distance, or 12 where it is not finite.
 fn finite_distance(distance: f32) -> Scored
-    ensures { λ r. ⌜ saysScore r ≡ first (badScore distance ∷ []) (value distance) ⌝ }
+    ensures { λ r. ⌜ saysScore r ≡ first (wrongScore distance ∷ []) (value distance) ⌝ }
 {
     if float::is_finite(distance) {
         return Scored::Score(distance);

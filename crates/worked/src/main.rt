@@ -65,13 +65,13 @@ fn signs() {
     let p5 = [1i8, -1, 1];
     let mut one = [0u8; 1];
     title(b"P5  signs (+, -, +): ");
-    answer(signs::pack_signs(&p5, &mut one), &one);
+    answer(bitpack_signs::pack_signs(&p5, &mut one), &one);
     verdict(b"05");
 
     let p6 = [0x0Du8];
     let mut three = [0i8; 3];
     title(b"P6  0d as 3 signs: ");
-    answer(signs::unpack_signs(&p6, 3, &mut three), &p6);
+    answer(bitpack_signs::unpack_signs(&p6, 3, &mut three), &p6);
     verdict(b"refused 14 at 0");
 }
 
@@ -137,7 +137,7 @@ fn record() {
     let index = [1u16];
     let none = [0i8; 0];
     let mut made = [0u8; 11];
-    let written = writing::write_record(
+    let written = packed_writing::write_record(
         RadiusCodecProfileV1::F32,
         2,
         1,
@@ -159,7 +159,7 @@ fn record() {
     verdict(b"1");
     let mut signs = [0i8; 0];
     title(b"    its signs: ");
-    plus_minus(parts::read_signs(&made, &mut signs), &signs);
+    plus_minus(packed_parts::read_signs(&made, &mut signs), &signs);
     verdict(b"no signs");
 }
 
@@ -169,7 +169,7 @@ fn record_with_signs() {
     let index = [1u16];
     let three = [1i8, -1, 1];
     let mut made = [0u8; 16];
-    let written = writing::write_record(
+    let written = packed_writing::write_record(
         RadiusCodecProfileV1::F32,
         2,
         1,
@@ -191,7 +191,7 @@ fn record_with_signs() {
     verdict(b"1");
     let mut signs = [0i8; 3];
     title(b"    its signs: ");
-    plus_minus(parts::read_signs(&made, &mut signs), &signs);
+    plus_minus(packed_parts::read_signs(&made, &mut signs), &signs);
     verdict(b"+ - +");
 }
 
@@ -222,14 +222,14 @@ fn field(name: &[u8], n: u64) {
 fn values(made: &[u8]) {
     let mut radius = [0.0f32; 1];
     title(b"    its radius: ");
-    floats(parts::read_radii(made, &mut radius), &radius);
+    floats(packed_parts::read_radii(made, &mut radius), &radius);
 }
 
 // The index of a record that has one.
 fn codes(made: &[u8]) {
     let mut index = [0u16; 1];
     title(b"    its index: ");
-    indices(parts::read_indices(made, &mut index), &index);
+    indices(packed_parts::read_indices(made, &mut index), &index);
 }
 
 // A small whole job: an archive of four records, in both modes and both radius forms, and a damaged copy, under a query.
@@ -300,7 +300,7 @@ fn prepared_query() {
     let query = asked();
     let mut rotated = [0.0f32; 4];
     let mut projected = [0.0f32; 3];
-    let made = query::prepare_query(
+    let made = turbo_query::prepare_query(
         residual(),
         &signs,
         &directions,
@@ -323,7 +323,7 @@ fn first_record() {
     let radii = [1.0f32, 2.0];
     let indices = [2u16, 3];
     let mut made = [0u8; 15];
-    let wrote = writing::write_record(
+    let wrote = packed_writing::write_record(
         RadiusCodecProfileV1::F32,
         4,
         2,
@@ -351,7 +351,7 @@ fn second_record() {
     let radii = [0.5f32, 1.5];
     let indices = [0u16, 1];
     let mut made = [0u8; 19];
-    let wrote = writing::write_record(
+    let wrote = packed_writing::write_record(
         RadiusCodecProfileV1::BlockLinearU16,
         4,
         2,
@@ -388,7 +388,7 @@ fn third_record() {
     let indices = [2u16, 3];
     let signs = [1i8, -1, 1];
     let mut made = [0u8; 20];
-    let wrote = writing::write_record(
+    let wrote = packed_writing::write_record(
         RadiusCodecProfileV1::F32,
         4,
         2,
@@ -416,7 +416,7 @@ fn fourth_record() {
     let indices = [3u16, 2];
     let signs = [-1i8, -1, 1];
     let mut made = [0u8; 24];
-    let wrote = writing::write_record(
+    let wrote = packed_writing::write_record(
         RadiusCodecProfileV1::BlockLinearU16,
         4,
         2,
@@ -464,7 +464,7 @@ fn decoded_plain(made: &[u8]) {
     let mut vector = [0.0f32; 4];
     title(b"    decoded: ");
     floats(
-        decode::decode_approximate(plain(), &signs, &directions, &none, made, &mut vector),
+        turbo_decode::decode_approximate(plain(), &signs, &directions, &none, made, &mut vector),
         &vector,
     );
 }

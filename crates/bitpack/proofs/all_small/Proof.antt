@@ -9,13 +9,13 @@ use borrow.Author.Needs.{scaled-fits}
 use borrow.Author.Tests.{le-leb, lt-leb}
 use Rattle.error.specs.Sweep.{Swept}
 use Rattle.error.proofs.Sweep.{swept-start, swept-pass, swept-spot, swept-end}
-use Rattle.bitpack.specs.Packing.{tooLarge}
+use Rattle.bitpack.specs.Packing.{badIndex}
 use Rattle.bitpack.proofs.Lengths.{power-shifted}
 use Rattle.bitpack.proofs.all_small.Statement.{statement}
 use Rattle.bitpack.proofs.all_small.Tie as tie
 
 abbrev Inv-loop : tie.InvT-loop
-Inv-loop indices bits levels ok₀ i₀ ok i = (levels ≡ 2 ^ bits) × Swept (tooLarge bits) indices i ok
+Inv-loop indices bits levels ok₀ i₀ ok i = (levels ≡ 2 ^ bits) × Swept (badIndex bits) indices i ok
 
 abbrev μ-loop : tie.MeasureT-loop
 μ-loop indices bits levels ok₀ i₀ ok i = length indices - i
@@ -48,8 +48,8 @@ loop-again c =
     let below = c .before .before .loop-test .taken in (
       s .inv .0,
       ⊎-elim
-          (λ w. rw (w .1) (swept-spot (tooLarge (a .bits)) (now (a .indices)) (s .i) (s .ok) 0 below (le-leb (2 ^ a .bits) (getD (now (a .indices)) (s .i) 0) (omega (arith, w .0 .taken, s .inv .0))) (s .inv .1)))
-          (λ w. rw (w .1) (swept-pass (tooLarge (a .bits)) (now (a .indices)) (s .i) (s .ok) 0 below (lt-leb (2 ^ a .bits) (getD (now (a .indices)) (s .i) 0) (omega (arith, w .0 .left, s .inv .0))) (s .inv .1)))
+          (λ w. rw (w .1) (swept-spot (badIndex (a .bits)) (now (a .indices)) (s .i) (s .ok) 0 below (le-leb (2 ^ a .bits) (getD (now (a .indices)) (s .i) 0) (omega (arith, w .0 .taken, s .inv .0))) (s .inv .1)))
+          (λ w. rw (w .1) (swept-pass (badIndex (a .bits)) (now (a .indices)) (s .i) (s .ok) 0 below (lt-leb (2 ^ a .bits) (getD (now (a .indices)) (s .i) 0) (omega (arith, w .0 .left, s .inv .0))) (s .inv .1)))
           (c .if1 .came),
     )
 

@@ -8,13 +8,13 @@ use borrow.Author.Needs.{scaled-fits}
 use borrow.Author.Tests.{le-leb, lt-leb}
 use Rattle.error.specs.Answer.{place}
 use Rattle.error.proofs.Places.{place-start, place-skip, place-here, place-end}
-use Rattle.bitpack.specs.Packing.{tooLarge}
+use Rattle.bitpack.specs.Packing.{badIndex}
 use Rattle.bitpack.proofs.Lengths.{power-shifted}
 use Rattle.bitpack.proofs.find_large.Statement.{statement}
 use Rattle.bitpack.proofs.find_large.Tie as tie
 
 abbrev Inv-loop : tie.InvT-loop
-Inv-loop indices bits levels i₀ i = (i ≤ length indices) × ((levels ≡ 2 ^ bits) × (place (tooLarge bits) indices ≡ i + place (tooLarge bits) (drop i indices)))
+Inv-loop indices bits levels i₀ i = (i ≤ length indices) × ((levels ≡ 2 ^ bits) × (place (badIndex bits) indices ≡ i + place (badIndex bits) (drop i indices)))
 
 abbrev μ-loop : tie.MeasureT-loop
 μ-loop indices bits levels i₀ i = length indices - i

@@ -3,20 +3,20 @@ use mathlib.Core.Logic.{⊎-elim}
 use native.Mathlib.Omega.{arith}
 use borrow.Author.Needs.{needs}
 use borrow.Author.Tests.{lt-ltb, le-ltb}
-use Rattle.bitpack.specs.Packing.{packedLen}
+use Rattle.bitpack.specs.Packing.{packedLenOf}
 use Rattle.bitpack.proofs.Lengths.{product-fits, product-exceeds, rounded-up}
 use Rattle.bitpack.proofs.packed_len.Statement.{statement}
 use Rattle.bitpack.proofs.packed_len.Tie as tie
 
 returns : tie.Need-returns
-unfolding packedLen
+unfolding packedLenOf
 returns c = ⊎-elim (λ w. simp (lt-ltb _ _ (w .taken))) (λ w. simp (le-ltb _ _ (w .0 .left), w .1 .taken)) (c .if1 .came)
 
 div-if3 : tie.Need-div-if3
 div-if3 c = search needs
 
 returns-2 : tie.Need-returns-2
-unfolding packedLen
+unfolding packedLenOf
 returns-2 c =
     let a = c .before .before .before .args in
     simp (le-ltb _ _ (c .before .before .if1 .left), c .before .if2 .left, lt-ltb _ _ (product-exceeds (a .count) (a .bits) (c .before .before .if1 .left) (c .if3 .taken)))
@@ -35,7 +35,7 @@ add-t13 c =
     omega (arith, product-fits (a .count) (a .bits) (c .before .before .if1 .left) (c .if3 .left))
 
 returns-3 : tie.Need-returns-3
-unfolding packedLen
+unfolding packedLenOf
 returns-3 c =
     let a = c .before .before .before .args in
     simp (le-ltb _ _ (c .before .before .if1 .left), c .before .if2 .left, le-ltb _ _ (product-fits (a .count) (a .bits) (c .before .before .if1 .left) (c .if3 .left)), rounded-up)

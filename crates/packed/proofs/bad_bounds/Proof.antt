@@ -6,9 +6,6 @@ use Rattle.radius.specs.Radii.{badRadius}
 use borrow.Author.Needs.{needs}
 use Rattle.packed.proofs.bad_bounds.Statement.{statement}
 use Rattle.packed.proofs.bad_bounds.Tie as tie
-use Rattle.packed.proofs.bad_bounds.Reads as reads
-use Rattle.packed.proofs.bad_bounds.Lts as lts
-use Rattle.packed.proofs.is_bad.Reads as is-bad-reads
 
 is-bad-requires : tie.Need-is-bad-requires
 is-bad-requires c κs = search needs

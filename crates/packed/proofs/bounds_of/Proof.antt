@@ -4,9 +4,6 @@ use borrow.Author.Tests.{eq-eqb, ne-eqb}
 use borrow.Author.Needs.{needs}
 use Rattle.packed.proofs.bounds_of.Statement.{statement}
 use Rattle.packed.proofs.bounds_of.Tie as tie
-use Rattle.packed.proofs.bounds_of.Reads as reads
-use Rattle.packed.proofs.bounds_of.Lts as lts
-use Rattle.packed.proofs.get_f32.Reads as get-f32-reads
 
 shared-slice-read-if1 : tie.Need-shared-slice-read-if1
 shared-slice-read-if1 c = search needs

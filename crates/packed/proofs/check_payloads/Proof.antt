@@ -8,10 +8,10 @@ use lib.ListN.{length}
 use mathlib.Core.Bool.{false}
 use mathlib.Core.List.{List}
 use Rattle.error.specs.Answer.{place}
-use Rattle.bitpack.specs.Padding.{paddingOf}
+use Rattle.bitpack.specs.Padding.{validatePaddingZeroOf}
 use Rattle.radius.specs.Radii.{badRadius}
 use Rattle.packed.specs.Fields.{mapOf, profileOf, boundsOf, bitsOf}
-use Rattle.packed.specs.Radii.{wrongBounds}
+use Rattle.packed.specs.Radii.{badBoundsFor}
 use Rattle.packed.specs.Reading.{radiiOf}
 use Rattle.error.specs.Outcomes.{says}
 use Rattle.error.specs.Answer.{accepted}
@@ -22,11 +22,6 @@ use Rattle.packed.proofs.Payloads.{first-bad-whole, payload-size, paylo
 use borrow.Author.Needs.{needs}
 use Rattle.packed.proofs.check_payloads.Statement.{statement}
 use Rattle.packed.proofs.check_payloads.Tie as tie
-use Rattle.packed.proofs.check_payloads.Reads as reads
-use Rattle.packed.proofs.check_payloads.Lts as lts
-use Rattle.bitpack.proofs.validate_padding_zero.Reads as validate-padding-zero-reads
-use Rattle.packed.proofs.first_bad.Reads as first-bad-reads
-use Rattle.packed.proofs.wrong_bounds.Reads as wrong-bounds-reads
 
 -- the whole length is right
 sized : (c : tie.Else1) → let bytes = now (c .before .before .args .bytes) in length bytes ≡ totalOf bytes
@@ -38,7 +33,7 @@ within c =
     let o = ordered (now (c .before .before .args .bytes)) (c .before .before .pre .0) in
     record { first = o .first; second = o .second; third = o .third; last = sym (c .if1 .left) }
 
-bounds : (c : tie.Else2) → let bytes = now (c .before .before .before .before .before .args .bytes) in wrongBounds (profileOf (mapOf bytes)) (boundsOf bytes) ≡ false
+bounds : (c : tie.Else2) → let bytes = now (c .before .before .before .before .before .args .bytes) in badBoundsFor (profileOf (mapOf bytes)) (boundsOf bytes) ≡ false
 bounds c = sym (header-bounds (now (c .before .before .before .before .before .args .bytes)) (c .before .before .before .before .before .pre .0)) ∙ sym (c .before .wrong-bounds .ensures) ∙ c .if2 .left
 
 found : (c : tie.After-first-bad) → let bytes = now (c .before .before .before .before .before .before .before .before .args .bytes) in c .first-bad .result ≡ place badRadius (radiiOf bytes)
@@ -55,12 +50,12 @@ every : (c : tie.Else3) → let bytes = now (c .before .before .before .before .
 every c = omega (arith, c .if3 .left, header-pairs (now (c .before .before .before .before .before .before .before .before .before .args .bytes)) (c .before .before .before .before .before .before .before .before .before .pre .0))
 
 -- the indices' padding
-padding : (c : tie.After-validate-padding-zero) → let bytes = now (c .before .before .before .before .before .before .before .before .before .before .before .before .args .bytes) in says (c .validate-padding-zero .result) ≡ paddingOf (indicesBytes bytes) (indicesUsed bytes)
+padding : (c : tie.After-validate-padding-zero) → let bytes = now (c .before .before .before .before .before .before .before .before .before .before .before .before .args .bytes) in says (c .validate-padding-zero .result) ≡ validatePaddingZeroOf (indicesBytes bytes) (indicesUsed bytes)
 padding c =
     let bytes = now (c .before .before .before .before .before .before .before .before .before .before .before .before .args .bytes) in
     let is = c .before .before .before .before .before .before .before .before .before .before .before .before .pre .0 in
     let header = c .before .before .before .before .before .before .before .before .before .before .before .before .args .header in
-    c .validate-padding-zero .ensures ∙ ap (λ (l : List ℕ). paddingOf l (header .dim / 2 * header .bits)) (indices-part bytes is) ∙ ap (paddingOf (indicesBytes bytes)) (header-used bytes is)
+    c .validate-padding-zero .ensures ∙ ap (λ (l : List ℕ). validatePaddingZeroOf l (header .dim / 2 * header .bits)) (indices-part bytes is) ∙ ap (validatePaddingZeroOf (indicesBytes bytes)) (header-used bytes is)
 
 returns : tie.Need-returns
 returns c = sym (payload-size (now (c .before .before .args .bytes)) (λ e. c .if1 .taken (e ∙ sym (ordered (now (c .before .before .args .bytes)) (c .before .before .pre .0) .last))))
@@ -136,8 +131,8 @@ returns-5 c =
     let is = c .before .before .before .before .before .before .before .before .before .before .before .before .before .before .before .before .pre .0 in
     let header = c .before .before .before .before .before .before .before .before .before .before .before .before .before .before .before .before .args .header in
     c .validate-padding-zero2 .ensures
-    ∙ ap (λ (l : List ℕ). paddingOf l (header .projections)) (signs-part bytes is)
-    ∙ ap (paddingOf (signsBytes bytes)) (header-projections bytes is)
+    ∙ ap (λ (l : List ℕ). validatePaddingZeroOf l (header .projections)) (signs-part bytes is)
+    ∙ ap (validatePaddingZeroOf (signsBytes bytes)) (header-projections bytes is)
     ∙ sym (payload-signs bytes (sized (c .before .before .before .before .before .before .before .before .before .before .before .before .before .before)) (bounds (c .before .before .before .before .before .before .before .before .before .before .before)) (found (c .before .before .before .before .before .before .before .before)) (every (c .before .before .before .before .before .before .before)) (sym (padding (c .before .before .before .before)) ∙ ap says (c .before .before .enum-told .given .1)))
 
 pub check-payloads-spec : {M : Type 1} → statement M

@@ -12,8 +12,6 @@ use Rattle.digits.proofs.Runs.{run-two}
 use borrow.Author.Needs.{needs}
 use Rattle.packed.proofs.get_linear.Statement.{statement}
 use Rattle.packed.proofs.get_linear.Tie as tie
-use Rattle.packed.proofs.get_linear.Reads as reads
-use Rattle.packed.proofs.get_linear.Lts as lts
 
 -- two bytes as a number
 number-two : (l : List ℕ) (k : ℕ) → k + 2 ≤ length l → getD l k 0 + 256 * getD l (k + 1) 0 ≡ number 256 (take 2 (drop k l))

@@ -9,15 +9,6 @@ use Rattle.packed.proofs.Headers.{usable, bits-most, projections-most, 
 use borrow.Author.Needs.{needs}
 use Rattle.packed.proofs.header_of.Statement.{statement}
 use Rattle.packed.proofs.header_of.Tie as tie
-use Rattle.packed.proofs.header_of.Reads as reads
-use Rattle.packed.proofs.header_of.Lts as lts
-use Rattle.packed.proofs.bounds_of.Reads as bounds-of-reads
-use Rattle.packed.proofs.get_u32.Reads as get-u32-reads
-use Rattle.packed.proofs.header_length.Reads as header-length-reads
-use Rattle.packed.proofs.mode_of.Reads as mode-of-reads
-use Rattle.packed.proofs.profile_of.Reads as profile-of-reads
-use Rattle.packed.proofs.projections_of.Reads as projections-of-reads
-use Rattle.packed.proofs.width_of.Reads as width-of-reads
 
 -- the sizes that the sums are made of
 pub record Sizes (head width dim bits m : ℕ) : Type 0 where

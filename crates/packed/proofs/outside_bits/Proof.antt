@@ -3,8 +3,6 @@ use borrow.Author.Tests.{lt-ltb, le-ltb}
 use borrow.Author.Needs.{needs}
 use Rattle.packed.proofs.outside_bits.Statement.{statement}
 use Rattle.packed.proofs.outside_bits.Tie as tie
-use Rattle.packed.proofs.outside_bits.Reads as reads
-use Rattle.packed.proofs.outside_bits.Lts as lts
 
 returns : tie.Need-returns
 returns c = simp (lt-ltb _ _ (c .if1 .taken))

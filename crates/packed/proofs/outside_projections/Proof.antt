@@ -3,8 +3,6 @@ use borrow.Author.Tests.{eq-eqb, ne-eqb}
 use borrow.Author.Needs.{needs}
 use Rattle.packed.proofs.outside_projections.Statement.{statement}
 use Rattle.packed.proofs.outside_projections.Tie as tie
-use Rattle.packed.proofs.outside_projections.Reads as reads
-use Rattle.packed.proofs.outside_projections.Lts as lts
 
 enum-told : tie.Need-enum-told
 enum-told c = search needs

@@ -5,9 +5,6 @@ use borrow.Author.Tests.{eq-eqb, ne-eqb}
 use borrow.Author.Needs.{needs}
 use Rattle.packed.proofs.projections_of.Statement.{statement}
 use Rattle.packed.proofs.projections_of.Tie as tie
-use Rattle.packed.proofs.projections_of.Reads as reads
-use Rattle.packed.proofs.projections_of.Lts as lts
-use Rattle.packed.proofs.get_u32.Reads as get-u32-reads
 
 shared-slice-read-map : tie.Need-shared-slice-read-map
 shared-slice-read-map c = search needs

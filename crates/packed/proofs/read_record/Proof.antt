@@ -6,7 +6,7 @@ use Rattle.error.specs.Outcomes.{says}
 use Rattle.error.proofs.Chains as chains
 use Rattle.error.proofs.Chains.{append-refused, append-passed}
 use Rattle.packed.specs.Layout.{headerOf}
-use Rattle.packed.specs.Reading.{headerChecks, payloadChecks, readOf}
+use Rattle.packed.specs.Reading.{headerChecks, payloadChecks, readRecordOf}
 use borrow.Author.Needs.{needs}
 use Rattle.packed.proofs.read_record.Statement.{statement}
 use Rattle.packed.proofs.read_record.Tie as tie
@@ -18,7 +18,7 @@ enum-known-number : tie.Need-enum-known-number
 enum-known-number c = search needs
 
 returns : tie.Need-returns
-unfolding readOf
+unfolding readRecordOf
 returns c =
     let bytes = now (c .before .before .before .before .before .args .bytes) in
     sym (append-refused (headerChecks bytes) (payloadChecks bytes) tt (value (headerOf bytes)) (sym (c .before .before .before .check-header .ensures) ∙ ap says (c .before .number .given .1)))
@@ -36,7 +36,7 @@ enum-known-number-2 : tie.Need-enum-known-number-2
 enum-known-number-2 c = search needs
 
 returns-2 : tie.Need-returns-2
-unfolding readOf
+unfolding readRecordOf
 returns-2 c =
     let bytes = now (c .before .before .before .before .before .before .before .before .before .args .bytes) in
     sym
@@ -47,7 +47,7 @@ enum-told-2 : tie.Need-enum-told-2
 enum-told-2 c = search needs
 
 returns-3 : tie.Need-returns-3
-unfolding readOf
+unfolding readRecordOf
 returns-3 c =
     let bytes = now (c .before .before .before .before .before .before .before .before .args .bytes) in
     ap value (c .before .before .before .header-of .ensures)

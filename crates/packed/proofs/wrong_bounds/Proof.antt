@@ -2,9 +2,6 @@
 use borrow.Author.Needs.{needs}
 use Rattle.packed.proofs.wrong_bounds.Statement.{statement}
 use Rattle.packed.proofs.wrong_bounds.Tie as tie
-use Rattle.packed.proofs.wrong_bounds.Reads as reads
-use Rattle.packed.proofs.wrong_bounds.Lts as lts
-use Rattle.packed.proofs.bad_bounds.Reads as bad-bounds-reads
 
 enum-told : tie.Need-enum-told
 enum-told c = search needs

@@ -5,13 +5,13 @@ use native.Mathlib.Omega.{arith}
 use borrow.Author.Needs.{needs}
 use borrow.Author.Tests.{lt-ltb, le-ltb, le-leb, lt-leb, ltb-false}
 use lib.Ieee.{ofBits}
-use Rattle.polar.specs.Angle.{angleOf, radians, twicePi, pi}
+use Rattle.polar.specs.Angle.{dequantizeAngleOf, radians, twicePi, pi}
 use Rattle.float.proofs.Levels.{levels-most, levels-shifted, levels-inFloat}
 use Rattle.polar.proofs.dequantize_angle.Statement.{statement}
 use Rattle.polar.proofs.dequantize_angle.Tie as tie
 
 returns : tie.Need-returns
-unfolding angleOf
+unfolding dequantizeAngleOf
 returns c = ⊎-elim (λ w. simp (lt-ltb _ _ (w .taken))) (λ w. simp (le-ltb _ _ (w .0 .left), w .1 .taken)) (c .if1 .came)
 
 -- past the check of the bits
@@ -22,7 +22,7 @@ shl-levels : tie.Need-shl-levels
 shl-levels c = omega (arith, narrow c)
 
 returns-2 : tie.Need-returns-2
-unfolding angleOf
+unfolding dequantizeAngleOf
 returns-2 c =
     simp (
       le-ltb _ _ (c .before .before .if1 .left),
@@ -41,7 +41,7 @@ int-to-float-count c =
     rw (levels-shifted bits most) (levels-inFloat _ (levels-most bits most))
 
 returns-3 : tie.Need-returns-3
-unfolding angleOf radians twicePi pi ofBits
+unfolding dequantizeAngleOf radians twicePi pi ofBits
 returns-3 c =
     let bits = c .before .before .before .before .before .args .bits in
     let shifted = levels-shifted bits (narrow (c .before .before .before)) in

@@ -5,7 +5,7 @@ use mathlib.Core.List.{_++_}
 use native.Mathlib.Omega.{arith}
 use lib.ListN.{length, take, length-set}
 use Rattle.rounding.specs.Butterfly.{from}
-use Rattle.polar.specs.Polar.{at, along, across, laid, decodedPairs}
+use Rattle.polar.specs.Polar.{valueAt, along, across, laid, decodedPairs}
 use Rattle.polar.proofs.Entries.{product-at}
 use Rattle.polar.proofs.Loops.{laid-start, laid-more, laid-end}
 use Rattle.polar.proofs.fill_pairs.Statement.{statement}
@@ -73,8 +73,8 @@ loop-again c =
     let indices = start .args .indices .now in
     let radii = start .args .radii .now in
     let placed = c .before .before .before .direction-at .ensures .0 in
-    let cosine = c .before .before .value-at .ensures ∙ ap (at directions) placed in
-    let sine = c .before .value-at2 .ensures ∙ ap (λ (n : ℕ). at directions (n + 1)) placed in (
+    let cosine = c .before .before .value-at .ensures ∙ ap (valueAt directions) placed in
+    let sine = c .before .value-at2 .ensures ∙ ap (λ (n : ℕ). valueAt directions (n + 1)) placed in (
       omega arith,
       simp length-set (here .inv .1),
       laid-more (along directions indices radii) (across directions indices radii) (length radii) (here .i) (here .out) _ _ (omega arith) (omega arith)

@@ -2,7 +2,7 @@
 use borrow.Author.Needs.{needs}
 use lib.ListN.{length}
 use Rattle.error.proofs.Answers.{both-refused, both-value}
-use Rattle.polar.specs.Polar.{pairsOf}
+use Rattle.polar.specs.Polar.{polarPairsOf}
 use Rattle.polar.proofs.Answers.{pairs-refused, pairs-value}
 use Rattle.polar.proofs.polar_pairs.Statement.{statement}
 use Rattle.polar.proofs.polar_pairs.Tie as tie
@@ -13,7 +13,7 @@ mul-needed c = search needs
 returns : tie.Need-returns
 returns c =
     let a = c .before .before .before .before .before .args in
-    both-refused (pairsOf (a .directions .now) (a .indices .now) (a .radii .now) (length (a .out .now))) (a .out .now)
+    both-refused (polarPairsOf (a .directions .now) (a .indices .now) (a .radii .now) (length (a .out .now))) (a .out .now)
     (pairs-refused (a .directions .now) (a .indices .now) (a .radii .now) (length (a .out .now)) (c .if1 .taken))
 
 fill-pairs-requires : tie.Need-fill-pairs-requires
@@ -25,7 +25,7 @@ same-length c = search needs
 returns-2 : tie.Need-returns-2
 returns-2 c =
     let a = c .before .before .before .before .before .before .before .before .before .args in
-    both-value (pairsOf (a .directions .now) (a .indices .now) (a .radii .now) (length (a .out .now))) (a .out .now) (c .before .before .fill-pairs .last .1 .1 .1 .0)
+    both-value (polarPairsOf (a .directions .now) (a .indices .now) (a .radii .now) (length (a .out .now))) (a .out .now) (c .before .before .fill-pairs .last .1 .1 .1 .0)
     (pairs-value (a .directions .now) (a .indices .now) (a .radii .now) (length (a .out .now)) (c .before .before .before .before .if1 .left))
     (c .before .before .fill-pairs .ensures)
 

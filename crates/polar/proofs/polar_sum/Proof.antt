@@ -7,20 +7,20 @@ use lib.ListN.{length}
 use lib.Ieee.{ofBits}
 use Rattle.rounding.specs.Butterfly.{from}
 use Rattle.rounding.specs.Sums.{running}
-use Rattle.polar.specs.Polar.{term, polarSum}
+use Rattle.polar.specs.Polar.{term, polarSumOf}
 use Rattle.polar.proofs.Loops.{running-start, running-more, running-end}
 use Rattle.polar.proofs.polar_sum.Statement.{statement}
 use Rattle.polar.proofs.polar_sum.Tie as tie
 
 abbrev Inv-loop : tie.InvT-loop
 Inv-loop rotated directions indices radii sum₀ i₀ sum i =
-    (i ≤ length radii) × (polarSum rotated directions indices radii ≡ running sum (map (λ j. term rotated directions indices radii j) (from i (length radii - i))))
+    (i ≤ length radii) × (polarSumOf rotated directions indices radii ≡ running sum (map (λ j. term rotated directions indices radii j) (from i (length radii - i))))
 
 abbrev μ-loop : tie.MeasureT-loop
 μ-loop rotated directions indices radii sum₀ i₀ sum i = length radii - i
 
 loop-holds : tie.Need-loop-holds Inv-loop μ-loop
-unfolding polarSum ofBits
+unfolding polarSumOf ofBits
 loop-holds c = (omega arith, running-start _ _)
 
 pair-term-requires : tie.Need-pair-term-requires Inv-loop μ-loop

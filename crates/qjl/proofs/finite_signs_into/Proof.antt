@@ -1,7 +1,7 @@
 -- `qjl::finite_signs_into` meets its contract: where no value offends, the signs are those of `signs_into`. Assumes nothing.
 use borrow.Author.Needs.{needs}
 use Rattle.error.proofs.Places.{each-passes}
-use Rattle.setup.specs.Checks.{notFinite}
+use Rattle.setup.specs.Checks.{badValue}
 use Rattle.qjl.proofs.FiniteSigns.{signs-left, signs-made}
 use Rattle.qjl.proofs.finite_signs_into.Statement.{statement}
 use Rattle.qjl.proofs.finite_signs_into.Tie as tie
@@ -19,7 +19,7 @@ same-length : tie.Need-same-length
 same-length c = search needs
 
 returns-2 : tie.Need-returns-2
-returns-2 c = signs-made _ _ _ (each-passes notFinite _ (c .before .before .before .before .first-non-finite .ensures) (c .before .before .before .if1 .left)) (c .before .signs-into .ensures)
+returns-2 c = signs-made _ _ _ (each-passes badValue _ (c .before .before .before .before .first-non-finite .ensures) (c .before .before .before .if1 .left)) (c .before .signs-into .ensures)
 
 pub finite-signs-into-spec : {M : Type 1} → statement M
 finite-signs-into-spec =

@@ -7,13 +7,13 @@ use lib.IntN.{pos}
 use lib.ListN.{length, drop}
 use Rattle.error.specs.Answer.{place}
 use Rattle.error.proofs.Places.{place-start, place-skip, place-here, place-end}
-use Rattle.bitpack.specs.Signs.{notSign}
+use Rattle.bitpack.specs.Signs.{badSketchSign}
 use Rattle.qjl.proofs.Signs.{signed-at}
 use Rattle.qjl.proofs.first_no_sign.Statement.{statement}
 use Rattle.qjl.proofs.first_no_sign.Tie as tie
 
 abbrev Inv-loop : tie.InvT-loop
-Inv-loop signs i₀ i = (i ≤ length signs) × (place notSign signs ≡ i + place notSign (drop i signs))
+Inv-loop signs i₀ i = (i ≤ length signs) × (place badSketchSign signs ≡ i + place badSketchSign (drop i signs))
 
 abbrev μ-loop : tie.MeasureT-loop
 μ-loop signs i₀ i = length signs - i
@@ -28,7 +28,7 @@ no-sign-requires : tie.Need-no-sign-requires Inv-loop μ-loop
 no-sign-requires c κs = tt
 
 returns : tie.Need-returns Inv-loop μ-loop
-returns c = sym (place-here _ _ _ (pos 0) (c .before .before .before .loop-test .taken) (sym (c .before .no-sign .ensures ∙ ap notSign (signed-at (now (c .before .before .before .before .before .args .signs)) (c .before .before .before .before .loop .i) (c .before .before .no-sign-arg .given))) ∙ c .if1 .taken) (c .before .before .before .before .loop .inv .1))
+returns c = sym (place-here _ _ _ (pos 0) (c .before .before .before .loop-test .taken) (sym (c .before .no-sign .ensures ∙ ap badSketchSign (signed-at (now (c .before .before .before .before .before .args .signs)) (c .before .before .before .before .loop .i) (c .before .before .no-sign-arg .given))) ∙ c .if1 .taken) (c .before .before .before .before .loop .inv .1))
 
 add-i : tie.Need-add-i Inv-loop μ-loop
 add-i c = omega arith
@@ -37,7 +37,7 @@ loop-less : tie.Need-loop-less Inv-loop μ-loop
 loop-less c = omega arith
 
 loop-again : tie.Need-loop-again Inv-loop μ-loop
-loop-again c = (omega arith, place-skip _ _ _ (pos 0) (c .before .before .before .loop-test .taken) (sym (c .before .no-sign .ensures ∙ ap notSign (signed-at (now (c .before .before .before .before .before .args .signs)) (c .before .before .before .before .loop .i) (c .before .before .no-sign-arg .given))) ∙ c .if1 .left) (c .before .before .before .before .loop .inv .1))
+loop-again c = (omega arith, place-skip _ _ _ (pos 0) (c .before .before .before .loop-test .taken) (sym (c .before .no-sign .ensures ∙ ap badSketchSign (signed-at (now (c .before .before .before .before .before .args .signs)) (c .before .before .before .before .loop .i) (c .before .before .no-sign-arg .given))) ∙ c .if1 .left) (c .before .before .before .before .loop .inv .1))
 
 returns-2 : tie.Need-returns-2 Inv-loop μ-loop
 returns-2 c = sym (place-end _ _ _ (c .loop-test .left) (c .before .loop .inv .1))

@@ -9,20 +9,20 @@ use lib.IntN.{ℤ}
 use lib.ListN.{length, getD, drop}
 use lib.Ieee.{Float, nan, binary32, add, mul, ofInt, ofBits}
 use Rattle.rounding.specs.Sums.{running, products}
-use Rattle.qjl.specs.Score.{signSum}
+use Rattle.qjl.specs.Score.{signSumOf}
 use Rattle.qjl.proofs.Signs.{signed-at}
 use Rattle.qjl.proofs.SignSums.{sign-more, sign-end, value-end}
 use Rattle.qjl.proofs.sign_sum.Statement.{statement}
 use Rattle.qjl.proofs.sign_sum.Tie as tie
 
 abbrev Inv-loop : tie.InvT-loop
-Inv-loop signs projected sum₀ i₀ sum i = (i ≤ length signs) × (signSum signs projected ≡ running sum (products (drop i (map (ofInt binary32) signs)) (drop i projected)))
+Inv-loop signs projected sum₀ i₀ sum i = (i ≤ length signs) × (signSumOf signs projected ≡ running sum (products (drop i (map (ofInt binary32) signs)) (drop i projected)))
 
 abbrev μ-loop : tie.MeasureT-loop
 μ-loop signs projected sum₀ i₀ sum i = length signs - i
 
 loop-holds : tie.Need-loop-holds Inv-loop μ-loop
-unfolding signSum ofBits
+unfolding signSumOf ofBits
 loop-holds c = (omega arith, refl)
 
 shared-slice-copy-out-times : tie.Need-shared-slice-copy-out-times Inv-loop μ-loop

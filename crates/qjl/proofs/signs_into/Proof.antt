@@ -10,13 +10,13 @@ use lib.Ieee.{nan}
 use mir.Syntax.{w8}
 use mir.Val.{ofZ, toZ}
 use Rattle.rotation.proofs.InPlace.{Made, made-start, made-more, made-all}
-use Rattle.qjl.specs.Sketch.{signOf}
+use Rattle.qjl.specs.Sketch.{signOfSum}
 use Rattle.qjl.proofs.Signs.{sign-back, getD-signs}
 use Rattle.qjl.proofs.signs_into.Statement.{statement}
 use Rattle.qjl.proofs.signs_into.Tie as tie
 
 abbrev Inv-loop : tie.InvT-loop
-Inv-loop values out₀ i₀ out i = (i ≤ length out₀) × Made (pos 0) (λ j. signOf (getD values j nan)) i out₀ out
+Inv-loop values out₀ i₀ out i = (i ≤ length out₀) × Made (pos 0) (λ j. signOfSum (getD values j nan)) i out₀ out
 
 abbrev μ-loop : tie.MeasureT-loop
 μ-loop values out₀ i₀ out i = length out₀ - i
@@ -55,7 +55,7 @@ returns : tie.Need-returns Inv-loop μ-loop
 returns c =
     let values = c .before .before .before .args .values .now in
     let long = c .before .before .before .pre in
-    made-all (pos 0) _ _ _ _ (map signOf values) (simp length-map (sym long)) (λ j l. getD-signs values j (omega (arith, long))) (omega (arith, c .before .loop .inv .1 .long, c .loop-test .left)) (c .before .loop .inv .1)
+    made-all (pos 0) _ _ _ _ (map signOfSum values) (simp length-map (sym long)) (λ j l. getD-signs values j (omega (arith, long))) (omega (arith, c .before .loop .inv .1 .long, c .loop-test .left)) (c .before .loop .inv .1)
 
 pub signs-into-spec : {M : Type 1} → statement M
 signs-into-spec =

@@ -6,7 +6,7 @@ use native.Mathlib.Omega.{arith}
 use borrow.Author.Needs.{needs}
 use borrow.Rule.Slice.PartMut.{postOf}
 use lib.ListN.{length}
-use Rattle.qjl.specs.Sketch.{signOf}
+use Rattle.qjl.specs.Sketch.{signOfSum}
 use Rattle.qjl.proofs.Parts.{part-long, part-projected, part-enough}
 use Rattle.qjl.proofs.sketch_rows.Statement.{statement}
 use Rattle.qjl.proofs.sketch_rows.Tie as tie
@@ -54,7 +54,7 @@ returns c =
     let m = length (s .args .out .now) in
     let xs = f .before .before .zeros .result in
     c .before .signs-into .ensures
-    ∙ ap (map signOf) (part-projected (s .args .dim) m (s .args .matrix .now) (s .args .vector .now) xs (omega (arith, s .pre .1, f .before .before .zeros .ok)) (f .fill .last .1 .1 .1 .0) (postOf 0 (m - 0) xs) (f .fill .kept .1 .1 .1 .0) (f .fill .ensures))
+    ∙ ap (map signOfSum) (part-projected (s .args .dim) m (s .args .matrix .now) (s .args .vector .now) xs (omega (arith, s .pre .1, f .before .before .zeros .ok)) (f .fill .last .1 .1 .1 .0) (postOf 0 (m - 0) xs) (f .fill .kept .1 .1 .1 .0) (f .fill .ensures))
 
 pub sketch-rows-spec : {M : Type 1} → statement M
 sketch-rows-spec =

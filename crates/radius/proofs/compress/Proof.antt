@@ -6,7 +6,7 @@ use denote.Ref.{now}
 use Rattle.error.proofs.Answers.{after-refused, after-value}
 use Rattle.error.specs.Answer.{value}
 use Rattle.radius.specs.Linear.{linearBytes}
-use Rattle.radius.specs.Codec.{rangeFor, bytesFor, compressedRange, compressedBytes}
+use Rattle.radius.specs.Codec.{rangeFor, payloadFor, compressRangeOf, compressBytesOf}
 use Rattle.radius.proofs.Refusals.{compress-radius, compress-log, compress-room, compress-value}
 use Rattle.radius.specs.declared.Range.{Range}
 use Rattle.radius.specs.declared.RadiusCodecProfileV1.the-variants.{F32, BlockLinearU16, BlockLogU8}
@@ -18,13 +18,13 @@ first-bad-requires : tie.Need-first-bad-requires
 first-bad-requires c κs = search needs
 
 returns : tie.Need-returns
-unfolding compressedRange compressedBytes
+unfolding compressRangeOf compressBytesOf
 returns c =
     let a = c .before .before .before .before .args in
     let radii = now (a .radii) in
     let room = length (now (a .out)) in (
       sym (compress-radius radii room (rangeFor (a .profile) radii) (c .before .first-bad .result) (c .before .first-bad .ensures) (a .profile) (c .if1 .taken)),
-      sym (after-refused _ _ (compress-radius radii room (bytesFor (a .profile) radii) (c .before .first-bad .result) (c .before .first-bad .ensures) (a .profile) (c .if1 .taken))),
+      sym (after-refused _ _ (compress-radius radii room (payloadFor (a .profile) radii) (c .before .first-bad .result) (c .before .first-bad .ensures) (a .profile) (c .if1 .taken))),
     )
 
 enum-told : tie.Need-enum-told
@@ -34,14 +34,14 @@ mul-need : tie.Need-mul-need
 mul-need c = search needs
 
 returns-2 : tie.Need-returns-2
-unfolding compressedRange compressedBytes
+unfolding compressRangeOf compressBytesOf
 returns-2 c =
     let a = c .before .before .before .before .before .before .before .args in
     let radii = now (a .radii) in
     let room = length (now (a .out)) in
     rw (c .before .enum-told .given .1) (
       sym (compress-room radii room (rangeFor F32 radii) (c .before .before .before .before .first-bad .result) (c .before .before .before .before .first-bad .ensures) F32 refl (c .before .before .before .if1 .left) (c .if2 .taken)),
-      sym (after-refused _ _ (compress-room radii room (bytesFor F32 radii) (c .before .before .before .before .first-bad .result) (c .before .before .before .before .first-bad .ensures) F32 refl (c .before .before .before .if1 .left) (c .if2 .taken))),
+      sym (after-refused _ _ (compress-room radii room (payloadFor F32 radii) (c .before .before .before .before .first-bad .result) (c .before .before .before .before .first-bad .ensures) F32 refl (c .before .before .before .if1 .left) (c .if2 .taken))),
     )
 
 write-floats-requires : tie.Need-write-floats-requires
@@ -54,14 +54,14 @@ mul-need-2 : tie.Need-mul-need-2
 mul-need-2 c = search needs
 
 returns-3 : tie.Need-returns-3
-unfolding compressedRange compressedBytes
+unfolding compressRangeOf compressBytesOf
 returns-3 c =
     let a = c .before .before .before .before .before .before .before .args in
     let radii = now (a .radii) in
     let room = length (now (a .out)) in
     rw (c .before .enum-told2 .given .1) (
       sym (compress-room radii room (rangeFor BlockLinearU16 radii) (c .before .before .before .before .first-bad .result) (c .before .before .before .before .first-bad .ensures) BlockLinearU16 refl (c .before .before .before .if1 .left) (c .if3 .taken)),
-      sym (after-refused _ _ (compress-room radii room (bytesFor BlockLinearU16 radii) (c .before .before .before .before .first-bad .result) (c .before .before .before .before .first-bad .ensures) BlockLinearU16 refl (c .before .before .before .if1 .left) (c .if3 .taken))),
+      sym (after-refused _ _ (compress-room radii room (payloadFor BlockLinearU16 radii) (c .before .before .before .before .first-bad .result) (c .before .before .before .before .first-bad .ensures) BlockLinearU16 refl (c .before .before .before .if1 .left) (c .if3 .taken))),
     )
 
 min-max-requires : tie.Need-min-max-requires
@@ -77,21 +77,21 @@ same-length : tie.Need-same-length
 same-length c = search needs
 
 returns-4 : tie.Need-returns-4
-unfolding compressedRange compressedBytes
+unfolding compressRangeOf compressBytesOf
 returns-4 c =
     let a = c .before .before .before .before .before .before .before .before .before .before .before .args in
     let radii = now (a .radii) in
     let room = length (now (a .out)) in
     rw (c .before .before .before .before .before .enum-told .given .1) (
       sym (compress-value radii room (rangeFor F32 radii) (c .before .before .before .before .before .before .before .before .first-bad .result) (c .before .before .before .before .before .before .before .before .first-bad .ensures) F32 refl (c .before .before .before .before .before .before .before .if1 .left) (c .before .before .before .before .if2 .left)),
-      c .before .before .write-floats .ensures ∙ sym (after-value _ _ (compress-value radii room (bytesFor F32 radii) (c .before .before .before .before .before .before .before .before .first-bad .result) (c .before .before .before .before .before .before .before .before .first-bad .ensures) F32 refl (c .before .before .before .before .before .before .before .if1 .left) (c .before .before .before .before .if2 .left))),
+      c .before .before .write-floats .ensures ∙ sym (after-value _ _ (compress-value radii room (payloadFor F32 radii) (c .before .before .before .before .before .before .before .before .first-bad .result) (c .before .before .before .before .before .before .before .before .first-bad .ensures) F32 refl (c .before .before .before .before .before .before .before .if1 .left) (c .before .before .before .before .if2 .left))),
     )
 
 same-length-2 : tie.Need-same-length-2
 same-length-2 c = search needs
 
 returns-5 : tie.Need-returns-5
-unfolding compressedRange compressedBytes
+unfolding compressRangeOf compressBytesOf
 returns-5 c =
     let a = c .before .before .before .before .before .before .before .before .before .before .before .before .args in
     let radii = now (a .radii) in
@@ -100,18 +100,18 @@ returns-5 c =
       ap value (c .before .before .before .before .min-max .ensures) ∙ sym (compress-value radii room (rangeFor BlockLinearU16 radii) (c .before .before .before .before .before .before .before .before .before .first-bad .result) (c .before .before .before .before .before .before .before .before .before .first-bad .ensures) BlockLinearU16 refl (c .before .before .before .before .before .before .before .before .if1 .left) (c .before .before .before .before .before .if3 .left)),
       c .before .before .write-linear .ensures
           ∙ ap (λ (range : Range). flatMap (linearBytes range) radii) (c .before .before .before .before .min-max .ensures)
-          ∙ sym (after-value _ _ (compress-value radii room (bytesFor BlockLinearU16 radii) (c .before .before .before .before .before .before .before .before .before .first-bad .result) (c .before .before .before .before .before .before .before .before .before .first-bad .ensures) BlockLinearU16 refl (c .before .before .before .before .before .before .before .before .if1 .left) (c .before .before .before .before .before .if3 .left))),
+          ∙ sym (after-value _ _ (compress-value radii room (payloadFor BlockLinearU16 radii) (c .before .before .before .before .before .before .before .before .before .first-bad .result) (c .before .before .before .before .before .before .before .before .before .first-bad .ensures) BlockLinearU16 refl (c .before .before .before .before .before .before .before .before .if1 .left) (c .before .before .before .before .before .if3 .left))),
     )
 
 returns-6 : tie.Need-returns-6
-unfolding compressedRange compressedBytes
+unfolding compressRangeOf compressBytesOf
 returns-6 c =
     let a = c .before .before .before .before .before .before .args in
     let radii = now (a .radii) in
     let room = length (now (a .out)) in
     rw (c .enum-told3 .given .1) (
       sym (compress-log radii room (rangeFor BlockLogU8 radii) (c .before .before .before .first-bad .result) (c .before .before .before .first-bad .ensures) (c .before .before .if1 .left)),
-      sym (after-refused _ _ (compress-log radii room (bytesFor BlockLogU8 radii) (c .before .before .before .first-bad .result) (c .before .before .before .first-bad .ensures) (c .before .before .if1 .left))),
+      sym (after-refused _ _ (compress-log radii room (payloadFor BlockLogU8 radii) (c .before .before .before .first-bad .result) (c .before .before .before .first-bad .ensures) (c .before .before .if1 .left))),
     )
 
 pub compress-spec : {M : Type 1} → statement M

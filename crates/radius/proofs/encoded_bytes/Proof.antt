@@ -1,7 +1,7 @@
 -- `radius::encoded_bytes` meets its contract, profile by profile. Assumes nothing.
 use native.Mathlib.Nat.{add-zero}
 use borrow.Author.Needs.{needs}
-use Rattle.radius.specs.Codec.{encodedBytes}
+use Rattle.radius.specs.Codec.{encodedBytesOf}
 use Rattle.radius.proofs.encoded_bytes.Statement.{statement}
 use Rattle.radius.proofs.encoded_bytes.Tie as tie
 
@@ -18,15 +18,15 @@ enum-told-3 : tie.Need-enum-told-3
 enum-told-3 c = search needs
 
 returns : tie.Need-returns
-unfolding encodedBytes
+unfolding encodedBytesOf
 returns c = rw (c .enum-told .given .1, add-zero)
 
 returns-2 : tie.Need-returns-2
-unfolding encodedBytes
+unfolding encodedBytesOf
 returns-2 c = rw (c .enum-told2 .given .1)
 
 returns-3 : tie.Need-returns-3
-unfolding encodedBytes
+unfolding encodedBytesOf
 returns-3 c = rw (c .enum-told3 .given .1)
 
 pub encoded-bytes-spec : {M : Type 1} → statement M

@@ -10,17 +10,10 @@ use Rattle.rotation.proofs.Accepted.{Rotatable, rotatable}
 use Rattle.rotation.proofs.Applied.{applied-refused, applied-value}
 use Rattle.rotation.proofs.apply.Statement.{statement}
 use Rattle.rotation.proofs.apply.Tie as tie
-use Rattle.rotation.proofs.apply.Reads as reads
-use Rattle.rotation.proofs.apply.Lts as lts
-use Rattle.rotation.proofs.check.Reads as check-reads
-use Rattle.rotation.proofs.flip_into.Reads as flip-into-reads
-use Rattle.rotation.proofs.hadamard.Reads as hadamard-reads
 
--- src/lib.rt:61:9
 check-requires : tie.Need-check-requires
 check-requires c κs = search needs
 
--- src/lib.rt:62:31
 enum-known-checked : tie.Need-enum-known-checked
 enum-known-checked c = search needs
 
@@ -31,30 +24,25 @@ passed c = sym (c .before .before .check .ensures) ∙ ap says (c .enum-told .gi
 fit : (c : tie.After-enum-told) → Rotatable (c .before .before .before .before .before .before .args .dim) (c .before .before .before .before .before .before .args .signs .now) (length (c .before .before .before .before .before .before .args .input .now)) (length (c .before .before .before .before .before .before .args .output .now))
 fit c = rotatable _ _ _ _ (passed c)
 
--- src/lib.rt:63:9
 returns : tie.Need-returns
 returns c = both-refused _ _ (applied-refused _ _ _ _ (sym (c .before .before .before .check .ensures) ∙ ap says (c .before .checked .given .1)))
 
 enum-told : tie.Need-enum-told
 enum-told c = search needs
 
--- src/lib.rt:65:5
 flip-into-requires : tie.Need-flip-into-requires
 flip-into-requires c κs =
     let f = fit (c .before) in
     (f .signs-long ∙ sym (f .input-long), f .output-long ∙ sym (f .input-long))
 
--- src/lib.rt:66:5
 hadamard-requires : tie.Need-hadamard-requires
 hadamard-requires c κs =
     let f = fit (c .before .before .before .before .before) in
     record { bit = f .power .bit; small = f .power .small; whole = c .before .before .before .flip-into .kept .1 .1 .0 ∙ f .output-long }
 
--- src/lib.rt:57:1
 same-length : tie.Need-same-length
 same-length c = search needs
 
--- src/lib.rt:57:1
 returns-2 : tie.Need-returns-2
 unfolding rotated
 returns-2 c = both-value _ _ _ (applied-value _ _ _ _ (passed (c .before .before .before .before .before .before .before .before))) (c .before .before .hadamard .ensures ∙ ap (hadamardOf (c .before .before .before .before .before .before .before .before .before .before .before .before .before .before .args .dim)) (c .before .before .before .before .before .before .flip-into .ensures))

@@ -11,18 +11,10 @@ use Rattle.rotation.proofs.Accepted.{Rotatable, rotatable}
 use Rattle.rotation.proofs.Applied.{inverse-refused, inverse-value}
 use Rattle.rotation.proofs.apply_inverse.Statement.{statement}
 use Rattle.rotation.proofs.apply_inverse.Tie as tie
-use Rattle.rotation.proofs.apply_inverse.Reads as reads
-use Rattle.rotation.proofs.apply_inverse.Lts as lts
-use Rattle.rotation.proofs.check.Reads as check-reads
-use Rattle.rotation.proofs.copy_into.Reads as copy-into-reads
-use Rattle.rotation.proofs.flip.Reads as flip-reads
-use Rattle.rotation.proofs.hadamard.Reads as hadamard-reads
 
--- src/lib.rt:75:9
 check-requires : tie.Need-check-requires
 check-requires c κs = search needs
 
--- src/lib.rt:76:31
 enum-known-checked : tie.Need-enum-known-checked
 enum-known-checked c = search needs
 
@@ -33,36 +25,30 @@ passed c = sym (c .before .before .check .ensures) ∙ ap says (c .enum-told .gi
 fit : (c : tie.After-enum-told) → Rotatable (c .before .before .before .before .before .before .args .dim) (c .before .before .before .before .before .before .args .signs .now) (length (c .before .before .before .before .before .before .args .input .now)) (length (c .before .before .before .before .before .before .args .output .now))
 fit c = rotatable _ _ _ _ (passed c)
 
--- src/lib.rt:77:9
 returns : tie.Need-returns
 returns c = both-refused _ _ (inverse-refused _ _ _ _ (sym (c .before .before .before .check .ensures) ∙ ap says (c .before .checked .given .1)))
 
 enum-told : tie.Need-enum-told
 enum-told c = search needs
 
--- src/lib.rt:79:5
 copy-into-requires : tie.Need-copy-into-requires
 copy-into-requires c κs =
     let f = fit (c .before) in
     f .output-long ∙ sym (f .input-long)
 
--- src/lib.rt:80:5
 hadamard-requires : tie.Need-hadamard-requires
 hadamard-requires c κs =
     let f = fit (c .before .before .before .before .before) in
     record { bit = f .power .bit; small = f .power .small; whole = c .before .before .before .copy-into .kept .1 .0 ∙ f .output-long }
 
--- src/lib.rt:81:5
 flip-requires : tie.Need-flip-requires
 flip-requires c κs =
     let f = fit (c .before .before .before .before .before .before .before .before .before) in
     f .signs-long ∙ sym (c .before .before .before .hadamard .kept .0 ∙ c .before .before .before .before .before .before .before .copy-into .kept .1 .0 ∙ f .output-long)
 
--- src/lib.rt:71:1
 same-length : tie.Need-same-length
 same-length c = search needs
 
--- src/lib.rt:71:1
 returns-2 : tie.Need-returns-2
 unfolding unrotated
 returns-2 c =

@@ -7,8 +7,6 @@ use Rattle.rotation.specs.Block.{Partly}
 use Rattle.rotation.proofs.Blocks.{partly-start, partly-more}
 use Rattle.rotation.proofs.block.Statement.{statement}
 use Rattle.rotation.proofs.block.Tie as tie
-use Rattle.rotation.proofs.block.Reads as reads
-use Rattle.rotation.proofs.block.Lts as lts
 
 abbrev Inv-loop : tie.InvT-loop
 Inv-loop values₀ start h offset₀ values offset = (offset ≤ h) × Partly h start offset values₀ values
@@ -16,67 +14,51 @@ Inv-loop values₀ start h offset₀ values offset = (offset ≤ h) × Partly h 
 abbrev μ-loop : tie.MeasureT-loop
 μ-loop values₀ start h offset₀ values offset = h - offset
 
--- src/lib.rt:16:5
 loop-holds : tie.Need-loop-holds Inv-loop μ-loop
 loop-holds c = (omega arith, partly-start _ _ _)
 
--- src/lib.rt:17:19
 add-low : tie.Need-add-low Inv-loop μ-loop
 add-low c = omega (arith, c .before .before .good .0 .0)
 
--- src/lib.rt:18:20
 add-high : tie.Need-add-high Inv-loop μ-loop
 add-high c = omega (arith, c .before .before .good .0 .0)
 
--- src/lib.rt:19:17
 mul-a : tie.Need-mul-a Inv-loop μ-loop
 mul-a c = scaled-fits _ (length (c .before .before .args .values .now)) 4 (omega arith) (c .before .before .good .0 .1)
 
--- src/lib.rt:19:17
 slice-read-a : tie.Need-slice-read-a Inv-loop μ-loop
 slice-read-a c = omega (arith, c .before .before .loop .inv .1 .long)
 
--- src/lib.rt:20:17
 mul-b : tie.Need-mul-b Inv-loop μ-loop
 mul-b c = scaled-fits _ (length (c .before .before .before .args .values .now)) 4 (omega arith) (c .before .before .before .good .0 .1)
 
--- src/lib.rt:20:17
 slice-read-b : tie.Need-slice-read-b Inv-loop μ-loop
 slice-read-b c = omega (arith, c .before .before .before .loop .inv .1 .long)
 
--- src/lib.rt:21:9
 mul-values : tie.Need-mul-values Inv-loop μ-loop
 mul-values c = scaled-fits _ (length (c .before .before .before .before .args .values .now)) 4 (omega arith) (c .before .before .before .before .good .0 .1)
 
--- src/lib.rt:21:9
 slice-write-values : tie.Need-slice-write-values Inv-loop μ-loop
 slice-write-values c = omega (arith, c .before .before .before .loop .inv .1 .long)
 
--- src/lib.rt:22:9
 mul-values-2 : tie.Need-mul-values-2 Inv-loop μ-loop
 mul-values-2 c = scaled-fits _ (length (c .before .before .before .before .args .values .now)) 4 (omega arith) (c .before .before .before .before .good .0 .1)
 
--- src/lib.rt:22:9
 slice-write-values-2 : tie.Need-slice-write-values-2 Inv-loop μ-loop
 slice-write-values-2 c = simp length-set (omega (arith, c .before .before .before .loop .inv .1 .long))
 
--- src/lib.rt:23:9
 add-offset : tie.Need-add-offset Inv-loop μ-loop
 add-offset c = omega arith
 
--- src/lib.rt:16:5
 loop-less : tie.Need-loop-less Inv-loop μ-loop
 loop-less c = omega arith
 
--- src/lib.rt:16:5
 loop-again : tie.Need-loop-again Inv-loop μ-loop
 loop-again c = (omega arith, partly-more _ _ _ _ _ (c .before .before .before .loop .inv .1) (omega arith) (omega arith))
 
--- src/lib.rt:11:1
 same-length : tie.Need-same-length Inv-loop μ-loop
 same-length c = c .before .loop .inv .1 .long
 
--- src/lib.rt:11:1
 returns : tie.Need-returns Inv-loop μ-loop
 returns c =
     let a = c .before .before .args in

@@ -4,9 +4,6 @@ use lib.ListN.{length}
 use Rattle.rotation.proofs.Stages.{Through, through-start, through-more, through-stage, block-fits}
 use Rattle.rotation.proofs.butterflies.Statement.{statement}
 use Rattle.rotation.proofs.butterflies.Tie as tie
-use Rattle.rotation.proofs.butterflies.Reads as reads
-use Rattle.rotation.proofs.butterflies.Lts as lts
-use Rattle.rotation.proofs.block.Reads as block-reads
 
 abbrev Inv-loop : tie.InvT-loop
 Inv-loop values₀ h start₀ values start = (start ≤ length values₀) × Through h start values₀ values
@@ -14,7 +11,6 @@ Inv-loop values₀ h start₀ values start = (start ≤ length values₀) × Thr
 abbrev μ-loop : tie.MeasureT-loop
 μ-loop values₀ h start₀ values start = length values₀ - start
 
--- src/lib.rt:31:5
 loop-holds : tie.Need-loop-holds Inv-loop μ-loop
 loop-holds c = (omega arith, through-start _ _)
 
@@ -25,31 +21,24 @@ room c =
     let fits = block-fits _ _ _ _ inv (c .before .before .before .before .before .before .before .pre) (omega arith) in
     omega (arith, fits, inv .long)
 
--- src/lib.rt:32:9
 block-requires : tie.Need-block-requires Inv-loop μ-loop
 block-requires c κs = block-fits _ _ _ _ (c .before .before .loop .inv .1) (c .before .before .before .before .pre) (omega (arith, c .before .before .loop .inv .1 .long))
 
--- src/lib.rt:33:25
 mul-start : tie.Need-mul-start Inv-loop μ-loop
 mul-start c = omega (arith, room c, c .before .before .before .before .before .before .before .good .0 .0)
 
--- src/lib.rt:33:17
 add-start : tie.Need-add-start Inv-loop μ-loop
 add-start c = omega (arith, room c, c .before .before .before .before .before .before .before .good .0 .0)
 
--- src/lib.rt:31:5
 loop-less : tie.Need-loop-less Inv-loop μ-loop
 loop-less c = omega (arith, room c, c .before .before .before .before .before .before .before .pre .above)
 
--- src/lib.rt:31:5
 loop-again : tie.Need-loop-again Inv-loop μ-loop
 loop-again c = (room c, through-more _ _ _ _ _ (c .before .before .before .before .before .loop .inv .1) (c .before .before .block .ensures) (room c))
 
--- src/lib.rt:26:1
 same-length : tie.Need-same-length Inv-loop μ-loop
 same-length c = c .before .loop .inv .1 .long
 
--- src/lib.rt:26:1
 returns : tie.Need-returns Inv-loop μ-loop
 returns c = through-stage _ _ _ _ (c .before .loop .inv .1) (omega (arith, c .before .loop .inv .1 .long))
 

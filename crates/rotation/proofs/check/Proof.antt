@@ -1,53 +1,38 @@
 use borrow.Author.Needs.{needs}
-use Prim.Native.Nat.{ℕ}
 use mathlib.Core.Path.{sym, _∙_}
 use borrow.Author.Tests.{eq-eqb, ne-eqb}
 use Rattle.error.proofs.Places.{each-offends, each-passes}
 use Rattle.rotation.specs.Checks.{badSign}
 use Rattle.rotation.proofs.check.Statement.{statement}
 use Rattle.rotation.proofs.check.Tie as tie
-use Rattle.rotation.proofs.check.Reads as reads
-use Rattle.rotation.proofs.check.Lts as lts
-use Rattle.rotation.proofs.first_bad_sign.Reads as first-bad-sign-reads
-use Rattle.rotation.proofs.outside_powers.Reads as outside-powers-reads
 
--- src/lib.rt:56:9
 returns : tie.Need-returns
 returns c = simp (eq-eqb _ _ (c .if1 .taken))
 
--- src/lib.rt:59:9
 returns-2 : tie.Need-returns-2
 returns-2 c = simp (ne-eqb _ _ (c .before .if1 .left), eq-eqb _ _ (c .if2 .taken))
 
--- src/lib.rt:61:8
 outside-powers-requires : tie.Need-outside-powers-requires
 outside-powers-requires c κs = search needs
 
--- src/lib.rt:62:9
 returns-3 : tie.Need-returns-3
 returns-3 c = simp (ne-eqb _ _ (c .before .before .before .if1 .left), ne-eqb _ _ (c .before .before .if2 .left), sym (c .before .outside-powers .ensures) ∙ c .if3 .taken)
 
--- src/lib.rt:65:9
 returns-4 : tie.Need-returns-4
 returns-4 c = simp (ne-eqb _ _ (c .before .before .before .before .if1 .left), ne-eqb _ _ (c .before .before .before .if2 .left), sym (c .before .before .outside-powers .ensures) ∙ c .before .if3 .left, ne-eqb _ _ (c .if4 .taken))
 
--- src/lib.rt:67:9
 first-bad-sign-requires : tie.Need-first-bad-sign-requires
 first-bad-sign-requires c κs = search needs
 
--- src/lib.rt:69:9
 returns-5 : tie.Need-returns-5
 returns-5 c = simp (ne-eqb _ _ (c .before .before .before .before .before .before .if1 .left), ne-eqb _ _ (c .before .before .before .before .before .if2 .left), sym (c .before .before .before .before .outside-powers .ensures) ∙ c .before .before .before .if3 .left, eq-eqb _ _ (c .before .before .if4 .left), each-offends badSign _ (c .before .first-bad-sign .ensures) (c .if5 .taken), c .before .first-bad-sign .ensures)
 
--- src/lib.rt:72:9
 returns-6 : tie.Need-returns-6
 returns-6 c = simp (ne-eqb _ _ (c .before .before .before .before .before .before .before .if1 .left), ne-eqb _ _ (c .before .before .before .before .before .before .if2 .left), sym (c .before .before .before .before .before .outside-powers .ensures) ∙ c .before .before .before .before .if3 .left, eq-eqb _ _ (c .before .before .before .if4 .left), each-passes badSign _ (c .before .before .first-bad-sign .ensures) (c .before .if5 .left), ne-eqb _ _ (c .if6 .taken))
 
--- src/lib.rt:75:9
 returns-7 : tie.Need-returns-7
 returns-7 c = simp (ne-eqb _ _ (c .before .before .before .before .before .before .before .before .if1 .left), ne-eqb _ _ (c .before .before .before .before .before .before .before .if2 .left), sym (c .before .before .before .before .before .before .outside-powers .ensures) ∙ c .before .before .before .before .before .if3 .left, eq-eqb _ _ (c .before .before .before .before .if4 .left), each-passes badSign _ (c .before .before .before .first-bad-sign .ensures) (c .before .before .if5 .left), eq-eqb _ _ (c .before .if6 .left), ne-eqb _ _ (c .if7 .taken))
 
--- src/lib.rt:52:1
 returns-8 : tie.Need-returns-8
 returns-8 c = simp (ne-eqb _ _ (c .before .before .before .before .before .before .before .before .if1 .left), ne-eqb _ _ (c .before .before .before .before .before .before .before .if2 .left), sym (c .before .before .before .before .before .before .outside-powers .ensures) ∙ c .before .before .before .before .before .if3 .left, eq-eqb _ _ (c .before .before .before .before .if4 .left), each-passes badSign _ (c .before .before .before .first-bad-sign .ensures) (c .before .before .if5 .left), eq-eqb _ _ (c .before .if6 .left), eq-eqb _ _ (c .if7 .left))
 

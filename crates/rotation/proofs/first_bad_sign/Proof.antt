@@ -9,9 +9,6 @@ use Rattle.error.proofs.Places.{place-start, place-skip, place-here, place-end}
 use Rattle.rotation.specs.Checks.{badSign}
 use Rattle.rotation.proofs.first_bad_sign.Statement.{statement}
 use Rattle.rotation.proofs.first_bad_sign.Tie as tie
-use Rattle.rotation.proofs.first_bad_sign.Reads as reads
-use Rattle.rotation.proofs.first_bad_sign.Lts as lts
-use Rattle.rotation.proofs.is_bad_sign.Reads as is-bad-sign-reads
 
 abbrev Inv-loop : tie.InvT-loop
 Inv-loop signs i₀ i = (i ≤ length signs) × (place badSign signs ≡ i + place badSign (drop i signs))
@@ -19,39 +16,30 @@ Inv-loop signs i₀ i = (i ≤ length signs) × (place badSign signs ≡ i + pla
 abbrev μ-loop : tie.MeasureT-loop
 μ-loop signs i₀ i = length signs - i
 
--- src/lib.rt:42:5
 loop-holds : tie.Need-loop-holds Inv-loop μ-loop
 loop-holds c = (omega arith, place-start badSign _)
 
--- src/lib.rt:43:24
 mul-is-bad-sign : tie.Need-mul-is-bad-sign Inv-loop μ-loop
 mul-is-bad-sign c = scaled-fits _ (length (c .before .before .before .args .signs .now)) 4 (omega arith) (c .before .before .before .good .0 .1)
 
--- src/lib.rt:43:24
 shared-slice-read-is-bad-sign : tie.Need-shared-slice-read-is-bad-sign Inv-loop μ-loop
 shared-slice-read-is-bad-sign c = omega arith
 
--- src/lib.rt:43:12
 is-bad-sign-requires : tie.Need-is-bad-sign-requires Inv-loop μ-loop
 is-bad-sign-requires c κs = tt
 
--- src/lib.rt:44:13
 returns : tie.Need-returns Inv-loop μ-loop
 returns c = sym (place-here badSign _ _ nan (omega arith) (sym (c .before .is-bad-sign .ensures) ∙ c .if1 .taken) (c .before .before .before .before .loop .inv .1))
 
--- src/lib.rt:46:9
 add-i : tie.Need-add-i Inv-loop μ-loop
 add-i c = omega arith
 
--- src/lib.rt:42:5
 loop-less : tie.Need-loop-less Inv-loop μ-loop
 loop-less c = omega arith
 
--- src/lib.rt:42:5
 loop-again : tie.Need-loop-again Inv-loop μ-loop
 loop-again c = (omega arith, place-skip badSign _ _ nan (omega arith) (sym (c .before .is-bad-sign .ensures) ∙ c .if1 .left) (c .before .before .before .before .loop .inv .1))
 
--- src/lib.rt:38:1
 returns-2 : tie.Need-returns-2 Inv-loop μ-loop
 returns-2 c = sym (place-end badSign _ _ (omega arith) (c .before .loop .inv .1))
 

@@ -9,20 +9,14 @@ use mathlib.Core.Bool.{false}
 use Rattle.rotation.specs.Rotation.{inverseRoot}
 use Rattle.rotation.proofs.inverse_root.Statement.{statement}
 use Rattle.rotation.proofs.inverse_root.Tie as tie
-use Rattle.rotation.proofs.inverse_root.Reads as reads
-use Rattle.rotation.proofs.inverse_root.Lts as lts
-use Rattle.float.proofs.sqrt.Reads as sqrt-reads
 
--- src/lib.rt:230:23
 int-to-float-sqrt : tie.Need-int-to-float-sqrt
 unfolding inFloat
 int-to-float-sqrt c = le→leb (c .before .args .dim) (2 ^ 24) (let small = c .before .pre in omega arith)
 
--- src/lib.rt:230:11
 sqrt-requires : tie.Need-sqrt-requires
 sqrt-requires c κs = search needs
 
--- src/lib.rt:226:1
 returns : tie.Need-returns
 unfolding inverseRoot ofBits
 returns c = ap (div binary32 (fin false 1 (pos 0))) (c .sqrt .ensures .0)

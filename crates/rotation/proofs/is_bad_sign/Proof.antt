@@ -4,10 +4,7 @@ use lib.IntN.{pos}
 use lib.Ieee.{fin, ne, neg, ofBits}
 use Rattle.rotation.proofs.is_bad_sign.Statement.{statement}
 use Rattle.rotation.proofs.is_bad_sign.Tie as tie
-use Rattle.rotation.proofs.is_bad_sign.Reads as reads
-use Rattle.rotation.proofs.is_bad_sign.Lts as lts
 
--- src/lib.rt:31:1
 returns : tie.Need-returns
 unfolding ne ofBits neg
 returns c = sym (ap (λ (b : Bool). b && ne (c .before .args .sign) (fin false 1 (pos 0))) (c .if1 .taken))

@@ -1,15 +1,10 @@
-use mathlib.Core.Path.{sym}
 use borrow.Author.Tests.{eq-eqb, ne-eqb}
 use Rattle.rotation.proofs.outside_powers.Statement.{statement}
 use Rattle.rotation.proofs.outside_powers.Tie as tie
-use Rattle.rotation.proofs.outside_powers.Reads as reads
-use Rattle.rotation.proofs.outside_powers.Lts as lts
 
--- src/lib.rt:25:9
 returns : tie.Need-returns
 returns c = simp (ne-eqb _ _ (c .if1 .taken))
 
--- src/lib.rt:21:1
 returns-2 : tie.Need-returns-2
 returns-2 c = simp (eq-eqb _ _ (c .if1 .left))
 

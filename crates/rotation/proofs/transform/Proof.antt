@@ -1,4 +1,3 @@
-use Prim.Native.Nat.{_≤_}
 use mathlib.Core.Path.{_≡_, refl, _∙_}
 use native.Mathlib.Omega.{arith}
 use lib.ListN.{length}
@@ -8,9 +7,6 @@ use Rattle.rounding.specs.Butterfly.{stages}
 use Rattle.rotation.proofs.Ordered.{Running, running-start, running-steps, running-small, running-more, running-all}
 use Rattle.rotation.proofs.transform.Statement.{statement}
 use Rattle.rotation.proofs.transform.Tie as tie
-use Rattle.rotation.proofs.transform.Reads as reads
-use Rattle.rotation.proofs.transform.Lts as lts
-use Rattle.rotation.proofs.butterflies.Reads as butterflies-reads
 
 abbrev Inv-loop : tie.InvT-loop
 Inv-loop values₀ count step₀ left₀ values step left = (length values ≡ length values₀) × Running step left (stages (add binary32) (sub binary32) posZero count 1 values₀) values
@@ -18,35 +14,27 @@ Inv-loop values₀ count step₀ left₀ values step left = (length values ≡ l
 abbrev μ-loop : tie.MeasureT-loop
 μ-loop values₀ count step₀ left₀ values step left = left
 
--- src/lib.rt:45:5
 loop-holds : tie.Need-loop-holds Inv-loop μ-loop
 loop-holds c = (refl, running-start _ _ (c .before .pre .1))
 
--- src/lib.rt:46:9
 butterflies-requires : tie.Need-butterflies-requires Inv-loop μ-loop
 butterflies-requires c κs = running-steps _ _ _ _ (c .before .before .loop .inv .1) (omega arith)
 
--- src/lib.rt:47:16
 mul-step : tie.Need-mul-step Inv-loop μ-loop
 mul-step c = omega (arith, running-small _ _ _ _ (c .before .before .before .before .before .loop .inv .1) (omega arith), c .before .before .before .before .before .loop .inv .0, c .before .before .before .before .before .before .before .good .0 .0)
 
--- src/lib.rt:48:16
 sub-left : tie.Need-sub-left Inv-loop μ-loop
 sub-left c = omega arith
 
--- src/lib.rt:45:5
 loop-less : tie.Need-loop-less Inv-loop μ-loop
 loop-less c = omega arith
 
--- src/lib.rt:45:5
 loop-again : tie.Need-loop-again Inv-loop μ-loop
 loop-again c = (c .before .before .butterflies .kept .0 ∙ c .before .before .before .before .before .loop .inv .0, running-more _ _ _ _ (c .before .before .before .before .before .loop .inv .1) (omega arith) _ (c .before .before .butterflies .ensures))
 
--- src/lib.rt:39:1
 same-length : tie.Need-same-length Inv-loop μ-loop
 same-length c = c .before .loop .inv .0
 
--- src/lib.rt:39:1
 returns : tie.Need-returns Inv-loop μ-loop
 returns c = running-all _ _ _ _ (c .before .loop .inv .1) (omega arith)
 

@@ -7,7 +7,7 @@ use borrow.Author.Needs.{scaled-fits}
 use borrow.Author.Tests.{not-true, not-false}
 use lib.ListN.{length}
 use lib.Ieee.{nan}
-use Rattle.setup.specs.Checks.{notFinite}
+use Rattle.setup.specs.Checks.{badValue}
 use Rattle.error.specs.Sweep.{Swept}
 use Rattle.error.proofs.Sweep.{swept-start, swept-pass, swept-spot, swept-end}
 use Rattle.setup.proofs.Rows.{finite-passes, not-finite-offends}
@@ -15,13 +15,13 @@ use Rattle.setup.proofs.all_finite.Statement.{statement}
 use Rattle.setup.proofs.all_finite.Tie as tie
 
 abbrev Inv-loop : tie.InvT-loop
-Inv-loop values ok₀ i₀ ok i = Swept notFinite values i ok
+Inv-loop values ok₀ i₀ ok i = Swept badValue values i ok
 
 abbrev μ-loop : tie.MeasureT-loop
 μ-loop values ok₀ i₀ ok i = length values - i
 
 loop-holds : tie.Need-loop-holds Inv-loop μ-loop
-loop-holds c = swept-start notFinite _
+loop-holds c = swept-start badValue _
 
 mul-is-finite : tie.Need-mul-is-finite Inv-loop μ-loop
 mul-is-finite c = scaled-fits _ (length (c .before .before .before .args .values .now)) 4 (omega arith) (c .before .before .before .good .0 .1)
@@ -41,12 +41,12 @@ loop-less c = omega arith
 loop-again : tie.Need-loop-again Inv-loop μ-loop
 loop-again c =
     ⊎-elim
-    (λ w. rw (w .1) (swept-spot notFinite _ _ _ nan (omega arith) (not-finite-offends _ (sym (c .before .is-finite .ensures) ∙ not-true _ (w .0 .taken))) (c .before .before .before .before .loop .inv)))
-    (λ w. rw (w .1) (swept-pass notFinite _ _ _ nan (omega arith) (finite-passes _ (sym (c .before .is-finite .ensures) ∙ not-false _ (w .0 .left))) (c .before .before .before .before .loop .inv)))
+    (λ w. rw (w .1) (swept-spot badValue _ _ _ nan (omega arith) (not-finite-offends _ (sym (c .before .is-finite .ensures) ∙ not-true _ (w .0 .taken))) (c .before .before .before .before .loop .inv)))
+    (λ w. rw (w .1) (swept-pass badValue _ _ _ nan (omega arith) (finite-passes _ (sym (c .before .is-finite .ensures) ∙ not-false _ (w .0 .left))) (c .before .before .before .before .loop .inv)))
     (c .if1 .came)
 
 returns : tie.Need-returns Inv-loop μ-loop
-returns c = swept-end notFinite _ _ _ (omega arith) (c .before .loop .inv)
+returns c = swept-end badValue _ _ _ (omega arith) (c .before .loop .inv)
 
 pub all-finite-spec : {M : Type 1} → statement M
 all-finite-spec =

@@ -1,6 +1,6 @@
 -- `setup::first_non_finite` meets its contract: where the pass finds nothing, the place is the length. Assumes nothing.
 use mathlib.Core.Path.{sym, _∙_}
-use Rattle.setup.specs.Checks.{notFinite}
+use Rattle.setup.specs.Checks.{badValue}
 use Rattle.error.proofs.Sweep.{clear-place}
 use borrow.Author.Needs.{needs}
 use Rattle.setup.proofs.first_non_finite.Statement.{statement}
@@ -10,7 +10,7 @@ all-finite-requires : tie.Need-all-finite-requires
 all-finite-requires c κs = search needs
 
 returns : tie.Need-returns
-returns c = clear-place notFinite _ (sym (c .before .all-finite .ensures) ∙ c .if1 .taken)
+returns c = clear-place badValue _ (sym (c .before .all-finite .ensures) ∙ c .if1 .taken)
 
 find-non-finite-requires : tie.Need-find-non-finite-requires
 find-non-finite-requires c κs = search needs

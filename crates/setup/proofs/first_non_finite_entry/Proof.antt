@@ -8,19 +8,19 @@ use lib.ListN.{length, drop}
 use lib.Ieee.{nan}
 use Rattle.error.specs.Answer.{place}
 use Rattle.error.proofs.Places.{place-skip, place-here, place-end}
-use Rattle.setup.specs.Checks.{notFinite}
+use Rattle.setup.specs.Checks.{badValue}
 use Rattle.setup.proofs.Rows.{finite-passes, not-finite-offends, entry-below, rows-full, rows-start, row-start, row-end, column-next}
 use Rattle.setup.proofs.first_non_finite_entry.Statement.{statement}
 use Rattle.setup.proofs.first_non_finite_entry.Tie as tie
 
 abbrev Inv-loop : tie.InvT-loop
-Inv-loop matrix rows columns found₀ row column₀ found column = (found ≡ length matrix) × (column ≤ columns) × (place notFinite matrix ≡ (row * columns + column) + place notFinite (drop (row * columns + column) matrix))
+Inv-loop matrix rows columns found₀ row column₀ found column = (found ≡ length matrix) × (column ≤ columns) × (place badValue matrix ≡ (row * columns + column) + place badValue (drop (row * columns + column) matrix))
 
 abbrev μ-loop : tie.MeasureT-loop
 μ-loop matrix rows columns found₀ row column₀ found column = columns - column
 
 abbrev Inv-rows : tie.InvT-rows
-Inv-rows matrix rows columns found₀ row₀ found row = (found ≡ length matrix) × (row ≤ rows) × (place notFinite matrix ≡ row * columns + place notFinite (drop (row * columns) matrix))
+Inv-rows matrix rows columns found₀ row₀ found row = (found ≡ length matrix) × (row ≤ rows) × (place badValue matrix ≡ row * columns + place badValue (drop (row * columns) matrix))
 
 abbrev μ-rows : tie.MeasureT-rows
 μ-rows matrix rows columns found₀ row₀ found row = rows - row
@@ -31,10 +31,10 @@ index-below c =
     entry-below (c .before .before .before .before .before .args .rows) _ _ _ _ (c .before .before .before .before .before .pre) (c .before .before .rows-test .taken) (c .loop-test .taken)
 
 rows-holds : tie.Need-rows-holds Inv-loop μ-loop Inv-rows μ-rows
-rows-holds c = (refl, omega arith, rows-start notFinite _ _)
+rows-holds c = (refl, omega arith, rows-start badValue _ _)
 
 loop-holds : tie.Need-loop-holds Inv-loop μ-loop Inv-rows μ-rows
-loop-holds c = (c .before .rows .inv .0, omega arith, row-start notFinite _ _ _ (c .before .rows .inv .2))
+loop-holds c = (c .before .rows .inv .0, omega arith, row-start badValue _ _ _ (c .before .rows .inv .2))
 
 mul-index : tie.Need-mul-index Inv-loop μ-loop Inv-rows μ-rows
 mul-index c = omega (arith, index-below c)
@@ -61,7 +61,7 @@ loop-again : tie.Need-loop-again Inv-loop μ-loop Inv-rows μ-rows
 loop-again c = (
   c .before .before .before .before .loop .inv .0,
   omega arith,
-  column-next notFinite _ _ _ _ (place-skip notFinite _ _ nan (index-below (c .before .before .before)) (finite-passes _ (sym (c .before .is-finite .ensures) ∙ not-false _ (c .if1 .left))) (c .before .before .before .before .loop .inv .2)),
+  column-next badValue _ _ _ _ (place-skip badValue _ _ nan (index-below (c .before .before .before)) (finite-passes _ (sym (c .before .is-finite .ensures) ∙ not-false _ (c .if1 .left))) (c .before .before .before .before .loop .inv .2)),
 )
 
 add-row : tie.Need-add-row Inv-loop μ-loop Inv-rows μ-rows
@@ -71,15 +71,15 @@ rows-less : tie.Need-rows-less Inv-loop μ-loop Inv-rows μ-rows
 rows-less c = omega arith
 
 rows-again : tie.Need-rows-again Inv-loop μ-loop Inv-rows μ-rows
-rows-again c = (c .before .loop .inv .0, omega arith, row-end notFinite _ _ _ _ (omega arith) (c .before .loop .inv .2))
+rows-again c = (c .before .loop .inv .0, omega arith, row-end badValue _ _ _ _ (omega arith) (c .before .loop .inv .2))
 
 returns : tie.Need-returns Inv-loop μ-loop Inv-rows μ-rows
 returns c =
     let full = rows-full (c .before .before .before .args .rows) _ (c .before .rows .row) _ (c .before .before .before .pre) (omega arith) in
-    c .before .rows .inv .0 ∙ sym full ∙ sym (place-end notFinite _ _ (omega (arith, full)) (c .before .rows .inv .2))
+    c .before .rows .inv .0 ∙ sym full ∙ sym (place-end badValue _ _ (omega (arith, full)) (c .before .rows .inv .2))
 
 returns-2 : tie.Need-returns-2 Inv-loop μ-loop Inv-rows μ-rows
-returns-2 c = sym (place-here notFinite _ _ nan (index-below (c .before .before .before)) (not-finite-offends _ (sym (c .before .is-finite .ensures) ∙ not-true _ (c .if1 .taken))) (c .before .before .before .before .loop .inv .2))
+returns-2 c = sym (place-here badValue _ _ nan (index-below (c .before .before .before)) (not-finite-offends _ (sym (c .before .is-finite .ensures) ∙ not-true _ (c .if1 .taken))) (c .before .before .before .before .loop .inv .2))
 
 pub first-non-finite-entry-spec : {M : Type 1} → statement M
 first-non-finite-entry-spec =

@@ -4,9 +4,9 @@ use mathlib.Core.List.{[], _∷_}
 use borrow.Author.Needs.{needs}
 use lib.Ieee.{Float}
 use Rattle.error.specs.Answer.{value, first}
-use Rattle.qjl.specs.Score.{saysScore, badScore}
+use Rattle.qjl.specs.Score.{saysScore, wrongScore}
 use Rattle.packed.specs.Reading.{radiiOf}
-use Rattle.turbo.specs.Estimates.{estimateOf}
+use Rattle.turbo.specs.Estimates.{innerProductEstimateOf}
 use Rattle.turbo.specs.Distance.{cutAtZero}
 use Rattle.turbo.proofs.Answers.{distance-refused, distance-scored, scored-read, scored-half}
 use Rattle.turbo.proofs.Norms.{apart-of}
@@ -14,7 +14,7 @@ use Rattle.turbo.proofs.l2_distance_estimate.Statement.{statement}
 use Rattle.turbo.proofs.l2_distance_estimate.Tie as tie
 
 -- the score that was answered
-scored : (c : tie.After-known-told) → let a = c .before .before .before .before .before .before .before .before .before .args in estimateOf (a .setup) (record { signs = a .signs .now; directions = a .directions .now; matrix = a .matrix .now; query = a .query .now }) (a .bytes .now) ≡ value (c .before .score .given .0 .0)
+scored : (c : tie.After-known-told) → let a = c .before .before .before .before .before .before .before .before .before .args in innerProductEstimateOf (a .setup) (record { signs = a .signs .now; directions = a .directions .now; matrix = a .matrix .now; query = a .query .now }) (a .bytes .now) ≡ value (c .before .score .given .0 .0)
 scored c = sym (c .before .before .before .inner-product-estimate .ensures .0) ∙ ap saysScore (c .before .score .given .1)
 
 inner-product-estimate-requires : tie.Need-inner-product-estimate-requires
@@ -44,7 +44,7 @@ returns : tie.Need-returns
 returns c = let k = c .before .before .before .before .before in
     let a = k .before .before .before .before .before .before .before .before .before .args in
     c .finite-distance .ensures
-    ∙ ap (λ (d : Float). first (badScore d ∷ []) (value d))
+    ∙ ap (λ (d : Float). first (wrongScore d ∷ []) (value d))
     (c .before .cut-at-zero .ensures ∙ ap cutAtZero (apart-of (a .query .now) (radiiOf (a .bytes .now)) (k .before .score .given .0 .0) (c .before .before .before .before .squared-norm .ensures) (c .before .before .radii-norm .ensures)))
     ∙ sym (distance-scored (a .setup) (record { signs = a .signs .now; directions = a .directions .now; matrix = a .matrix .now; query = a .query .now }) (a .bytes .now) (scored k))
 

@@ -4,9 +4,9 @@ use mathlib.Core.Path.{ap, _∙_}
 use native.Mathlib.Omega.{arith}
 use borrow.Author.Needs.{needs}
 use borrow.Rule.Slice.PartMut.{postOf}
-use Rattle.packed.specs.Reading.{radiiOf, radiiReadOf}
-use Rattle.scoring.proofs.Parts.{part-enough, part-filled}
-use Rattle.scoring.proofs.Answers.{radii-filled, pairs-most}
+use Rattle.packed.specs.Reading.{radiiOf, readRadiiOf}
+use Rattle.turbo_scoring.proofs.Parts.{part-enough, part-filled}
+use Rattle.turbo_scoring.proofs.Answers.{radii-filled, pairs-most}
 use Rattle.turbo.specs.Distance.{squaredNorm}
 use Rattle.turbo.proofs.radii_norm.Statement.{statement}
 use Rattle.turbo.proofs.radii_norm.Tie as tie
@@ -48,7 +48,7 @@ returns c = let s = c .before .before .before .before .before .before .before .b
     let bytes = s .args .bytes .now in
     c .squared-norm .ensures
     ∙ ap squaredNorm
-    (part-filled (s .args .pairs) xs (omega (arith, pairs-most bytes (s .pre .0), s .pre .1, f .before .before .no-radii .ok)) (radiiReadOf bytes) (radiiOf bytes) (ap (radiiReadOf bytes) (s .pre .1) ∙ radii-filled bytes (s .pre .0))
+    (part-filled (s .args .pairs) xs (omega (arith, pairs-most bytes (s .pre .0), s .pre .1, f .before .before .no-radii .ok)) (readRadiiOf bytes) (radiiOf bytes) (ap (readRadiiOf bytes) (s .pre .1) ∙ radii-filled bytes (s .pre .0))
     (f .read-radii .last .1 .0) (postOf 0 (s .args .pairs - 0) xs) (f .read-radii .kept .1 .0) (f .read-radii .ensures .1))
 
 pub radii-norm-spec : {M : Type 1} → statement M

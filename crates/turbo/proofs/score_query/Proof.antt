@@ -11,9 +11,9 @@ use Rattle.error.specs.Answer.{accepted, done}
 use Rattle.error.specs.Outcomes.{says}
 use Rattle.error.proofs.Answers.{after-value}
 use Rattle.setup.proofs.Scalars.{scalars-usable}
-use Rattle.query.specs.Query.{rotatedQuery, projectedQuery, rotatedOf}
-use Rattle.scoring.specs.Scoring.{recordScoreOf}
-use Rattle.scoring.proofs.Parts.{part-long, part-read, part-enough}
+use Rattle.turbo_query.specs.Query.{rotatedQuery, projectedQuery, prepareRotatedOf}
+use Rattle.turbo_scoring.specs.Scoring.{recordScoreOf}
+use Rattle.turbo_scoring.proofs.Parts.{part-long, part-read, part-enough}
 use Rattle.turbo.proofs.Answers.{estimate-refused, estimate-passed, prepare-refused, prepare-passed, prepare-turned, prepare-rows}
 use Rattle.turbo.proofs.score_query.Statement.{statement}
 use Rattle.turbo.proofs.score_query.Tie as tie
@@ -27,7 +27,7 @@ space c = let most = scalars-usable (c .before .before .before .before .before .
 
 -- the query is prepared
 ready : (c : tie.After-enum-told) → let p = c .before .before .before .before in let a = p .before .before .before .before .before .before .before .before .before .before .before .args in
-    done (rotatedOf (a .setup) (a .signs .now) (a .directions .now) (a .matrix .now) (a .query .now) (length (take (a .setup .dim - 0) (p .before .before .before .before .zeros .result))) (length (take (p .before .before .before .before .before .counted-projections .result - 0) (p .before .before .before .zeros2 .result)))) ≡ accepted
+    done (prepareRotatedOf (a .setup) (a .signs .now) (a .directions .now) (a .matrix .now) (a .query .now) (length (take (a .setup .dim - 0) (p .before .before .before .before .zeros .result))) (length (take (p .before .before .before .before .before .counted-projections .result - 0) (p .before .before .before .zeros2 .result)))) ≡ accepted
 ready c = sym (c .before .before .before .before .prepare-query .ensures .0) ∙ ap says (c .enum-told .given .1)
 
 -- what the two parts hold then

@@ -4,11 +4,6 @@ use lib.ListN.{length}
 use borrow.Author.Needs.{needs}
 use Rattle.worked.proofs.bytes.Statement.{statement}
 use Rattle.worked.proofs.bytes.Tie as tie
-use Rattle.worked.proofs.bytes.Reads as reads
-use Rattle.worked.proofs.bytes.Lts as lts
-use Rattle.io.proofs.print_hex.Reads as print-hex-reads
-use Rattle.io.proofs.write_all.Reads as write-all-reads
-use Rattle.worked.proofs.wide.Reads as wide-reads
 
 abbrev Inv-loop : tie.InvT-loop
 Inv-loop list i₀ t3 i = i ≤ length list

@@ -4,12 +4,6 @@ use lib.ListN.{length}
 use borrow.Author.Needs.{needs}
 use Rattle.worked.proofs.floats.Statement.{statement}
 use Rattle.worked.proofs.floats.Tie as tie
-use Rattle.worked.proofs.floats.Reads as reads
-use Rattle.worked.proofs.floats.Lts as lts
-use Rattle.float.proofs.to_bits.Reads as to-bits-reads
-use Rattle.io.proofs.write_all.Reads as write-all-reads
-use Rattle.worked.proofs.pattern.Reads as pattern-reads
-use Rattle.worked.proofs.refusal.Reads as refusal-reads
 
 abbrev Inv-loop : tie.InvT-loop
 Inv-loop written i₀ t6 i = i ≤ length written

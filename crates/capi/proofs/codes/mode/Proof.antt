@@ -1,15 +1,15 @@
 -- `capi::codes::mode` meets its contract. Assumes nothing.
 use borrow.Author.Tests.{eq-eqb, ne-eqb}
-use Rattle.capi.specs.Codes.{modeOf}
+use Rattle.capi.specs.Codes.{modeFrom}
 use Rattle.capi.proofs.codes.mode.Statement.{statement}
 use Rattle.capi.proofs.codes.mode.Tie as tie
 
 returns : tie.Need-returns
-unfolding modeOf
+unfolding modeFrom
 returns c = simp (eq-eqb _ _ (c .if1 .taken))
 
 returns-2 : tie.Need-returns-2
-unfolding modeOf
+unfolding modeFrom
 returns-2 c = simp (ne-eqb _ _ (c .if1 .left))
 
 pub mode-spec : {M : Type 1} → statement M

@@ -2,7 +2,7 @@
 use lib.ListN.{length}
 use Rattle.error.specs.Answer.{after}
 use Rattle.radius.specs.declared.RadiusCodecProfileV1.{RadiusCodecProfileV1}
-use Rattle.radius.specs.Codec.{compressedRange, compressedBytes}
+use Rattle.radius.specs.Codec.{compressRangeOf, compressBytesOf}
 use Rattle.capi.specs.Codes.{minOf, maxOf}
 use mathlib.Core.Path.{ap, _∙_}
 use denote.Ref.{now}
@@ -26,8 +26,8 @@ same-length c = search needs
 returns : tie.Need-returns
 returns c =
     let a = c .before .before .before .before .before .before .before .before .before .before .before .before .args in
-    let e = c .before .before .before .before .before .before .before .compress .ensures .0 ∙ ap (λ (p : RadiusCodecProfileV1). compressedRange (now (a .radii)) p (length (now (a .out)))) (c .before .before .before .before .before .before .before .before .before .profile .ensures) in
-    (told-as (c .tell-range .ensures .0) e, (part-as minOf (now (a .min)) (c .tell-range .ensures .1 .0) e, (part-as maxOf (now (a .max)) (c .tell-range .ensures .1 .1) e, c .before .before .before .before .before .before .before .compress .ensures .1 ∙ ap (λ (p : RadiusCodecProfileV1). after (compressedBytes (now (a .radii)) p (length (now (a .out)))) (now (a .out))) (c .before .before .before .before .before .before .before .before .before .profile .ensures))))
+    let e = c .before .before .before .before .before .before .before .compress .ensures .0 ∙ ap (λ (p : RadiusCodecProfileV1). compressRangeOf (now (a .radii)) p (length (now (a .out)))) (c .before .before .before .before .before .before .before .before .before .profile .ensures) in
+    (told-as (c .tell-range .ensures .0) e, (part-as minOf (now (a .min)) (c .tell-range .ensures .1 .0) e, (part-as maxOf (now (a .max)) (c .tell-range .ensures .1 .1) e, c .before .before .before .before .before .before .before .compress .ensures .1 ∙ ap (λ (p : RadiusCodecProfileV1). after (compressBytesOf (now (a .radii)) p (length (now (a .out)))) (now (a .out))) (c .before .before .before .before .before .before .before .before .before .profile .ensures))))
 
 pub foldrima-compress-spec : {M : Type 1} → statement M
 foldrima-compress-spec =

@@ -3,7 +3,7 @@ use lib.ListN.{length}
 use Rattle.error.specs.Answer.{done, after}
 use Rattle.radius.specs.declared.RadiusCodecProfileV1.{RadiusCodecProfileV1}
 use Rattle.radius.specs.Codec.{decompressOf}
-use Rattle.capi.specs.Codes.{rangeOf}
+use Rattle.capi.specs.Codes.{rangeFrom}
 use mathlib.Core.Path.{ap, _∙_}
 use denote.Ref.{now}
 use Rattle.capi.proofs.Tell.{told-as}
@@ -26,8 +26,8 @@ same-length c = search needs
 returns : tie.Need-returns
 returns c =
     let a = c .before .before .before .before .before .before .before .before .before .before .args in
-    let e = c .before .before .before .before .before .decompress .ensures .0 ∙ ap (λ (p : RadiusCodecProfileV1). done (decompressOf p (a .count) (rangeOf (a .min) (a .max)) (now (a .payload)) (length (now (a .out))))) (c .before .before .before .before .before .before .before .profile .ensures) in
-    (told-as (c .tell .ensures) e, c .before .before .before .before .before .decompress .ensures .1 ∙ ap (λ (p : RadiusCodecProfileV1). after (decompressOf p (a .count) (rangeOf (a .min) (a .max)) (now (a .payload)) (length (now (a .out)))) (now (a .out))) (c .before .before .before .before .before .before .before .profile .ensures))
+    let e = c .before .before .before .before .before .decompress .ensures .0 ∙ ap (λ (p : RadiusCodecProfileV1). done (decompressOf p (a .count) (rangeFrom (a .min) (a .max)) (now (a .payload)) (length (now (a .out))))) (c .before .before .before .before .before .before .before .profile .ensures) in
+    (told-as (c .tell .ensures) e, c .before .before .before .before .before .decompress .ensures .1 ∙ ap (λ (p : RadiusCodecProfileV1). after (decompressOf p (a .count) (rangeFrom (a .min) (a .max)) (now (a .payload)) (length (now (a .out)))) (now (a .out))) (c .before .before .before .before .before .before .before .profile .ensures))
 
 pub foldrima-decompress-spec : {M : Type 1} → statement M
 foldrima-decompress-spec =

@@ -1,6 +1,6 @@
 -- `capi::radii::foldrima_encoded_bytes` meets its contract. Assumes nothing.
 use Rattle.radius.specs.declared.RadiusCodecProfileV1.{RadiusCodecProfileV1}
-use Rattle.radius.specs.Codec.{encodedBytes}
+use Rattle.radius.specs.Codec.{encodedBytesOf}
 use mathlib.Core.Path.{ap, _∙_}
 use denote.Ref.{now}
 use Rattle.capi.proofs.Tell.{told-as, left-as}
@@ -20,7 +20,7 @@ tell-encoded-requires c κs = search needs
 returns : tie.Need-returns
 returns c =
     let a = c .before .before .before .before .before .before .before .args in
-    let e = c .before .before .before .before .encoded-bytes .ensures ∙ ap (λ (p : RadiusCodecProfileV1). encodedBytes p (now (a .payload))) (c .before .before .before .before .before .profile .ensures) in
+    let e = c .before .before .before .before .encoded-bytes .ensures ∙ ap (λ (p : RadiusCodecProfileV1). encodedBytesOf p (now (a .payload))) (c .before .before .before .before .before .profile .ensures) in
     (told-as (c .tell-encoded .ensures .0) e, left-as (now (a .value)) (c .tell-encoded .ensures .1) e)
 
 pub foldrima-encoded-bytes-spec : {M : Type 1} → statement M

@@ -7,8 +7,8 @@ use lib.ListN.{length}
 use Rattle.error.specs.Answer.{Answer, done, after}
 use Rattle.radius.specs.declared.RadiusCodecProfileV1.{RadiusCodecProfileV1}
 use Rattle.setup.specs.declared.TurboMode.{TurboMode}
-use Rattle.writing.specs.Writing.{writeOf}
-use Rattle.capi.specs.Codes.{profileOf}
+use Rattle.packed_writing.specs.Writing.{writeRecordOf}
+use Rattle.capi.specs.Codes.{profileFrom}
 use Rattle.capi.proofs.Tell.{told-as}
 use borrow.Author.Needs.{needs}
 use Rattle.capi.proofs.records.foldrima_write_record.Statement.{statement}
@@ -35,8 +35,8 @@ returns c =
     let w = c .before .before .before .before .before .write-record in
     let p = c .before .before .before .before .before .before .before .before .profile in
     let m = c .before .before .before .before .before .before .before .mode in
-    let e = ap (λ (x : RadiusCodecProfileV1). writeOf x (a .dim) (a .bits) (m .result) (a .projections) (now (a .radii)) (now (a .indices)) (now (a .signs)) (length (now (a .out)))) (p .ensures)
-    ∙ ap (λ (x : TurboMode). writeOf (profileOf (a .profile)) (a .dim) (a .bits) x (a .projections) (now (a .radii)) (now (a .indices)) (now (a .signs)) (length (now (a .out)))) (m .ensures) in
+    let e = ap (λ (x : RadiusCodecProfileV1). writeRecordOf x (a .dim) (a .bits) (m .result) (a .projections) (now (a .radii)) (now (a .indices)) (now (a .signs)) (length (now (a .out)))) (p .ensures)
+    ∙ ap (λ (x : TurboMode). writeRecordOf (profileFrom (a .profile)) (a .dim) (a .bits) x (a .projections) (now (a .radii)) (now (a .indices)) (now (a .signs)) (length (now (a .out)))) (m .ensures) in
     (told-as (c .tell .ensures) (w .ensures .0 ∙ ap done e), w .ensures .1 ∙ ap (λ (x : Answer (List ℕ)). after x (now (a .out))) e)
 
 pub foldrima-write-record-spec : {M : Type 1} → statement M

@@ -6,7 +6,7 @@ use borrow.Author.Needs.{needs}
 use borrow.Author.Tests.{le-leb, lt-leb}
 use Rattle.error.specs.Answer.{value, first}
 use Rattle.error.specs.Outcomes.{says}
-use Rattle.codebook.specs.Codebook.{checkOf, middleOf, midpointOf}
+use Rattle.codebook.specs.Codebook.{checkOf, middleOf, dequantizeMidpointOf}
 use Rattle.error.specs.Checks.{wrongIndex}
 use Rattle.codebook.proofs.Checks.{check-refused, check-passed, check-narrow}
 use Rattle.float.proofs.Levels.{levels-most, levels-inFloat}
@@ -20,7 +20,7 @@ enum-known-number : tie.Need-enum-known-number
 enum-known-number c = search needs
 
 returns : tie.Need-returns
-unfolding midpointOf
+unfolding dequantizeMidpointOf
 returns c =
     let a = c .before .before .before .before .args in
     sym (check-refused (a .self .bits) (a .self .min) (a .self .max) (first (wrongIndex (a .self .bits) (a .index) ∷ []) (value (middleOf (a .self .bits) (a .self .min) (a .self .max) (a .index))))
@@ -37,7 +37,7 @@ level-count-requires : tie.Need-level-count-requires
 level-count-requires c κs = let a = c .before .before .before .args in check-narrow (a .self .bits) (a .self .min) (a .self .max) (passed c)
 
 returns-2 : tie.Need-returns-2
-unfolding midpointOf
+unfolding dequantizeMidpointOf
 returns-2 c =
     let a = c .before .before .before .before .before .args in
     simp (check-passed (a .self .bits) (a .self .min) (a .self .max) (first (wrongIndex (a .self .bits) (a .index) ∷ []) (value (middleOf (a .self .bits) (a .self .min) (a .self .max) (a .index)))) (passed (c .before .before)), ← c .before .level-count .ensures, le-leb _ _ (c .if1 .taken))
@@ -51,7 +51,7 @@ int-to-float-t10 : tie.Need-int-to-float-t10
 int-to-float-t10 c = search needs
 
 returns-3 : tie.Need-returns-3
-unfolding midpointOf middleOf
+unfolding dequantizeMidpointOf middleOf
 returns-3 c =
     let a = c .before .before .before .before .before .before .before .before .before .args in
     simp (check-passed (a .self .bits) (a .self .min) (a .self .max) (first (wrongIndex (a .self .bits) (a .index) ∷ []) (value (middleOf (a .self .bits) (a .self .min) (a .self .max) (a .index)))) (passed (c .before .before .before .before .before .before)), ← c .before .before .before .before .before .level-count .ensures, lt-leb _ _ (c .before .before .before .before .if1 .left))

@@ -1,0 +1,205 @@
+// Bit packing of signs. Ported from turbo-quant/src/bitpack.rs and changed: outputs are lent, refusals are numbers.
+// Packing order is little-endian within each byte: the first sign is bit 0 of byte 0.
+use bitpack::validate_padding_zero;
+use error::MALFORMED_SIGN;
+use error::OUTPUT_LENGTH;
+use error::Outcome;
+ghost use Prim.Native.Nat.{_+_, _-_, _*_, _<_, _≤_};
+ghost use mathlib.Core.Path.{_≡_};
+ghost use mathlib.Core.List.{_++_, map};
+ghost use lib.ListN.{length, take, drop};
+ghost use Rattle.error.specs.Answer.{place, done, after};
+ghost use Rattle.error.specs.Outcomes.{says};
+ghost use Rattle.error.specs.Sweep.{clear};
+ghost use Rattle.digits.specs.Digits.{number, digits};
+ghost use Rattle.bitpack.specs.Padding.{bytesFor};
+ghost use Rattle.bitpack.specs.Signs.{badSketchSign, bitOfSign, signOfBit, packSignsOf, unpackSignsOf};
+
+// Packs signs, each -1 or 1, into exactly the bytes that they need: bit 1 is +1, bit 0 is -1.
+pub fn pack_signs(signs: &[i8], out: &mut [u8]) -> Outcome
+    ensures said { λ r. ⌜ says r ≡ done (packSignsOf (now (signs .entry)) (length (now (out .entry)))) ⌝ }
+    ensures left { λ r. ⌜ now (out .exit) ≡ after (packSignsOf (now (signs .entry)) (length (now (out .entry)))) (now (out .entry)) ⌝ }
+{
+    let stray = first_no_sign(signs);
+    if stray < signs.len() {
+        return Outcome::Refused {
+            number: MALFORMED_SIGN,
+            place: stray,
+        };
+    }
+    let bytes = signs.len() / 8 + (signs.len() % 8 + 7) / 8;
+    if out.len() != bytes {
+        return Outcome::Refused {
+            number: OUTPUT_LENGTH,
+            place: bytes,
+        };
+    }
+    pack_sign_bytes(signs, out);
+    Outcome::Done
+}
+
+// Unpacks `count` signs.
+pub fn unpack_signs(packed: &[u8], count: usize, out: &mut [i8]) -> Outcome
+    ensures said { λ r. ⌜ says r ≡ done (unpackSignsOf (now (packed .entry)) count (length (now (out .entry)))) ⌝ }
+    ensures left { λ r. ⌜ now (out .exit) ≡ after (unpackSignsOf (now (packed .entry)) count (length (now (out .entry)))) (now (out .entry)) ⌝ }
+{
+    if let Outcome::Refused { number, place } = validate_padding_zero(packed, count) {
+        return Outcome::Refused { number, place };
+    }
+    if out.len() != count {
+        return Outcome::Refused {
+            number: OUTPUT_LENGTH,
+            place: count,
+        };
+    }
+    unpack_sign_bytes(packed, out);
+    Outcome::Done
+}
+
+// Whether a number is neither -1 nor 1.
+fn no_sign(sign: i8) -> bool
+    ensures { λ r. ⌜ r ≡ badSketchSign sign ⌝ }
+{
+    if sign == 1 {
+        return false;
+    }
+    sign != -1
+}
+
+// The index of the first number that is neither -1 nor 1, or how many there are.
+fn first_no_sign(signs: &[i8]) -> usize
+    ensures { λ r. ⌜ r ≡ place badSketchSign (now (signs .entry)) ⌝ }
+{
+    if all_signs(signs) {
+        return signs.len();
+    }
+    find_no_sign(signs)
+}
+
+// Whether every number is -1 or 1. The pass goes to the end, so that it is done for several numbers at a time.
+fn all_signs(signs: &[i8]) -> bool
+    ensures { λ r. ⌜ r ≡ clear badSketchSign (now (signs .entry)) ⌝ }
+{
+    let mut ok = true;
+    let mut i = 0;
+    while i < signs.len() {
+        if no_sign(signs[i]) {
+            ok = false;
+        }
+        i += 1;
+    }
+    ok
+}
+
+// The same index, one by one.
+fn find_no_sign(signs: &[i8]) -> usize
+    ensures { λ r. ⌜ r ≡ place badSketchSign (now (signs .entry)) ⌝ }
+{
+    let mut i = 0;
+    while i < signs.len() {
+        if no_sign(signs[i]) {
+            return i;
+        }
+        i += 1;
+    }
+    i
+}
+
+// The bit of a sign.
+fn bit(sign: i8) -> u8
+    ensures { λ r. ⌜ (r ≡ bitOfSign sign) × (r < 2) ⌝ }
+{
+    if sign == 1 { 1 } else { 0 }
+}
+
+// The sign of a bit.
+fn sign(bit: u8) -> i8
+    ensures { λ r. ⌜ r ≡ signOfBit bit ⌝ }
+{
+    if bit == 1 { 1 } else { -1 }
+}
+
+// Writes signs that have passed every check, eight to a byte.
+fn pack_sign_bytes(signs: &[i8], out: &mut [u8])
+    requires { ⌜ length (now out) ≡ bytesFor (length (now signs)) ⌝ }
+    ensures { λ r. ⌜ now (out .exit) ≡ digits 256 (length (now (out .entry))) (number 2 (map bitOfSign (now (signs .entry)))) ⌝ }
+{
+    let full = signs.len() / 8;
+    let mut k = 0;
+    while k < full {
+        out[k] = get_signs(signs, 8 * k) + 16 * get_signs(signs, 8 * k + 4);
+        k += 1;
+    }
+    if k < out.len() {
+        out[k] = get_last_signs(signs, 8 * k);
+    }
+}
+
+// The bits of four signs as a number.
+fn get_signs(signs: &[i8], at: usize) -> u8
+    requires { ⌜ at + 4 ≤ length (now signs) ⌝ }
+    ensures { λ r. ⌜ (r ≡ number 2 (take 4 (drop at (map bitOfSign (now (signs .entry)))))) × (r < 16) ⌝ }
+{
+    let a = bit(signs[at]);
+    let b = bit(signs[at + 1]);
+    let c = bit(signs[at + 2]);
+    let d = bit(signs[at + 3]);
+    a + 2 * (b + 2 * (c + 2 * d))
+}
+
+// The bits of all signs from `from` on as a number.
+fn get_last_signs(signs: &[i8], from: usize) -> u8
+    requires { ⌜ (from ≤ length (now signs)) × (length (now signs) < from + 8) ⌝ }
+    ensures { λ r. ⌜ r ≡ number 2 (drop from (map bitOfSign (now (signs .entry)))) ⌝ }
+{
+    let mut bits: u8 = 0;
+    let mut i = signs.len();
+    while from < i {
+        i -= 1;
+        bits = 2 * bits + bit(signs[i]);
+    }
+    bits
+}
+
+// Writes signs from bytes that hold enough of them, eight from a byte.
+fn unpack_sign_bytes(packed: &[u8], out: &mut [i8])
+    requires { ⌜ length (now out) ≤ 8 * length (now packed) ⌝ }
+    ensures { λ r. ⌜ now (out .exit) ≡ map signOfBit (digits 2 (length (now (out .entry))) (number 256 (now (packed .entry)))) ⌝ }
+{
+    let full = out.len() / 8;
+    let mut k = 0;
+    while k < full {
+        let byte = packed[k];
+        put_signs(out, 8 * k, byte);
+        put_signs(out, 8 * k + 4, byte / 16);
+        k += 1;
+    }
+    if 8 * k < out.len() {
+        put_last_signs(out, 8 * k, packed[k]);
+    }
+}
+
+// Four signs at `at`, of the lowest four bits.
+fn put_signs(out: &mut [i8], at: usize, bits: u8)
+    requires { ⌜ at + 4 ≤ length (now out) ⌝ }
+    ensures { λ r. ⌜ now (out .exit) ≡ take at (now (out .entry)) ++ map signOfBit (digits 2 4 bits) ++ drop (at + 4) (now (out .entry)) ⌝ }
+{
+    out[at] = sign(bits % 2);
+    out[at + 1] = sign(bits / 2 % 2);
+    out[at + 2] = sign(bits / 2 / 2 % 2);
+    out[at + 3] = sign(bits / 2 / 2 / 2 % 2);
+}
+
+// All signs from `from` on, of the lowest bits.
+fn put_last_signs(out: &mut [i8], from: usize, last: u8)
+    requires { ⌜ from ≤ length (now out) ⌝ }
+    ensures { λ r. ⌜ now (out .exit) ≡ take from (now (out .entry)) ++ map signOfBit (digits 2 (length (now (out .entry)) - from) last) ⌝ }
+{
+    let mut bits = last;
+    let mut i = from;
+    while i < out.len() {
+        out[i] = sign(bits % 2);
+        bits = bits / 2;
+        i += 1;
+    }
+}

@@ -1,0 +1,118 @@
+-- The radii of a linear record: how each is read, that none is a NaN or below zero once the range has passed, and that 16 names a radius that reads as infinite.
+-- Bytes are numbers below 256. Assumes nothing.
+use Prim.Native.Nat.{ℕ, _+_, _*_, _^_, _≤_, _<_}
+use mathlib.Core.Path.{_≡_, refl, _∙_, subst}
+use mathlib.Core.Bool.{Bool, true, false, not, cond}
+use mathlib.Core.List.{List, [], _∷_, _++_}
+use native.Mathlib.Nat.{not-suc-le-zero}
+use native.Mathlib.Omega.{arith}
+use borrow.Author.Tests.{ltb-true}
+use lib.Dec.{T, ltb, eqb, eqb-refl, T-not}
+use lib.ListN.{length, getD, take, drop}
+use lib.Ieee.{nan, inf, binary32, fits, isNan, lt}
+use lib.Ieee.Bits.{ofBits-fits}
+use Rattle.error.specs.Answer.{value, refused, Check, check, first, place}
+use Rattle.error.proofs.Chains.{Passed, value-not-refused}
+use Rattle.error.proofs.Places.{place-bad, place-good}
+use Rattle.digits.specs.Digits.{number}
+use Rattle.digits.proofs.Laws.{Below, number-lt}
+use Rattle.float.specs.Bytes.{ofLeBytes}
+use Rattle.bitpack.specs.Padding.{wrongPadding}
+use Rattle.bitpack.proofs.Differs.{differs-same}
+use Rattle.error.specs.Checks.{differs}
+use Rattle.radius.specs.Linear.{linearRadius}
+use Rattle.radius.specs.Radii.{zeroFloat, badRadius}
+use Rattle.radius.specs.declared.Range.{Range}
+use Rattle.radius.proofs.Chunks.{chunks-getD}
+use Rattle.packed.specs.Fields.{mapOf, hasRange, profileOf, floatAt, boundsOf, projectionsOf}
+use Rattle.packed.specs.Layout.{pairsOf, radiiAt, radiiLength, indicesUsed, totalOf, radiiBytes, indicesBytes, signsBytes, headerOf}
+use Rattle.packed.specs.Radii.{badBounds, badBoundsFor}
+use Rattle.packed.specs.Reading.{radiiOf, wrongSize, headerChecks, readRecordOf}
+use Rattle.packed.proofs.Parts.{length-radii}
+use Rattle.packed.proofs.Payloads.{length-radiiOf}
+use Rattle.packed_laws.proofs.Parts.{part-length, part-below}
+use Rattle.packed_laws.proofs.LinearRadius.{linear-radius-good, linear-radius-infinite}
+
+-- two bytes are a number of 16 bits
+two-bytes : (part : List ℕ) → Below 256 part → length part ≡ 2 → number 256 part ≤ 65535
+two-bytes part b long =
+    let small : number 256 part < 256 ^ 2 = subst (λ (n : ℕ). number 256 part < 256 ^ n) long (number-lt 256 part b) in
+    omega (arith, small)
+
+-- the greatest of a record's range is an f32
+max-float : (bytes : List ℕ) → T (fits binary32 (boundsOf bytes .max))
+unfolding boundsOf ofLeBytes
+max-float bytes = go (hasRange (mapOf bytes))
+  where
+    go : (t : Bool) → T (fits binary32 ((cond {A = Range} t (record { min = floatAt bytes 6; max = floatAt bytes 10 }) (record { min = zeroFloat; max = zeroFloat })) .max))
+    go true = ofBits-fits binary32 (number 256 (take 4 (drop 10 bytes)))
+    go false = ofBits-fits binary32 0
+
+-- each radius is read from its two bytes by the range: min + (max − min) × (v / 65,535), each step rounded
+pub linear-radii : (bytes : List ℕ) → hasRange (mapOf bytes) ≡ true → (i : ℕ) → i < pairsOf bytes → getD (radiiOf bytes) i nan ≡ linearRadius (boundsOf bytes) (take 2 (drop (2 * i) (radiiBytes bytes)))
+unfolding radiiOf
+linear-radii bytes linear i h = rw linear (chunks-getD (linearRadius (boundsOf bytes)) 2 (pairsOf bytes) i (radiiBytes bytes) nan h)
+
+module _ (bytes : List ℕ) (b : Below 256 bytes) (linear : hasRange (mapOf bytes) ≡ true) (sized : length bytes ≡ totalOf bytes) (bounds : badBounds (boundsOf bytes) ≡ false) (i : ℕ) (h : i < pairsOf bytes) where
+  radii-below : Below 256 (radiiBytes bytes)
+  unfolding radiiBytes
+  radii-below = part-below bytes b (radiiAt bytes) (radiiLength bytes) (omega (arith, sized))
+
+  two-small : number 256 (take 2 (drop (2 * i) (radiiBytes bytes))) ≤ 65535
+  two-small =
+      let long : length (radiiBytes bytes) ≡ 2 * pairsOf bytes = length-radii bytes sized ∙ rw linear in
+      let inside : 2 * i + 2 ≤ length (radiiBytes bytes) = omega (arith, long, h) in
+      two-bytes (take 2 (drop (2 * i) (radiiBytes bytes))) (part-below (radiiBytes bytes) radii-below (2 * i) 2 inside) (part-length (radiiBytes bytes) radii-below (2 * i) 2 inside)
+
+  -- whatever the bytes are, a radius of a linear record is no NaN and not below zero
+  pub linear-record-good : (isNan (getD (radiiOf bytes) i nan) ≡ false) × (lt (getD (radiiOf bytes) i nan) zeroFloat ≡ false)
+  linear-record-good = rw (linear-radii bytes linear i h) (linear-radius-good (boundsOf bytes) (take 2 (drop (2 * i) (radiiBytes bytes))) (max-float bytes) bounds two-small)
+
+  -- one that is refused reads as infinite
+  pub linear-record-infinite : badRadius (getD (radiiOf bytes) i nan) ≡ true → getD (radiiOf bytes) i nan ≡ inf false
+  linear-record-infinite = rw (linear-radii bytes linear i h) (linear-radius-infinite (boundsOf bytes) (take 2 (drop (2 * i) (radiiBytes bytes))) (max-float bytes) bounds two-small)
+
+-- ---- a refusal with a number that one check of the chain has alone
+
+abbrev Other : ℕ → List Check → Type 0
+Other n [] = Unit {0}
+Other n (check b k p ∷ cs) = T (not (eqb k n)) × Other n cs
+
+same-number : (k n : ℕ) → T (not (eqb k n)) → k ≡ n → ⊥
+same-number k n t e = T-not (eqb k n) t (subst (λ (j : ℕ). T (eqb k j)) e (eqb-refl k))
+
+module _ {A : Type 0} (a : A) where
+  not-refused : (n : ℕ) (cs : List Check) {q : ℕ} → Other n cs → first cs (value a) ≡ refused n q → ⊥
+  not-refused n [] o e = value-not-refused e
+  not-refused n (check true k p ∷ cs) o e = same-number k n (o .0) (cc)
+  not-refused n (check false k p ∷ cs) o e = not-refused n cs (o .1) e
+
+  refused-here : (cs : List Check) (b : Bool) (n p : ℕ) (ds : List Check) {q : ℕ} → Other n cs → Other n ds → first (cs ++ (check b n p ∷ ds)) (value a) ≡ refused n q → Passed cs × ((b ≡ true) × (p ≡ q))
+  refused-here [] true n p ds o u e = (tt, (refl, cc))
+  refused-here [] false n p ds o u e = absurd (not-refused n ds u e)
+  refused-here (check true k r ∷ cs) b n p ds o u e = absurd (same-number k n (o .0) (cc))
+  refused-here (check false k r ∷ cs) b n p ds o u e = let rest = refused-here cs b n p ds (o .1) u e in ((refl, rest .0), rest .1)
+
+-- the item at the first place that offends does offend
+place-offends : {A : Type 0} (bad : A → Bool) (xs : List A) (d : A) → place bad xs < length xs → bad (getD xs (place bad xs) d) ≡ true
+place-offends bad [] d h = absurd (not-suc-le-zero h)
+place-offends bad (x ∷ xs) d h = split (λ g. place-offends bad xs d g) (bad x) refl
+  where
+    split : (place bad xs < length xs → bad (getD xs (place bad xs) d) ≡ true) → (t : Bool) → bad x ≡ t → bad (getD (x ∷ xs) (place bad (x ∷ xs)) d) ≡ true
+    split rest true e = rw (place-bad bad x xs e) e
+    split rest false e = rw (place-good bad x xs e) (rest (let z = place-good bad x xs e in omega (arith, z, h)))
+
+-- 16 in a linear record names a radius that reads as infinite
+pub linear-refused : (bytes : List ℕ) → Below 256 bytes → hasRange (mapOf bytes) ≡ true → (p : ℕ) → readRecordOf bytes ≡ refused 16 p → getD (radiiOf bytes) p nan ≡ inf false
+unfolding readRecordOf
+linear-refused bytes b linear p told =
+    let before = headerChecks bytes ++ (wrongSize (differs (length bytes) (totalOf bytes)) bytes ∷ check (badBoundsFor (profileOf (mapOf bytes)) (boundsOf bytes)) 17 0 ∷ []) in
+    let behind = wrongPadding (indicesBytes bytes) (indicesUsed bytes) ∷ wrongPadding (signsBytes bytes) (projectionsOf bytes) ∷ [] in
+    let bad = place badRadius (radiiOf bytes) in
+    let found = refused-here (headerOf bytes) before (ltb bad (length (radiiOf bytes))) 16 bad behind (tt, (tt, (tt, (tt, (tt, (tt, (tt, (tt, (tt, (tt, tt)))))))))) (tt, (tt, tt)) told in
+    let passed = found .0 .1 .1 .1 .1 .1 .1 .1 .1 in
+    let below : bad < length (radiiOf bytes) = ltb-true bad (length (radiiOf bytes)) (found .1 .0) in
+    let sized : length bytes ≡ totalOf bytes = differs-same (length bytes) (totalOf bytes) (passed .0) in
+    let bounds : badBounds (boundsOf bytes) ≡ false = rw linear at (passed .1 .0) in
+    subst (λ (i : ℕ). getD (radiiOf bytes) i nan ≡ inf false) (found .1 .1)
+    (linear-record-infinite bytes b linear sized bounds bad (rw length-radiiOf at below) (place-offends badRadius (radiiOf bytes) nan below))

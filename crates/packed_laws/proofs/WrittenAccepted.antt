@@ -1,0 +1,92 @@
+-- What was written meets every condition on reading. Assumes nothing.
+use Prim.Native.Nat.{ℕ, _≤_, _<_}
+use mathlib.Core.Path.{_≡_, refl, sym, _∙_}
+use mathlib.Core.Bool.{true, false}
+use mathlib.Core.List.{List}
+use native.Mathlib.Omega.{arith}
+use borrow.Author.Tests.{ltb-false, eqb-false}
+use lib.Dec.{ltb, eqb}
+use lib.IntN.{ℤ}
+use lib.ListN.{length, getD}
+use lib.Ieee.{Float, nan}
+use Rattle.error.proofs.Chains.{or-false}
+use Rattle.radius.specs.Codec.{badProfile, rangeFor}
+use Rattle.radius.specs.Radii.{badRadius}
+use Rattle.radius.specs.declared.RadiusCodecProfileV1.{RadiusCodecProfileV1}
+use Rattle.radius.specs.declared.RadiusCodecProfileV1.the-variants.{F32, BlockLinearU16, BlockLogU8}
+use Rattle.radius.proofs.RoundTrip.{Floats}
+use Rattle.setup.specs.declared.TurboMode.{TurboMode}
+use Rattle.setup.specs.declared.TurboMode.the-variants.{PolarOnly, PolarWithQjl}
+use Rattle.packed.specs.Fields.{mapOf, hasRange, hasSigns}
+use Rattle.packed.specs.Layout.{headerLength}
+use Rattle.packed.specs.Radii.{badBounds}
+use Rattle.packed.specs.Reading.{badPolarBits, outsideProjections}
+use Rattle.packed.specs.Accepted.{Accepted}
+use Rattle.packed_writing.specs.Writing.{mapFor, countedFor}
+use Rattle.packed_laws.proofs.Ranges.{range-good}
+use Rattle.packed_laws.proofs.Inputs.{Written}
+use Rattle.packed_laws.proofs.Fields.{map-written, dim-written, bits-written, projections-written, bounds-written, length-written, total-written}
+use Rattle.packed_laws.proofs.Payloads.{bits-few, radii-written, indices-clean, signs-clean}
+
+true-not-false : {A : Type 0} → true ≡ false → A
+true-not-false e = let z : _≡_ {A = ℕ} 0 1 = cc in absurd (omega arith)
+
+map-most : (profile : RadiusCodecProfileV1) (mode : TurboMode) → mapFor profile mode ≤ 3
+map-most F32 PolarOnly = omega arith
+map-most F32 PolarWithQjl = omega arith
+map-most BlockLinearU16 PolarOnly = omega arith
+map-most BlockLinearU16 PolarWithQjl = omega arith
+map-most BlockLogU8 PolarOnly = omega arith
+map-most BlockLogU8 PolarWithQjl = omega arith
+
+-- without signs the map byte says so
+no-signs : (profile : RadiusCodecProfileV1) → hasSigns (mapFor profile PolarOnly) ≡ false
+no-signs F32 = refl
+no-signs BlockLinearU16 = refl
+no-signs BlockLogU8 = refl
+
+signs-bits : (profile : RadiusCodecProfileV1) (mode : TurboMode) (b : ℕ) → badPolarBits mode b ≡ false → hasSigns (mapFor profile mode) ≡ true → b ≤ 15
+signs-bits profile PolarOnly b e s = true-not-false (sym s ∙ no-signs profile)
+signs-bits profile PolarWithQjl b e s = ltb-false 15 b (or-false (ltb b 1) (ltb 15 b) e .1)
+
+signs-counted : (profile : RadiusCodecProfileV1) (mode : TurboMode) (m : ℕ) → outsideProjections mode m ≡ false → hasSigns (mapFor profile mode) ≡ true → (0 < countedFor mode m) × (countedFor mode m ≤ 4096)
+signs-counted profile PolarOnly m e s = true-not-false (sym s ∙ no-signs profile)
+signs-counted profile PolarWithQjl m e s =
+    let both = or-false (eqb m 0) (ltb 4096 m) e in
+    let above = eqb-false m 0 (both .0) in
+    (omega (arith, above), ltb-false 4096 m (both .1))
+
+-- the range of linear radii is one that a record may hold
+range-passes : (profile : RadiusCodecProfileV1) (mode : TurboMode) (radii : List Float) → badProfile profile ≡ false → ((i : ℕ) → i < length radii → badRadius (getD radii i nan) ≡ false)
+    → hasRange (mapFor profile mode) ≡ true → badBounds (rangeFor profile radii) ≡ false
+range-passes F32 PolarOnly radii e h t = true-not-false (sym t)
+range-passes F32 PolarWithQjl radii e h t = true-not-false (sym t)
+range-passes BlockLinearU16 mode radii e h t = range-good radii h
+range-passes BlockLogU8 mode radii e h t = true-not-false e
+
+module _ {profile : RadiusCodecProfileV1} {dim bits : ℕ} {mode : TurboMode} {m : ℕ} {radii : List Float} {indices : List ℕ} {signs : List ℤ} {room : ℕ} {bytes : List ℕ} (w : Written profile dim bits mode m radii indices signs room bytes) where
+  header-fits : headerLength (mapOf bytes) ≤ length bytes
+  header-fits = rw (map-written w) (omega (arith, length-written w, w .sized))
+
+  -- each of the reader's conditions holds of what was written
+  pub accepted-written : Floats radii → Accepted bytes
+  accepted-written f =
+      let b = bits-few mode bits (w .bits-inside) in
+      record {
+        long = omega (arith, header-fits);
+        map = rw (map-written w) (map-most profile mode);
+        above = rw (dim-written w) (w .above);
+        even = rw (dim-written w) (w .even);
+        one-bit = rw (dim-written w) (w .one-bit);
+        most = rw (dim-written w) (w .most);
+        least-bits = rw (bits-written w) (b .0);
+        most-bits = rw (bits-written w) (b .1);
+        residual-bits = rw (map-written w, bits-written w) (signs-bits profile mode bits (w .bits-inside));
+        header = header-fits;
+        projections = rw (map-written w, projections-written w) (signs-counted profile mode m (w .projections-inside));
+        total = length-written w ∙ sym (total-written w);
+        bounds = rw (map-written w, bounds-written w f) (range-passes profile mode radii (w .known) (w .radii-good));
+        radii = rw (radii-written w f) (w .read-good);
+        indices = indices-clean w;
+        signs = signs-clean w;
+      }

@@ -1,0 +1,97 @@
+-- What the writer's codecs answer once their inputs have passed: each payload, and the checks that are left. Assumes nothing.
+use Prim.Native.Nat.{ℕ, _+_, _-_, _*_, _/_, _^_, _≤_}
+use mathlib.Core.Path.{_≡_, refl, ap, _∙_}
+use mathlib.Core.Bool.{true, false}
+use mathlib.Core.List.{List, [], _∷_}
+use borrow.Author.Tests.{le-ltb, eq-eqb}
+use lib.Dec.{ltb}
+use lib.IntN.{ℤ}
+use lib.ListN.{length, length-append}
+use Rattle.float.specs.Bytes.{toLeBytes}
+use Rattle.float.proofs.Bytes.{length-toLeBytes}
+use lib.Ieee.{Float}
+use Rattle.error.specs.Answer.{value, refused, check, place, first, each, accepted, done}
+use Rattle.error.proofs.Chains.{first-done, append-refused, append-passed}
+use Rattle.bitpack.specs.Padding.{bytesFor}
+use Rattle.bitpack.specs.Packing.{badIndex, packIndicesOf}
+use Rattle.bitpack.specs.Signs.{badSketchSign, packSignsOf}
+use Rattle.radius.specs.Codec.{badProfile, widthOf, compressChecks, rangeFor, compressRangeOf}
+use Rattle.radius.specs.Radii.{badRadius}
+use Rattle.radius.specs.declared.Range.{Range}
+use Rattle.radius.specs.declared.RadiusCodecProfileV1.{RadiusCodecProfileV1}
+use Rattle.radius.specs.declared.RadiusCodecProfileV1.the-variants.{F32, BlockLinearU16, BlockLogU8}
+use Rattle.setup.specs.declared.TurboMode.{TurboMode}
+use Rattle.setup.specs.declared.TurboMode.the-variants.{PolarOnly, PolarWithQjl}
+use Rattle.setup.specs.Setups.{byMode}
+use Rattle.packed.specs.Layout.{headerLength}
+use Rattle.packed.specs.Reading.{outsideProjections, shapeChecks}
+use Rattle.packed_writing.specs.Writing.{byProfile, mapFor, countedFor, rangeBytes, indexBytes, signBytes, lengthChecks, fieldChecks}
+
+-- ---- the header's length
+
+pub header-long : (profile : RadiusCodecProfileV1) (mode : TurboMode) → headerLength (mapFor profile mode) ≡ 6 + byProfile profile 0 8 + byMode mode 0 4
+header-long F32 PolarOnly = refl
+header-long F32 PolarWithQjl = refl
+header-long BlockLinearU16 PolarOnly = refl
+header-long BlockLinearU16 PolarWithQjl = refl
+header-long BlockLogU8 PolarOnly = refl
+header-long BlockLogU8 PolarWithQjl = refl
+
+-- ---- the scalars' checks leave those of the lengths
+
+module _ (profile : RadiusCodecProfileV1) (dim bits : ℕ) (mode : TurboMode) (m radii indices signs : ℕ) (known : badProfile profile ≡ false) where
+  pub fields-shape : {n p : ℕ} → first (shapeChecks mode dim bits) accepted ≡ refused n p → first (fieldChecks profile dim bits mode m radii indices signs) accepted ≡ refused n p
+  fields-shape e = rw known (append-refused (shapeChecks mode dim bits) (check (outsideProjections mode m) 8 m ∷ lengthChecks (dim / 2) (countedFor mode m) radii indices signs) tt accepted e)
+
+  module _ (pass : first (shapeChecks mode dim bits) accepted ≡ accepted) where
+    left : first (fieldChecks profile dim bits mode m radii indices signs) accepted ≡ first (check (outsideProjections mode m) 8 m ∷ lengthChecks (dim / 2) (countedFor mode m) radii indices signs) accepted
+    left = rw known (append-passed (shapeChecks mode dim bits) (check (outsideProjections mode m) 8 m ∷ lengthChecks (dim / 2) (countedFor mode m) radii indices signs) tt accepted pass)
+
+    pub fields-projections : outsideProjections mode m ≡ true → first (fieldChecks profile dim bits mode m radii indices signs) accepted ≡ refused 8 m
+    fields-projections e = left ∙ rw e
+
+    pub fields-rest : outsideProjections mode m ≡ false → first (fieldChecks profile dim bits mode m radii indices signs) accepted ≡ first (lengthChecks (dim / 2) (countedFor mode m) radii indices signs) accepted
+    fields-rest e = left ∙ rw e
+
+-- ---- radii
+
+module _ (radii : List Float) (profile : RadiusCodecProfileV1) (room : ℕ) (known : badProfile profile ≡ false) (exact : room ≡ widthOf profile * length radii) where
+  pub radii-checked : compressRangeOf radii profile room ≡ first (each badRadius 16 radii ∷ []) (value (rangeFor profile radii))
+  unfolding compressRangeOf
+  radii-checked = rw (known, eq-eqb _ _ exact)
+
+  pub radii-pass : ltb (place badRadius radii) (length radii) ≡ false → first (compressChecks radii profile room) accepted ≡ accepted
+  radii-pass good = rw (good, known, eq-eqb _ _ exact)
+
+-- ---- indices
+
+module _ (indices : List ℕ) (bits room : ℕ) (least : 1 ≤ bits) (most : bits ≤ 16) (fits : length indices * bits ≤ 2 ^ 64 - 1) (exact : room ≡ bytesFor (length indices * bits)) where
+  indices-left : packIndicesOf indices bits room ≡ first (each (badIndex bits) 15 indices ∷ []) (value (indexBytes bits indices))
+  unfolding packIndicesOf
+  indices-left = rw (le-ltb bits 1 least, le-ltb 16 bits most, le-ltb (2 ^ 64 - 1) (length indices * bits) fits, eq-eqb _ _ exact)
+
+  pub indices-checked : done (packIndicesOf indices bits room) ≡ first (each (badIndex bits) 15 indices ∷ []) accepted
+  indices-checked = ap done indices-left ∙ first-done (each (badIndex bits) 15 indices ∷ []) (indexBytes bits indices)
+
+  pub indices-pass : ltb (place (badIndex bits) indices) (length indices) ≡ false → packIndicesOf indices bits room ≡ value (indexBytes bits indices)
+  indices-pass good = indices-left ∙ rw good
+
+-- ---- signs
+
+module _ (signs : List ℤ) (room : ℕ) (exact : room ≡ bytesFor (length signs)) where
+  signs-left : packSignsOf signs room ≡ first (each badSketchSign 10 signs ∷ []) (value (signBytes signs))
+  unfolding packSignsOf
+  signs-left = rw (eq-eqb _ _ exact)
+
+  pub signs-checked : done (packSignsOf signs room) ≡ first (each badSketchSign 10 signs ∷ []) accepted
+  signs-checked = ap done signs-left ∙ first-done (each badSketchSign 10 signs ∷ []) (signBytes signs)
+
+  pub signs-pass : ltb (place badSketchSign signs) (length signs) ≡ false → packSignsOf signs room ≡ value (signBytes signs)
+  signs-pass good = signs-left ∙ rw good
+
+-- ---- the range's bytes
+
+pub range-long : (profile : RadiusCodecProfileV1) (range : Range) → length (rangeBytes profile range) ≡ byProfile profile 0 8
+range-long F32 range = refl
+range-long BlockLinearU16 range = length-append (toLeBytes (range .min)) (toLeBytes (range .max)) ∙ rw (length-toLeBytes (range .min), length-toLeBytes (range .max))
+range-long BlockLogU8 range = refl

@@ -1,0 +1,384 @@
+// Writing the record that `packed` reads: a polar code and, beside it, a residual sketch, as bytes. Ported from turbo-quant/src/packed.rs and
+// changed: the byte layout is this port's own, inputs and output are lent, refusals are numbers.
+use error::DIMENSION_MISMATCH;
+use error::MALFORMED_RADIUS;
+use error::OUTPUT_LENGTH;
+use error::Outcome;
+use error::UNDEFINED_PROFILE;
+use error::ZERO_PROJECTION_COUNT;
+use radius::Compressed;
+use radius::RadiusCodecProfileV1;
+use radius::Range;
+use setup::Setup;
+use setup::TurboMode;
+ghost use Prim.Native.Nat.{_+_, _-_, _≤_};
+ghost use mathlib.Core.Path.{_≡_};
+ghost use mathlib.Core.Bool.{false};
+ghost use mathlib.Core.List.{_++_};
+ghost use lib.ListN.{length, take, drop};
+ghost use Rattle.error.specs.Answer.{value, first, accepted, done, after};
+ghost use Rattle.error.specs.Outcomes.{says};
+ghost use Rattle.digits.specs.Digits.{digits};
+ghost use Rattle.float.specs.Bytes.{toLeBytes};
+ghost use Rattle.bitpack.specs.Packing.{packIndicesOf};
+ghost use Rattle.bitpack.specs.Signs.{packSignsOf};
+ghost use Rattle.setup.specs.Setups.{byMode};
+ghost use Rattle.radius.specs.Codec.{badProfile, compressChecks, rangeFor, payloadFor};
+ghost use Rattle.packed.specs.Layout.{headerLength};
+ghost use Rattle.packed_writing.specs.Writing.{byProfile, mapFor, rangeBytes, projectionBytes, headerBytes, indexBytes, signBytes, lengthChecks, fieldChecks, radiusChecks, indexChecks, signChecks, valueChecks, writeRecordOf};
+ghost use Rattle.packed_writing.specs.Conditions.{Sized, CodesReady, Payloads};
+
+// Writes a record into exactly the bytes that it needs. Without signs the projections are ignored.
+pub fn write_record(
+    profile: RadiusCodecProfileV1,
+    dim: usize,
+    bits: u8,
+    mode: TurboMode,
+    projections: usize,
+    radii: &[f32],
+    indices: &[u16],
+    signs: &[i8],
+    out: &mut [u8],
+) -> Outcome
+    ensures said { λ r. ⌜ says r ≡ done (writeRecordOf profile dim bits mode projections (now (radii .entry)) (now (indices .entry)) (now (signs .entry)) (length (now (out .entry)))) ⌝ }
+    ensures left { λ r. ⌜ now (out .exit) ≡ after (writeRecordOf profile dim bits mode projections (now (radii .entry)) (now (indices .entry)) (now (signs .entry)) (length (now (out .entry)))) (now (out .entry)) ⌝ }
+{
+    if let Outcome::Refused { number, place } = check_fields(
+        profile,
+        dim,
+        bits,
+        mode,
+        projections,
+        radii.len(),
+        indices.len(),
+        signs.len(),
+    ) {
+        return Outcome::Refused { number, place };
+    }
+    if let Outcome::Refused { number, place } = check_values(profile, bits, radii, indices, signs) {
+        return Outcome::Refused { number, place };
+    }
+    let head = packed::header_length(map_for(profile, mode));
+    let body = packed::width_of(profile) * radii.len();
+    let codes = (indices.len() * (bits as usize) + 7) / 8;
+    let need = head + body + codes + (signs.len() + 7) / 8;
+    if out.len() != need {
+        return Outcome::Refused {
+            number: OUTPUT_LENGTH,
+            place: need,
+        };
+    }
+    let range = put_payloads(radii, profile, indices, bits, signs, &mut out[head..]);
+    put_header(
+        profile,
+        dim,
+        bits,
+        mode,
+        projections,
+        range,
+        &mut out[0..head],
+    );
+    Outcome::Done
+}
+
+// The checks of what is to be written but for the values: the scalars, then the lengths.
+fn check_fields(
+    profile: RadiusCodecProfileV1,
+    dim: usize,
+    bits: u8,
+    mode: TurboMode,
+    projections: usize,
+    radii: usize,
+    indices: usize,
+    signs: usize,
+) -> Outcome
+    ensures { λ r. ⌜ says r ≡ first (fieldChecks profile dim bits mode projections radii indices signs) accepted ⌝ }
+{
+    if is_log(profile) {
+        return Outcome::Refused {
+            number: UNDEFINED_PROFILE,
+            place: 0,
+        };
+    }
+    if let Outcome::Refused { number, place } = packed::check_shape(mode, dim, bits) {
+        return Outcome::Refused { number, place };
+    }
+    if packed::outside_projections(mode, projections) {
+        return Outcome::Refused {
+            number: ZERO_PROJECTION_COUNT,
+            place: projections,
+        };
+    }
+    let needed = setup::counted_projections(Setup {
+        mode,
+        dim,
+        bits,
+        projections,
+    });
+    check_lengths(dim / 2, needed, radii, indices, signs)
+}
+
+// The lengths of radii, indices and signs: one of each for a pair, and a sign for each projection.
+fn check_lengths(
+    pairs: usize,
+    projections: usize,
+    radii: usize,
+    indices: usize,
+    signs: usize,
+) -> Outcome
+    ensures { λ r. ⌜ says r ≡ first (lengthChecks pairs projections radii indices signs) accepted ⌝ }
+{
+    if radii != pairs {
+        return Outcome::Refused {
+            number: DIMENSION_MISMATCH,
+            place: radii,
+        };
+    }
+    if indices != pairs {
+        return Outcome::Refused {
+            number: DIMENSION_MISMATCH,
+            place: indices,
+        };
+    }
+    if signs != projections {
+        return Outcome::Refused {
+            number: DIMENSION_MISMATCH,
+            place: signs,
+        };
+    }
+    Outcome::Done
+}
+
+// The checks of radii, indices and signs of lengths that fit.
+fn check_values(
+    profile: RadiusCodecProfileV1,
+    bits: u8,
+    radii: &[f32],
+    indices: &[u16],
+    signs: &[i8],
+) -> Outcome
+    requires { ⌜ Sized profile bits (length (now radii)) (length (now indices)) (length (now signs)) ⌝ }
+    ensures { λ r. ⌜ says r ≡ first (valueChecks profile bits (now (radii .entry)) (now (indices .entry)) (now (signs .entry))) accepted ⌝ }
+{
+    if let Outcome::Refused { number, place } = check_radii(profile, radii) {
+        return Outcome::Refused { number, place };
+    }
+    if let Outcome::Refused { number, place } = check_indices(bits, indices) {
+        return Outcome::Refused { number, place };
+    }
+    check_signs(signs)
+}
+
+// The checks of radii, as they are and as they would be read back.
+fn check_radii(profile: RadiusCodecProfileV1, radii: &[f32]) -> Outcome
+    requires { ⌜ (badProfile profile ≡ false) × (length (now radii) ≤ 2048) ⌝ }
+    ensures { λ r. ⌜ says r ≡ first (radiusChecks profile (now (radii .entry))) accepted ⌝ }
+{
+    let mut scratch = zeros();
+    let long = packed::width_of(profile) * radii.len();
+    match radius::compress(radii, profile, &mut scratch[0..long]) {
+        Compressed::Made(range) => {
+            let bad = packed::first_bad(&scratch[0..long], profile, range);
+            if bad < radii.len() {
+                return Outcome::Refused {
+                    number: MALFORMED_RADIUS,
+                    place: bad,
+                };
+            }
+            Outcome::Done
+        }
+        Compressed::Refused { number, place } => Outcome::Refused { number, place },
+    }
+}
+
+// The check of indices.
+fn check_indices(bits: u8, indices: &[u16]) -> Outcome
+    requires { ⌜ (1 ≤ bits) × ((bits ≤ 16) × (length (now indices) ≤ 2048)) ⌝ }
+    ensures { λ r. ⌜ says r ≡ first (indexChecks bits (now (indices .entry))) accepted ⌝ }
+{
+    let mut scratch = zeros();
+    let long = (indices.len() * (bits as usize) + 7) / 8;
+    bitpack::pack_indices(indices, bits, &mut scratch[0..long])
+}
+
+// The check of signs.
+fn check_signs(signs: &[i8]) -> Outcome
+    requires { ⌜ length (now signs) ≤ 4096 ⌝ }
+    ensures { λ r. ⌜ says r ≡ first (signChecks (now (signs .entry))) accepted ⌝ }
+{
+    let mut scratch = zeros();
+    let long = (signs.len() + 7) / 8;
+    bitpack_signs::pack_signs(signs, &mut scratch[0..long])
+}
+
+// Memory for the largest payload: 4 bytes for each of 2,048 radii.
+fn zeros() -> [u8; 8192] {
+    [0u8; 8192]
+}
+
+// Whether a profile is the one that is refused.
+fn is_log(profile: RadiusCodecProfileV1) -> bool
+    ensures { λ r. ⌜ r ≡ badProfile profile ⌝ }
+{
+    match profile {
+        RadiusCodecProfileV1::F32 => false,
+        RadiusCodecProfileV1::BlockLinearU16 => false,
+        RadiusCodecProfileV1::BlockLogU8 => true,
+    }
+}
+
+// The map byte: bit 0 for linear radii, bit 1 for signs.
+fn map_for(profile: RadiusCodecProfileV1, mode: TurboMode) -> u8
+    ensures { λ r. ⌜ r ≡ mapFor profile mode ⌝ }
+{
+    linear_bit(profile) + signs_bit(mode)
+}
+
+// Bit 0 of the map byte.
+fn linear_bit(profile: RadiusCodecProfileV1) -> u8
+    ensures { λ r. ⌜ (r ≡ byProfile profile 0 1) × (r ≤ 1) ⌝ }
+{
+    match profile {
+        RadiusCodecProfileV1::F32 => 0,
+        RadiusCodecProfileV1::BlockLinearU16 => 1,
+        RadiusCodecProfileV1::BlockLogU8 => 0,
+    }
+}
+
+// Bit 1 of the map byte.
+fn signs_bit(mode: TurboMode) -> u8
+    ensures { λ r. ⌜ (r ≡ byMode mode 0 2) × (r ≤ 2) ⌝ }
+{
+    match mode {
+        TurboMode::PolarOnly => 0,
+        TurboMode::PolarWithQjl => 2,
+    }
+}
+
+// Writes radii, indices and signs that have passed their checks, one behind the other, and answers the range.
+fn put_payloads(
+    radii: &[f32],
+    profile: RadiusCodecProfileV1,
+    indices: &[u16],
+    bits: u8,
+    signs: &[i8],
+    out: &mut [u8],
+) -> Range
+    requires { ⌜ Payloads (now radii) profile (now indices) bits (now signs) (length (now out)) ⌝ }
+    ensures is { λ r. ⌜ r ≡ rangeFor profile (now (radii .entry)) ⌝ }
+    ensures left { λ r. ⌜ now (out .exit) ≡ payloadFor profile (now (radii .entry)) ++ (indexBytes bits (now (indices .entry)) ++ signBytes (now (signs .entry))) ⌝ }
+{
+    let body = packed::width_of(profile) * radii.len();
+    put_codes(indices, bits, signs, &mut out[body..]);
+    put_radii(radii, profile, &mut out[0..body])
+}
+
+// Writes indices and signs that have passed their checks, one behind the other.
+fn put_codes(indices: &[u16], bits: u8, signs: &[i8], out: &mut [u8])
+    requires { ⌜ CodesReady (now indices) bits (now signs) (length (now out)) ⌝ }
+    ensures { λ r. ⌜ now (out .exit) ≡ indexBytes bits (now (indices .entry)) ++ signBytes (now (signs .entry)) ⌝ }
+{
+    let codes = (indices.len() * (bits as usize) + 7) / 8;
+    put_signs(signs, &mut out[codes..]);
+    put_indices(indices, bits, &mut out[0..codes]);
+}
+
+// Writes radii that have passed their checks, and answers their range.
+fn put_radii(radii: &[f32], profile: RadiusCodecProfileV1, out: &mut [u8]) -> Range
+    requires { ⌜ first (compressChecks (now radii) profile (length (now out))) accepted ≡ accepted ⌝ }
+    ensures is { λ r. ⌜ r ≡ rangeFor profile (now (radii .entry)) ⌝ }
+    ensures left { λ r. ⌜ now (out .exit) ≡ payloadFor profile (now (radii .entry)) ⌝ }
+{
+    match radius::compress(radii, profile, out) {
+        Compressed::Made(range) => range,
+        Compressed::Refused {
+            number: _,
+            place: _,
+        } => Range { min: 0.0, max: 0.0 },
+    }
+}
+
+// Writes indices that have passed their checks.
+fn put_indices(indices: &[u16], bits: u8, out: &mut [u8])
+    requires { ⌜ packIndicesOf (now indices) bits (length (now out)) ≡ value (indexBytes bits (now indices)) ⌝ }
+    ensures { λ r. ⌜ now (out .exit) ≡ indexBytes bits (now (indices .entry)) ⌝ }
+{
+    bitpack::pack_indices(indices, bits, out);
+}
+
+// Writes signs that have passed their checks.
+fn put_signs(signs: &[i8], out: &mut [u8])
+    requires { ⌜ packSignsOf (now signs) (length (now out)) ≡ value (signBytes (now signs)) ⌝ }
+    ensures { λ r. ⌜ now (out .exit) ≡ signBytes (now (signs .entry)) ⌝ }
+{
+    bitpack_signs::pack_signs(signs, out);
+}
+
+// Writes the header.
+fn put_header(
+    profile: RadiusCodecProfileV1,
+    dim: usize,
+    bits: u8,
+    mode: TurboMode,
+    projections: usize,
+    range: Range,
+    out: &mut [u8],
+)
+    requires { ⌜ length (now out) ≡ headerLength (mapFor profile mode) ⌝ }
+    ensures { λ r. ⌜ now (out .exit) ≡ headerBytes profile dim bits mode projections range ⌝ }
+{
+    out[0] = map_for(profile, mode);
+    put_u32(out, 1, dim);
+    out[5] = bits;
+    put_range(out, profile, range);
+    put_projections(out, mode, projections);
+}
+
+// The range at byte 6, for linear radii.
+fn put_range(out: &mut [u8], profile: RadiusCodecProfileV1, range: Range)
+    requires { ⌜ 6 + byProfile profile 0 8 ≤ length (now out) ⌝ }
+    ensures { λ r. ⌜ now (out .exit) ≡ take 6 (now (out .entry)) ++ rangeBytes profile range ++ drop (6 + byProfile profile 0 8) (now (out .entry)) ⌝ }
+{
+    match profile {
+        RadiusCodecProfileV1::F32 => {}
+        RadiusCodecProfileV1::BlockLinearU16 => {
+            put_f32(out, 6, range.min);
+            put_f32(out, 10, range.max);
+        }
+        RadiusCodecProfileV1::BlockLogU8 => {}
+    }
+}
+
+// The projections in the last four bytes of a header, beside signs.
+fn put_projections(out: &mut [u8], mode: TurboMode, projections: usize)
+    requires { ⌜ byMode mode 0 4 ≤ length (now out) ⌝ }
+    ensures { λ r. ⌜ now (out .exit) ≡ take (length (now (out .entry)) - byMode mode 0 4) (now (out .entry)) ++ projectionBytes mode projections ⌝ }
+{
+    if let TurboMode::PolarWithQjl = mode {
+        let at = out.len() - 4;
+        put_u32(out, at, projections);
+    }
+}
+
+// The four bytes of a number at `at`, the least significant first.
+fn put_u32(out: &mut [u8], at: usize, n: usize)
+    requires { ⌜ at + 4 ≤ length (now out) ⌝ }
+    ensures { λ r. ⌜ now (out .exit) ≡ take at (now (out .entry)) ++ digits 256 4 n ++ drop (at + 4) (now (out .entry)) ⌝ }
+{
+    out[at] = (n % 256) as u8;
+    out[at + 1] = (n / 256 % 256) as u8;
+    out[at + 2] = (n / 256 / 256 % 256) as u8;
+    out[at + 3] = (n / 256 / 256 / 256 % 256) as u8;
+}
+
+// The four bytes of a float at `at`, the least significant first.
+fn put_f32(out: &mut [u8], at: usize, x: f32)
+    requires { ⌜ at + 4 ≤ length (now out) ⌝ }
+    ensures { λ r. ⌜ now (out .exit) ≡ take at (now (out .entry)) ++ toLeBytes x ++ drop (at + 4) (now (out .entry)) ⌝ }
+{
+    let bytes = float::to_le_bytes(x);
+    out[at] = bytes[0];
+    out[at + 1] = bytes[1];
+    out[at + 2] = bytes[2];
+    out[at + 3] = bytes[3];
+}

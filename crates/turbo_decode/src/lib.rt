@@ -1,0 +1,87 @@
+// A record decoded approximately: its pairs, rotated back.
+// Ported from turbo-quant/src/turbo.rs (`decode_approximate`) and changed: the code is a record's bytes, the tables are lent, the output is lent, and an
+// error is a number and a place.
+
+use error::OUTPUT_LENGTH;
+use error::Outcome;
+use packed::Reading;
+use setup::Setup;
+ghost use mathlib.Core.Path.{_≡_};
+ghost use lib.ListN.{length};
+ghost use Rattle.error.specs.Answer.{done, after};
+ghost use Rattle.error.specs.Outcomes.{says};
+ghost use Rattle.rotation.specs.Rotation.{unrotated};
+ghost use Rattle.polar.specs.Polar.{decodedPairs};
+ghost use Rattle.packed.specs.Reading.{radiiOf, indicesOf};
+ghost use Rattle.turbo_decode.specs.Decode.{decodeApproximateOf};
+ghost use Rattle.turbo_decode.specs.Decodable.{Paired, Decodable};
+
+// Decodes a record into the output. Infinities in the output pass.
+pub fn decode_approximate(
+    setup: Setup,
+    signs: &[f32],
+    directions: &[f32],
+    matrix: &[f32],
+    bytes: &[u8],
+    out: &mut [f32],
+) -> Outcome
+    ensures said { λ r. ⌜ says r ≡ done (decodeApproximateOf setup (now (signs .entry)) (now (directions .entry)) (now (matrix .entry)) (now (bytes .entry)) (length (now (out .entry)))) ⌝ }
+    ensures left { λ _. ⌜ now (out .exit) ≡ after (decodeApproximateOf setup (now (signs .entry)) (now (directions .entry)) (now (matrix .entry)) (now (bytes .entry)) (length (now (out .entry)))) (now (out .entry)) ⌝ }
+{
+    let checked = setup::check_setup(setup, signs, directions, matrix);
+    if let Outcome::Refused { number, place } = checked {
+        return Outcome::Refused { number, place };
+    }
+    let opened = turbo_scoring::open_record(setup, bytes);
+    if let Reading::Refused { number, place } = opened {
+        return Outcome::Refused { number, place };
+    }
+    let dim = setup.dim;
+    if out.len() != dim {
+        return Outcome::Refused {
+            number: OUTPUT_LENGTH,
+            place: dim,
+        };
+    }
+    decode(signs, directions, bytes, out);
+    Outcome::Done
+}
+
+// The pairs of an opened record, rotated back into an output of its dimension.
+fn decode(signs: &[f32], directions: &[f32], bytes: &[u8], out: &mut [f32])
+    requires { ⌜ Decodable (now signs) (now bytes) (length (now out)) ⌝ }
+    ensures { λ _. ⌜ now (out .exit) ≡ unrotated (length (now (out .entry))) (now (signs .entry)) (decodedPairs (now (directions .entry)) (indicesOf (now (bytes .entry))) (radiiOf (now (bytes .entry)))) ⌝ }
+{
+    let dim = out.len();
+    let mut values = no_values();
+    read_pairs(directions, bytes, &mut values[0..dim]);
+    rotation::apply_inverse(dim, signs, &values[0..dim], out);
+}
+
+// The pairs of an opened record, into values of its dimension.
+fn read_pairs(directions: &[f32], bytes: &[u8], values: &mut [f32])
+    requires { ⌜ Paired (now bytes) (length (now values)) ⌝ }
+    ensures { λ _. ⌜ now (values .exit) ≡ decodedPairs (now (directions .entry)) (indicesOf (now (bytes .entry))) (radiiOf (now (bytes .entry))) ⌝ }
+{
+    let pairs = values.len() / 2;
+    let mut radii = no_radii();
+    let mut indices = no_indices();
+    packed_parts::read_radii(bytes, &mut radii[0..pairs]);
+    packed_parts::read_indices(bytes, &mut indices[0..pairs]);
+    polar::polar_pairs(directions, &indices[0..pairs], &radii[0..pairs], values);
+}
+
+// Room for the values of a record, of which there are at most 4,096.
+fn no_values() -> [f32; 4096] {
+    [0.0f32; 4096]
+}
+
+// Room for the radii of a record: one for two values.
+fn no_radii() -> [f32; 2048] {
+    [0.0f32; 2048]
+}
+
+// Room for the indices of a record: one for two values.
+fn no_indices() -> [u16; 2048] {
+    [0u16; 2048]
+}

@@ -1,0 +1,33 @@
+-- `query::fill_query` meets its contract: neither the rotation nor the projection refuses. Assumes nothing.
+use mathlib.Core.Path.{_∙_}
+use borrow.Author.Needs.{needs}
+use Rattle.error.proofs.Answers.{after-value}
+use Rattle.rotation.proofs.Applied.{applied-value}
+use Rattle.qjl.proofs.Answers.{project-ready}
+use Rattle.turbo_query.proofs.fill_query.Statement.{statement}
+use Rattle.turbo_query.proofs.fill_query.Tie as tie
+
+apply-requires : tie.Need-apply-requires
+apply-requires c κs = search needs
+
+project-requires : tie.Need-project-requires
+project-requires c κs = search needs
+
+same-length : tie.Need-same-length
+same-length c = search needs
+
+same-length-2 : tie.Need-same-length-2
+same-length-2 c = search needs
+
+returns : tie.Need-returns
+returns c =
+    let p = c .before .before in
+    let a = p .before .before .before .before in
+    let s = a .before .before .before .before .before .before .before in (
+      a .apply .ensures .1 ∙ after-value _ _ (applied-value (s .args .dim) (s .args .signs .now) (s .args .query .now) _ (s .pre .0)),
+      p .project .ensures .1 ∙ after-value _ _ (project-ready (s .args .dim) (s .args .matrix .now) (s .args .query .now) _ (s .pre .1)),
+    )
+
+pub fill-query-spec : {M : Type 1} → statement M
+fill-query-spec =
+    tie.close (tie.spec apply-requires project-requires same-length same-length-2 returns)

@@ -1,0 +1,18 @@
+-- `scoring::finite_score` meets its contract: each return is one case of the answer's laws. Assumes nothing.
+use mathlib.Core.Path.{sym, _∙_}
+use Rattle.turbo_scoring.proofs.Answers.{score-finite}
+use borrow.Author.Needs.{needs}
+use Rattle.turbo_scoring.proofs.finite_score.Statement.{statement}
+use Rattle.turbo_scoring.proofs.finite_score.Tie as tie
+
+is-finite-requires : tie.Need-is-finite-requires
+is-finite-requires c κs = search needs
+
+returns : tie.Need-returns
+returns c = sym (score-finite (c .before .before .args .score) (sym (c .before .is-finite .ensures) ∙ c .if1 .taken))
+
+returns-2 : tie.Need-returns-2
+returns-2 c = search needs
+
+pub finite-score-spec : {M : Type 1} → statement M
+finite-score-spec = tie.close (tie.spec is-finite-requires returns returns-2)
