@@ -13,7 +13,7 @@ use Rattle.digits.specs.Digits.{number, digits}
 use Rattle.error.specs.Checks.{wrongBits, wrongRoom}
 use Rattle.bitpack.specs.Padding.{bytesFor, validatePaddingZeroOf, wrongLength, wrongPadding}
 use Rattle.bitpack.specs.Packing.{packedLenOf, packIndicesOf, unpackIndicesOf, badIndex, wrongOverflow}
-use Rattle.bitpack.specs.Asked.{Packable, Unpackable}
+use Rattle.bitpack.specs.Inner.{Packable, Unpackable}
 use Rattle.error.proofs.Chains.{append-refused, append-passed, first-value, first-passes, or-false}
 
 -- ---- the length

@@ -6,7 +6,7 @@ use native.Mathlib.Nat.{zero-add, one-mul, mul-le-mul-right}
 use native.Mathlib.Omega.{arith}
 use lib.ListN.{length, getD, take, drop, set, length-set}
 use Rattle.digits.specs.Digits.{number, digits}
-use Rattle.bitpack.specs.Asked.{Unpackable, Eights, Window, Refillable, Refilled}
+use Rattle.bitpack.specs.Inner.{Unpackable, Eights, Window, Refillable, Refilled}
 use Rattle.bitpack.proofs.Digits.{number-drop, write-next, write-end}
 use Rattle.bitpack.proofs.Windows.{shift-in, shift-in-fits, low-out, shift-out, shift-out-fits}
 

@@ -1,4 +1,4 @@
 pub mod Padding
 pub mod Packing
 pub mod Signs
-pub mod Asked
+pub mod Inner

@@ -6,17 +6,10 @@ use mathlib.Core.Bool.{Bool}
 use mathlib.Core.List.{List, [], _∷_}
 use lib.Dec.{leb, ltb}
 use lib.ListN.{length}
-use Rattle.error.specs.Answer.{Answer, value, refused, Check, check, first, each}
+use Rattle.error.specs.Answer.{Answer, value, Check, check, first, place, each}
 use Rattle.error.specs.Checks.{wrongBits, wrongRoom}
 use Rattle.digits.specs.Digits.{number, digits}
 use Rattle.bitpack.specs.Padding.{bytesFor, wrongLength, wrongPadding}
-use Rattle.bitpack.specs.declared.Length.{Length}
-use Rattle.bitpack.specs.declared.Length.the-variants.{Bytes, Refused}
-
--- what a `Length` says: a number of bytes, or a refusal
-abbrev pub saysLength : Length → Answer ℕ
-saysLength (Bytes n) = value n
-saysLength (Refused n p) = refused n p
 
 -- '19: count times bits exceeds the largest usize. Place 0.'
 abbrev pub wrongOverflow : ℕ → ℕ → Check
@@ -25,6 +18,10 @@ wrongOverflow count bits = check (ltb (2 ^ 64 - 1) (count * bits)) 19 0
 -- '15: index at or above 2^bits. Place: its index'
 abbrev pub badIndex : ℕ → ℕ → Bool
 badIndex bits index = leb (2 ^ bits) index
+
+-- the place of the first index that is too large, or how many there are
+abbrev pub firstBadIndexOf : List ℕ → ℕ → ℕ
+firstBadIndexOf indices bits = place (badIndex bits) indices
 
 -- how many bytes so many indices of so many bits take
 unfoldable pub packedLenOf : ℕ → ℕ → Answer ℕ

@@ -5,7 +5,7 @@ use mathlib.Core.List.{List, [], _∷_, map}
 use lib.Dec.{eqb}
 use lib.IntN.{ℤ, pos, negsuc}
 use lib.ListN.{length}
-use Rattle.error.specs.Answer.{Answer, value, first, each}
+use Rattle.error.specs.Answer.{Answer, value, first, place, each}
 use Rattle.digits.specs.Digits.{number, digits}
 use Rattle.bitpack.specs.Padding.{bytesFor, wrongLength, wrongPadding}
 use Rattle.error.specs.Checks.{wrongRoom}
@@ -22,6 +22,10 @@ isMinus (negsuc n) = eqb n 0
 -- '10: a sign is neither −1 nor 1. Place: its index.'
 abbrev pub badSketchSign : ℤ → Bool
 badSketchSign z = not (isPlus z || isMinus z)
+
+-- the place of the first number that is no sign, or how many there are
+abbrev pub firstBadSketchSignOf : List ℤ → ℕ
+firstBadSketchSignOf signs = place badSketchSign signs
 
 -- 'Sign +1 is bit 1, −1 is bit 0.'
 abbrev pub bitOfSign : ℤ → ℕ

@@ -2,6 +2,7 @@
 // Packing order is little-endian within each byte: the first index starts at bit 0 of byte 0.
 use error::INVALID_BIT_WIDTH;
 use error::LENGTH_OVERFLOW;
+use error::Length;
 use error::MALFORMED_INDEX;
 use error::MALFORMED_LENGTH;
 use error::MALFORMED_PADDING;
@@ -12,18 +13,13 @@ ghost use mathlib.Core.Path.{_≡_};
 ghost use mathlib.Core.List.{_++_};
 ghost use lib.ListN.{length, take, drop};
 ghost use Rattle.error.specs.Answer.{place, done, after};
+ghost use Rattle.error.specs.Lengths.{saysLength};
 ghost use Rattle.error.specs.Outcomes.{says};
 ghost use Rattle.error.specs.Sweep.{clear};
 ghost use Rattle.digits.specs.Digits.{number, digits};
 ghost use Rattle.bitpack.specs.Padding.{validatePaddingZeroOf};
-ghost use Rattle.bitpack.specs.Asked.{Packable, Unpackable, Eights, Refillable, Refilled};
-ghost use Rattle.bitpack.specs.Packing.{packedLenOf, saysLength, badIndex, packIndicesOf, unpackIndicesOf};
-
-// A number of bytes, or a refusal.
-pub enum Length {
-    Bytes(usize),
-    Refused { number: u32, place: usize },
-}
+ghost use Rattle.bitpack.specs.Inner.{Packable, Unpackable, Eights, Refillable, Refilled};
+ghost use Rattle.bitpack.specs.Packing.{packedLenOf, badIndex, packIndicesOf, firstBadIndexOf, unpackIndicesOf};
 
 // Bits that were read and not yet handed out, and the next byte to read.
 struct Window {
@@ -64,7 +60,7 @@ pub fn pack_indices(indices: &[u16], bits: u8, out: &mut [u8]) -> Outcome
             return Outcome::Refused { number, place };
         }
     };
-    let bad = first_large(indices, bits);
+    let bad = first_bad_index(indices, bits);
     if bad < indices.len() {
         return Outcome::Refused {
             number: MALFORMED_INDEX,
@@ -103,6 +99,20 @@ pub fn unpack_indices(packed: &[u8], count: usize, bits: u8, out: &mut [u16]) ->
     Outcome::Done
 }
 
+// The place of the first index at or above 2^bits, or how many there are.
+pub fn first_bad_index(indices: &[u16], bits: u8) -> usize
+    ensures { λ r. ⌜ r ≡ firstBadIndexOf (now (indices .entry)) bits ⌝ }
+{
+    // No index is as large as that.
+    if 16 < bits {
+        return indices.len();
+    }
+    if all_small(indices, bits) {
+        return indices.len();
+    }
+    find_large(indices, bits)
+}
+
 // Whether the length is right and all bits from `used_bits` up are zero.
 pub fn validate_padding_zero(packed: &[u8], used_bits: usize) -> Outcome
     ensures { λ r. ⌜ says r ≡ validatePaddingZeroOf (now (packed .entry)) «used_bits» ⌝ }
@@ -128,17 +138,6 @@ pub fn validate_padding_zero(packed: &[u8], used_bits: usize) -> Outcome
     Outcome::Done
 }
 
-// The index of the first index at or above 2^bits, or how many there are.
-fn first_large(indices: &[u16], bits: u8) -> usize
-    requires { ⌜ bits ≤ 16 ⌝ }
-    ensures { λ r. ⌜ r ≡ place (badIndex bits) (now (indices .entry)) ⌝ }
-{
-    if all_small(indices, bits) {
-        return indices.len();
-    }
-    find_large(indices, bits)
-}
-
 // Whether no index is at or above 2^bits. The pass goes to the end, so that it is done for several indices at a time.
 fn all_small(indices: &[u16], bits: u8) -> bool
     requires { ⌜ bits ≤ 16 ⌝ }
@@ -156,7 +155,7 @@ fn all_small(indices: &[u16], bits: u8) -> bool
     ok
 }
 
-// The same index, one by one.
+// The place of the first index at or above 2^bits, found one by one, or how many indices there are.
 fn find_large(indices: &[u16], bits: u8) -> usize
     requires { ⌜ bits ≤ 16 ⌝ }
     ensures { λ r. ⌜ r ≡ place (badIndex bits) (now (indices .entry)) ⌝ }
@@ -187,24 +186,13 @@ fn pack_words(indices: &[u16], bits: u8, out: &mut [u8])
         held += width;
         i += 1;
         if 32 <= held {
-            put_word(out, k, acc);
+            digits::put_word(out, k, acc);
             k += 4;
             acc = acc >> 32;
             held -= 32;
         }
     }
     put_rest(out, k, acc);
-}
-
-// Four bytes at `at`: the lowest four of `word`.
-fn put_word(out: &mut [u8], at: usize, word: u64)
-    requires { ⌜ at + 4 ≤ length (now out) ⌝ }
-    ensures { λ r. ⌜ now (out .exit) ≡ take at (now (out .entry)) ++ digits 256 4 word ++ drop (at + 4) (now (out .entry)) ⌝ }
-{
-    out[at] = (word % 256) as u8;
-    out[at + 1] = (word / 256 % 256) as u8;
-    out[at + 2] = (word / 256 / 256 % 256) as u8;
-    out[at + 3] = (word / 256 / 256 / 256 % 256) as u8;
 }
 
 // All bytes from `from` on: the lowest of `rest`.
@@ -325,11 +313,7 @@ fn get_word(packed: &[u8], at: usize) -> u64
     requires { ⌜ at + 4 ≤ length (now packed) ⌝ }
     ensures { λ r. ⌜ (r ≡ number 256 (take 4 (drop at (now (packed .entry))))) × (r < 2 ^ 32) ⌝ }
 {
-    let a = packed[at] as u64;
-    let b = packed[at + 1] as u64;
-    let c = packed[at + 2] as u64;
-    let d = packed[at + 3] as u64;
-    a + 256 * (b + 256 * (c + 256 * d))
+    digits::word_of(packed[at], packed[at + 1], packed[at + 2], packed[at + 3]) as u64
 }
 
 // The eight bytes at `at` as a number.

@@ -37,7 +37,7 @@ pub plus-is-not : (z : ℤ) → SFits w8 z → (ofZ w8 z ≡ 1 → ⊥) → isPl
 plus-is-not z h e = sym (plus-bits z h) ∙ ne-eqb _ _ e
 
 -- a sign is written as it is
-either-back : (t : Bool) → toZ w8 (ofZ w8 (cond t (pos 1) (negsuc 0))) ≡ cond t (pos 1) (negsuc 0)
+pub either-back : (t : Bool) → toZ w8 (ofZ w8 (cond t (pos 1) (negsuc 0))) ≡ cond t (pos 1) (negsuc 0)
 either-back true = refl
 either-back false = refl
 

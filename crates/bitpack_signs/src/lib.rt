@@ -13,14 +13,14 @@ ghost use Rattle.error.specs.Outcomes.{says};
 ghost use Rattle.error.specs.Sweep.{clear};
 ghost use Rattle.digits.specs.Digits.{number, digits};
 ghost use Rattle.bitpack.specs.Padding.{bytesFor};
-ghost use Rattle.bitpack.specs.Signs.{badSketchSign, bitOfSign, signOfBit, packSignsOf, unpackSignsOf};
+ghost use Rattle.bitpack.specs.Signs.{badSketchSign, bitOfSign, signOfBit, packSignsOf, firstBadSketchSignOf, unpackSignsOf};
 
 // Packs signs, each -1 or 1, into exactly the bytes that they need: bit 1 is +1, bit 0 is -1.
 pub fn pack_signs(signs: &[i8], out: &mut [u8]) -> Outcome
     ensures said { λ r. ⌜ says r ≡ done (packSignsOf (now (signs .entry)) (length (now (out .entry)))) ⌝ }
     ensures left { λ r. ⌜ now (out .exit) ≡ after (packSignsOf (now (signs .entry)) (length (now (out .entry)))) (now (out .entry)) ⌝ }
 {
-    let stray = first_no_sign(signs);
+    let stray = first_bad_sketch_sign(signs);
     if stray < signs.len() {
         return Outcome::Refused {
             number: MALFORMED_SIGN,
@@ -56,6 +56,16 @@ pub fn unpack_signs(packed: &[u8], count: usize, out: &mut [i8]) -> Outcome
     Outcome::Done
 }
 
+// The place of the first number that is neither -1 nor 1, or how many there are.
+pub fn first_bad_sketch_sign(signs: &[i8]) -> usize
+    ensures { λ r. ⌜ r ≡ firstBadSketchSignOf (now (signs .entry)) ⌝ }
+{
+    if all_signs(signs) {
+        return signs.len();
+    }
+    find_no_sign(signs)
+}
+
 // Whether a number is neither -1 nor 1.
 fn no_sign(sign: i8) -> bool
     ensures { λ r. ⌜ r ≡ badSketchSign sign ⌝ }
@@ -64,16 +74,6 @@ fn no_sign(sign: i8) -> bool
         return false;
     }
     sign != -1
-}
-
-// The index of the first number that is neither -1 nor 1, or how many there are.
-fn first_no_sign(signs: &[i8]) -> usize
-    ensures { λ r. ⌜ r ≡ place badSketchSign (now (signs .entry)) ⌝ }
-{
-    if all_signs(signs) {
-        return signs.len();
-    }
-    find_no_sign(signs)
 }
 
 // Whether every number is -1 or 1. The pass goes to the end, so that it is done for several numbers at a time.
@@ -91,7 +91,7 @@ fn all_signs(signs: &[i8]) -> bool
     ok
 }
 
-// The same index, one by one.
+// The place of the first number that is neither -1 nor 1, found one by one, or how many numbers there are.
 fn find_no_sign(signs: &[i8]) -> usize
     ensures { λ r. ⌜ r ≡ place badSketchSign (now (signs .entry)) ⌝ }
 {

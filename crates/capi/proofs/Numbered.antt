@@ -8,7 +8,7 @@ use lib.IntN.{ℤ}
 use lib.ListN.{length}
 use lib.Ieee.{Float}
 use Rattle.error.specs.Answer.{Answer, value, refused, Check, check, first, each, accepted}
-use Rattle.error.specs.Checks.{wrongBits, wrongRoom, wrongIndex, wrongInput}
+use Rattle.error.specs.Checks.{wrongBits, wrongRoom, wrongIndex, wrongInput, wrongScore}
 use Rattle.error.proofs.Chains.{value-not-refused}
 use Rattle.bitpack.specs.Padding.{bytesFor, wrongLength, wrongPadding, validatePaddingZeroOf}
 use Rattle.bitpack.specs.Packing.{wrongOverflow, badIndex, packedLenOf, packIndicesOf, unpackIndicesOf}
@@ -21,21 +21,22 @@ use Rattle.radius.specs.declared.RadiusCodecProfileV1.{RadiusCodecProfileV1}
 use Rattle.radius.specs.declared.RadiusCodecProfileV1.the-variants.{F32, BlockLinearU16, BlockLogU8}
 use Rattle.rotation.specs.Checks.{rotationChecks}
 use Rattle.rotation.specs.Rotation.{applyOf, applyInverseOf}
+use Rattle.setup.specs.Lent.{Lent}
 use Rattle.setup.specs.declared.Setup.{Setup}
 use Rattle.setup.specs.declared.TurboMode.{TurboMode}
 use Rattle.setup.specs.declared.TurboMode.the-variants.{PolarOnly, PolarWithQjl}
 use Rattle.setup.specs.Setups.{countedProjectionsOf}
 use Rattle.setup.specs.Checks.{setupChecks}
-use Rattle.qjl.specs.Projection.{projected}
+use Rattle.rounding.specs.Rows.{projected}
 use Rattle.qjl.specs.Sketch.{vectorChecks, sketchOf}
-use Rattle.qjl.specs.Score.{signedChecks, unitResidual, wrongScore, signedScore, modeScore, sketchScoreOf}
+use Rattle.qjl.specs.Score.{signedChecks, unitResidual, signedScore, modeScore, sketchScoreOf}
+use Rattle.packed.specs.declared.Code.{Code}
 use Rattle.packed.specs.Layout.{pairsOf}
 use Rattle.packed.specs.Fields.{projectionsOf}
 use Rattle.packed.specs.Reading.{recordChecks, readRecordOf, readRadiiOf, readIndicesOf, readSignsOf}
 use Rattle.packed_writing.specs.Writing.{fieldChecks, valueChecks, neededFor, writeRecordOf}
 use Rattle.turbo_query.specs.Query.{prepareChecks, prepareRotatedOf}
-use Rattle.turbo_order.specs.Scores.{Lent}
-use Rattle.turbo_scoring.specs.Scoring.{recordScoreChecks}
+use Rattle.turbo.specs.Scoring.{recordScoreChecks}
 use Rattle.turbo.specs.Estimates.{estimateChecks, innerProductEstimateOf, readyChecks, innerProductEstimatePreparedOf}
 use Rattle.turbo.specs.Distance.{distance, l2DistanceEstimateOf}
 use Rattle.turbo_decode.specs.Decode.{decodeChecks, decodeApproximateOf}
@@ -143,21 +144,21 @@ pub inverse-numbered : (n : ℕ) (signs xs : List Float) (room : ℕ) → Number
 unfolding applyInverseOf
 inverse-numbered n signs xs room = chain (rotationChecks n signs (length xs) room) _ refl
 
-module _ (s : Setup) (signs directions matrix : List Float) where
-  pub setup-numbered : Numbered (first (setupChecks s signs directions matrix) accepted)
-  setup-numbered = chain (setupChecks s signs directions matrix) _ refl
+module _ (s : Setup) (l : Lent) where
+  pub setup-numbered : Numbered (first (setupChecks s l) accepted)
+  setup-numbered = chain (setupChecks s l) _ refl
 
-  pub sketch-numbered : (vector : List Float) (room : ℕ) → Numbered (sketchOf s signs directions matrix vector room)
+  pub sketch-numbered : (vector : List Float) (room : ℕ) → Numbered (sketchOf s l vector room)
   unfolding sketchOf
-  sketch-numbered vector room = chain (vectorChecks s signs directions matrix vector ++ wrongRoom room (countedProjectionsOf s) ∷ []) _ refl
+  sketch-numbered vector room = chain (vectorChecks s l vector ++ (wrongRoom room (countedProjectionsOf s) ∷ [])) _ refl
 
-  pub prepare-numbered : (query : List Float) (room space : ℕ) → Numbered (prepareRotatedOf s signs directions matrix query room space)
+  pub prepare-numbered : (query : List Float) (room space : ℕ) → Numbered (prepareRotatedOf s l query room space)
   unfolding prepareRotatedOf
-  prepare-numbered query room space = chain (prepareChecks s signs directions matrix query room space) _ refl
+  prepare-numbered query room space = chain (prepareChecks s l query room space) _ refl
 
-  pub decode-numbered : (bytes : List ℕ) (room : ℕ) → Numbered (decodeApproximateOf s signs directions matrix bytes room)
+  pub decode-numbered : (bytes : List ℕ) (room : ℕ) → Numbered (decodeApproximateOf s l bytes room)
   unfolding decodeApproximateOf
-  decode-numbered bytes room = chain (decodeChecks s signs directions matrix bytes room) _ refl
+  decode-numbered bytes room = chain (decodeChecks s l bytes room) _ refl
 
 mode-score-numbered : (mode : TurboMode) (n m : ℕ) (matrix query : List Float) (signs : List ℤ) → Numbered (modeScore mode n m matrix query signs)
 unfolding modeScore signedScore
@@ -165,21 +166,21 @@ mode-score-numbered PolarOnly n m matrix query signs = chain (wrongInput (length
 mode-score-numbered PolarWithQjl n m matrix query signs =
     chain (signedChecks m (projected n m matrix query) signs (unitResidual m (projected n m matrix query) signs)) _ refl
 
-pub sketch-score-numbered : (s : Setup) (signs directions matrix query : List Float) (sketch : List ℤ) → Numbered (sketchScoreOf s signs directions matrix query sketch)
+pub sketch-score-numbered : (s : Setup) (l : Lent) (query : List Float) (sketch : List ℤ) → Numbered (sketchScoreOf s l query sketch)
 unfolding sketchScoreOf
-sketch-score-numbered s signs directions matrix query sketch =
-    first-numbered (vectorChecks s signs directions matrix query) _ refl (mode-score-numbered (s .mode) (s .dim) (s .projections) matrix query sketch)
+sketch-score-numbered s l query sketch =
+    first-numbered (vectorChecks s l query) _ refl (mode-score-numbered (s .mode) (s .dim) (s .projections) (l .matrix) query sketch)
 
 -- ---- record
 
-pub write-numbered : (profile : RadiusCodecProfileV1) (dim bits : ℕ) (mode : TurboMode) (m : ℕ) (radii : List Float) (indices : List ℕ) (signs : List ℤ) (room : ℕ)
-    → Numbered (writeRecordOf profile dim bits mode m radii indices signs room)
+pub write-numbered : (code : Code) (radii : List Float) (indices : List ℕ) (signs : List ℤ) (room : ℕ)
+    → Numbered (writeRecordOf code radii indices signs room)
 unfolding writeRecordOf
-write-numbered profile dim bits mode m radii indices signs room =
+write-numbered code radii indices signs room =
     chain
-    (fieldChecks profile dim bits mode m (length radii) (length indices) (length signs)
-    ++ valueChecks profile bits radii indices signs
-    ++ (wrongRoom room (neededFor profile dim bits mode m) ∷ []))
+    (fieldChecks code (length radii) (length indices) (length signs)
+    ++ valueChecks (code .profile) (code .bits) radii indices signs
+    ++ (wrongRoom room (neededFor code) ∷ []))
     _ refl
 
 pub read-numbered : (bytes : List ℕ) → Numbered (readRecordOf bytes)
@@ -200,16 +201,16 @@ read-signs-numbered bytes room = chain (recordChecks bytes ++ (wrongRoom room (p
 
 -- ---- scores
 
-module _ (s : Setup) (l : Lent) (bytes : List ℕ) where
-  pub estimate-numbered : Numbered (innerProductEstimateOf s l bytes)
+module _ (s : Setup) (l : Lent) (query : List Float) (bytes : List ℕ) where
+  pub estimate-numbered : Numbered (innerProductEstimateOf s l query bytes)
   unfolding innerProductEstimateOf
-  estimate-numbered = chain (estimateChecks s l bytes) _ refl
+  estimate-numbered = chain (estimateChecks s l query bytes) _ refl
 
-  pub distance-numbered : Numbered (l2DistanceEstimateOf s l bytes)
+  pub distance-numbered : Numbered (l2DistanceEstimateOf s l query bytes)
   unfolding l2DistanceEstimateOf
-  distance-numbered = chain (estimateChecks s l bytes ++ (wrongScore (distance s l bytes) ∷ [])) _ refl
+  distance-numbered = chain (estimateChecks s l query bytes ++ (wrongScore (distance s l query bytes) ∷ [])) _ refl
 
-pub estimate-prepared-numbered : (s : Setup) (directions turned rows : List Float) (bytes : List ℕ) → Numbered (innerProductEstimatePreparedOf s directions turned rows bytes)
+pub estimate-prepared-numbered : (s : Setup) (directions rotated values : List Float) (bytes : List ℕ) → Numbered (innerProductEstimatePreparedOf s directions rotated values bytes)
 unfolding innerProductEstimatePreparedOf
-estimate-prepared-numbered s directions turned rows bytes =
-    chain (readyChecks s directions turned rows ++ recordScoreChecks s directions turned rows bytes) _ refl
+estimate-prepared-numbered s directions rotated values bytes =
+    chain (readyChecks s directions rotated values ++ recordScoreChecks s directions rotated values bytes) _ refl

@@ -1,10 +1,9 @@
 -- The numbers that stand for the cases of an enum on the C side, and the structs that are passed there as their fields. Assumes nothing.
 use Prim.Native.Nat.{ℕ}
 use mathlib.Core.Bool.{cond}
-use mathlib.Core.List.{List}
 use lib.Dec.{eqb}
 use lib.Ieee.{Float}
-use Rattle.turbo_order.specs.Scores.{Lent}
+use Rattle.packed.specs.declared.Code.{Code}
 use Rattle.packed.specs.declared.Header.{Header}
 use Rattle.radius.specs.declared.Range.{Range}
 use Rattle.radius.specs.declared.RadiusCodecProfileV1.{RadiusCodecProfileV1}
@@ -24,6 +23,10 @@ profileFrom code = cond (eqb code 0) F32 (cond (eqb code 1) BlockLinearU16 Block
 -- the scalars of a setup
 abbrev pub setupFrom : ℕ → ℕ → ℕ → ℕ → Setup
 setupFrom mode dim bits projections = record { mode = modeFrom mode; dim = dim; bits = bits; projections = projections }
+
+-- the scalars of a record
+abbrev pub codeFrom : ℕ → ℕ → ℕ → ℕ → ℕ → Code
+codeFrom profile dim bits mode projections = record { profile = profileFrom profile; mode = modeFrom mode; dim = dim; bits = bits; projections = projections }
 
 -- a range of two floats
 abbrev pub rangeFrom : Float → Float → Range
@@ -69,9 +72,3 @@ headerMin header = header .range .min
 
 abbrev pub headerMax : Header → Float
 headerMax header = header .range .max
-
--- ---- what a query is scored under
-
--- the tables that are lent beside a setup, and the query
-abbrev pub lentFrom : List Float → List Float → List Float → List Float → Lent
-lentFrom signs directions matrix query = record { signs = signs; directions = directions; matrix = matrix; query = query }

@@ -1,25 +1,23 @@
 // Each kind of answer into lent numbers: a refusal's number and place, or 0 and 0, and the value where there is one.
 use crate::codes;
-use bitpack::Length;
 use codebook::Dequantized;
 use codebook::LevelCount;
 use codebook::Made;
 use codebook::Quantized;
+use error::Length;
 use error::Outcome;
+use error::Scored;
 use packed::Reading;
 use polar::Angle;
-use qjl::Scored;
 use radius::Compressed;
-use radius::EncodedLength;
 ghost use mathlib.Core.Path.{_≡_};
 ghost use Rattle.error.specs.Answer.{after};
-ghost use Rattle.error.specs.Outcomes.{says};
-ghost use Rattle.bitpack.specs.Packing.{saysLength};
+ghost use Rattle.error.specs.Outcomes.{says, saysScore};
+ghost use Rattle.error.specs.Lengths.{saysLength};
 ghost use Rattle.codebook.specs.Says.{saysMade, saysCount, saysIndex, saysPoint};
 ghost use Rattle.packed.specs.Reading.{saysReading};
 ghost use Rattle.polar.specs.Angle.{saysAngle};
-ghost use Rattle.qjl.specs.Score.{saysScore};
-ghost use Rattle.radius.specs.Says.{saysRange, saysEncoded};
+ghost use Rattle.radius.specs.Says.{saysRange};
 ghost use Rattle.capi.specs.Told.{said, told, part};
 ghost use Rattle.capi.specs.Codes.{minOf, maxOf, headerMode, headerProfile, headerDim, headerBits, headerProjections, headerMin, headerMax};
 
@@ -165,27 +163,6 @@ pub fn tell_midpoint(answer: Dequantized, number: &mut u32, place: &mut usize, v
             *value = x;
         }
         Dequantized::Refused {
-            number: n,
-            place: p,
-        } => {
-            *number = n;
-            *place = p;
-        }
-    }
-}
-
-// The bytes of a payload with what goes with it.
-pub fn tell_encoded(answer: EncodedLength, number: &mut u32, place: &mut usize, value: &mut usize)
-    ensures answer { λ _. ⌜ said (now (number .exit)) (now (place .exit)) ≡ told (saysEncoded answer) ⌝ }
-    ensures left { λ _. ⌜ now (value .exit) ≡ after (saysEncoded answer) (now (value .entry)) ⌝ }
-{
-    match answer {
-        EncodedLength::Bytes(x) => {
-            *number = 0;
-            *place = 0;
-            *value = x;
-        }
-        EncodedLength::Refused {
             number: n,
             place: p,
         } => {

@@ -1,6 +1,6 @@
 // Radii in bytes and back. A profile is a number: 0 is F32, 1 BlockLinearU16, every other one BlockLogU8.
 use crate::answers::tell;
-use crate::answers::tell_encoded;
+use crate::answers::tell_length;
 use crate::answers::tell_range;
 use crate::codes;
 use radius::Range;
@@ -74,5 +74,5 @@ pub extern "C" fn foldrima_encoded_bytes(
     ensures left { λ _. ⌜ now (value .exit) ≡ after (encodedBytesOf (profileFrom profile) (now (payload .entry))) (now (value .entry)) ⌝ }
 {
     let chosen = codes::profile(profile);
-    tell_encoded(radius::encoded_bytes(chosen, payload), number, place, value);
+    tell_length(radius::encoded_bytes(chosen, payload), number, place, value);
 }

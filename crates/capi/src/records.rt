@@ -2,16 +2,16 @@
 use crate::answers::tell;
 use crate::answers::tell_reading;
 use crate::codes;
-use packed::Reading;
+use packed::Code;
 ghost use Prim.Native.Nat.{_+_, _≤_};
 ghost use mathlib.Core.Path.{_≡_};
 ghost use lib.ListN.{length, take, drop};
 ghost use Rattle.error.specs.Answer.{done, after};
 ghost use Rattle.packed.specs.Reading.{readRecordOf, radiiPartOf, indicesPartOf, signsPartOf, readRadiiOf, readIndicesOf, readSignsOf};
+ghost use Rattle.packed_parts.specs.Parts.{locateOf};
 ghost use Rattle.packed_writing.specs.Writing.{writeRecordOf};
 ghost use Rattle.capi.specs.Told.{said, told, part};
-ghost use Rattle.capi.specs.Codes.{modeFrom, profileFrom, headerMode, headerProfile, headerDim, headerBits, headerProjections, headerMin, headerMax};
-ghost use Rattle.capi.specs.Spans.{span, between, radiiStart, indicesStart, signsStart, signsEnd};
+ghost use Rattle.capi.specs.Codes.{codeFrom, headerMode, headerProfile, headerDim, headerBits, headerProjections, headerMin, headerMax};
 
 // Reads a record: its header, where nothing offends.
 #[no_mangle]
@@ -53,67 +53,40 @@ pub extern "C" fn foldrima_read_record(
 // Where the part of the record stands that holds the radii; empty where the record is refused.
 #[no_mangle]
 pub extern "C" fn foldrima_radii_part(bytes: &[u8], start: &mut usize, count: &mut usize)
-    ensures found { λ _. ⌜ span (now (start .exit)) (now (count .exit)) ≡ between radiiStart indicesStart (readRecordOf (now (bytes .entry))) ⌝ }
+    ensures stands { λ _. ⌜ now (start .exit) ≡ locateOf (now (bytes .entry)) .radii ⌝ }
+    ensures long { λ _. ⌜ now (count .exit) ≡ length (radiiPartOf (now (bytes .entry))) ⌝ }
     ensures within { λ _. ⌜ now (start .exit) + now (count .exit) ≤ length (now (bytes .entry)) ⌝ }
     ensures handed { λ _. ⌜ take (now (count .exit)) (drop (now (start .exit)) (now (bytes .entry))) ≡ radiiPartOf (now (bytes .entry)) ⌝ }
 {
-    match packed::read_record(bytes) {
-        Reading::Read(header) => {
-            *start = header.radii;
-            *count = header.indices - header.radii;
-        }
-        Reading::Refused {
-            number: _,
-            place: _,
-        } => {
-            *start = 0;
-            *count = 0;
-        }
-    }
+    let places = packed_parts::locate(bytes);
+    *start = places.radii;
+    *count = packed_parts::cut(bytes, places.radii, places.indices).len();
 }
 
 // Where the part of the record stands that holds the indices; empty where the record is refused.
 #[no_mangle]
 pub extern "C" fn foldrima_indices_part(bytes: &[u8], start: &mut usize, count: &mut usize)
-    ensures found { λ _. ⌜ span (now (start .exit)) (now (count .exit)) ≡ between indicesStart signsStart (readRecordOf (now (bytes .entry))) ⌝ }
+    ensures stands { λ _. ⌜ now (start .exit) ≡ locateOf (now (bytes .entry)) .indices ⌝ }
+    ensures long { λ _. ⌜ now (count .exit) ≡ length (indicesPartOf (now (bytes .entry))) ⌝ }
     ensures within { λ _. ⌜ now (start .exit) + now (count .exit) ≤ length (now (bytes .entry)) ⌝ }
     ensures handed { λ _. ⌜ take (now (count .exit)) (drop (now (start .exit)) (now (bytes .entry))) ≡ indicesPartOf (now (bytes .entry)) ⌝ }
 {
-    match packed::read_record(bytes) {
-        Reading::Read(header) => {
-            *start = header.indices;
-            *count = header.signs - header.indices;
-        }
-        Reading::Refused {
-            number: _,
-            place: _,
-        } => {
-            *start = 0;
-            *count = 0;
-        }
-    }
+    let places = packed_parts::locate(bytes);
+    *start = places.indices;
+    *count = packed_parts::cut(bytes, places.indices, places.signs).len();
 }
 
 // Where the part of the record stands that holds the signs; empty where the record is refused or has none.
 #[no_mangle]
 pub extern "C" fn foldrima_signs_part(bytes: &[u8], start: &mut usize, count: &mut usize)
-    ensures found { λ _. ⌜ span (now (start .exit)) (now (count .exit)) ≡ between signsStart signsEnd (readRecordOf (now (bytes .entry))) ⌝ }
+    ensures stands { λ _. ⌜ now (start .exit) ≡ locateOf (now (bytes .entry)) .signs ⌝ }
+    ensures long { λ _. ⌜ now (count .exit) ≡ length (signsPartOf (now (bytes .entry))) ⌝ }
     ensures within { λ _. ⌜ now (start .exit) + now (count .exit) ≤ length (now (bytes .entry)) ⌝ }
     ensures handed { λ _. ⌜ take (now (count .exit)) (drop (now (start .exit)) (now (bytes .entry))) ≡ signsPartOf (now (bytes .entry)) ⌝ }
 {
-    match packed::read_record(bytes) {
-        Reading::Read(header) => {
-            *start = header.signs;
-            *count = header.end - header.signs;
-        }
-        Reading::Refused {
-            number: _,
-            place: _,
-        } => {
-            *start = 0;
-            *count = 0;
-        }
-    }
+    let places = packed_parts::locate(bytes);
+    *start = places.signs;
+    *count = packed_parts::cut(bytes, places.signs, places.end).len();
 }
 
 // The radii of a record.
@@ -173,23 +146,20 @@ pub extern "C" fn foldrima_write_record(
     number: &mut u32,
     place: &mut usize,
 )
-    ensures answer { λ _. ⌜ said (now (number .exit)) (now (place .exit)) ≡ told (done (writeRecordOf (profileFrom profile) dim bits (modeFrom mode) projections (now (radii .entry)) (now (indices .entry)) (now (signs .entry)) (length (now (out .entry))))) ⌝ }
-    ensures left { λ _. ⌜ now (out .exit) ≡ after (writeRecordOf (profileFrom profile) dim bits (modeFrom mode) projections (now (radii .entry)) (now (indices .entry)) (now (signs .entry)) (length (now (out .entry)))) (now (out .entry)) ⌝ }
+    ensures answer { λ _. ⌜ said (now (number .exit)) (now (place .exit)) ≡ told (done (writeRecordOf (codeFrom profile dim bits mode projections) (now (radii .entry)) (now (indices .entry)) (now (signs .entry)) (length (now (out .entry))))) ⌝ }
+    ensures left { λ _. ⌜ now (out .exit) ≡ after (writeRecordOf (codeFrom profile dim bits mode projections) (now (radii .entry)) (now (indices .entry)) (now (signs .entry)) (length (now (out .entry)))) (now (out .entry)) ⌝ }
 {
     let codec = codes::profile(profile);
     let chosen = codes::mode(mode);
+    let code = Code {
+        profile: codec,
+        mode: chosen,
+        dim,
+        bits,
+        projections,
+    };
     tell(
-        packed_writing::write_record(
-            codec,
-            dim,
-            bits,
-            chosen,
-            projections,
-            radii,
-            indices,
-            signs,
-            out,
-        ),
+        packed_writing::write_record(code, radii, indices, signs, out),
         number,
         place,
     );

@@ -6,12 +6,13 @@ use crate::codes;
 ghost use mathlib.Core.Path.{_≡_};
 ghost use lib.ListN.{length};
 ghost use Rattle.error.specs.Answer.{done, after};
+ghost use Rattle.setup.specs.Lent.{lent};
 ghost use Rattle.turbo_query.specs.Query.{prepareRotatedOf, prepareProjectedOf};
 ghost use Rattle.turbo.specs.Estimates.{innerProductEstimateOf, innerProductEstimatePreparedOf};
 ghost use Rattle.turbo.specs.Distance.{l2DistanceEstimateOf};
 ghost use Rattle.turbo_decode.specs.Decode.{decodeApproximateOf};
 ghost use Rattle.capi.specs.Told.{said, told};
-ghost use Rattle.capi.specs.Codes.{setupFrom, lentFrom};
+ghost use Rattle.capi.specs.Codes.{setupFrom};
 
 // A query rotated and projected once for many records; neither output is written unless both fit.
 #[no_mangle]
@@ -29,9 +30,9 @@ pub extern "C" fn foldrima_prepare_query(
     number: &mut u32,
     place: &mut usize,
 )
-    ensures answer { λ _. ⌜ said (now (number .exit)) (now (place .exit)) ≡ told (done (prepareRotatedOf (setupFrom mode dim bits projections) (now (signs .entry)) (now (directions .entry)) (now (matrix .entry)) (now (query .entry)) (length (now (rotated .entry))) (length (now (projected .entry))))) ⌝ }
-    ensures turned { λ _. ⌜ now (rotated .exit) ≡ after (prepareRotatedOf (setupFrom mode dim bits projections) (now (signs .entry)) (now (directions .entry)) (now (matrix .entry)) (now (query .entry)) (length (now (rotated .entry))) (length (now (projected .entry)))) (now (rotated .entry)) ⌝ }
-    ensures rows { λ _. ⌜ now (projected .exit) ≡ after (prepareProjectedOf (setupFrom mode dim bits projections) (now (signs .entry)) (now (directions .entry)) (now (matrix .entry)) (now (query .entry)) (length (now (rotated .entry))) (length (now (projected .entry)))) (now (projected .entry)) ⌝ }
+    ensures answer { λ _. ⌜ said (now (number .exit)) (now (place .exit)) ≡ told (done (prepareRotatedOf (setupFrom mode dim bits projections) (lent (now (signs .entry)) (now (directions .entry)) (now (matrix .entry))) (now (query .entry)) (length (now (rotated .entry))) (length (now (projected .entry))))) ⌝ }
+    ensures rotated { λ _. ⌜ now (rotated .exit) ≡ after (prepareRotatedOf (setupFrom mode dim bits projections) (lent (now (signs .entry)) (now (directions .entry)) (now (matrix .entry))) (now (query .entry)) (length (now (rotated .entry))) (length (now (projected .entry)))) (now (rotated .entry)) ⌝ }
+    ensures projected { λ _. ⌜ now (projected .exit) ≡ after (prepareProjectedOf (setupFrom mode dim bits projections) (lent (now (signs .entry)) (now (directions .entry)) (now (matrix .entry))) (now (query .entry)) (length (now (rotated .entry))) (length (now (projected .entry)))) (now (projected .entry)) ⌝ }
 {
     let scalars = codes::setup(mode, dim, bits, projections);
     tell(
@@ -65,8 +66,8 @@ pub extern "C" fn foldrima_inner_product_estimate(
     place: &mut usize,
     value: &mut f32,
 )
-    ensures answer { λ _. ⌜ said (now (number .exit)) (now (place .exit)) ≡ told (innerProductEstimateOf (setupFrom mode dim bits projections) (lentFrom (now (signs .entry)) (now (directions .entry)) (now (matrix .entry)) (now (query .entry))) (now (bytes .entry))) ⌝ }
-    ensures left { λ _. ⌜ now (value .exit) ≡ after (innerProductEstimateOf (setupFrom mode dim bits projections) (lentFrom (now (signs .entry)) (now (directions .entry)) (now (matrix .entry)) (now (query .entry))) (now (bytes .entry))) (now (value .entry)) ⌝ }
+    ensures answer { λ _. ⌜ said (now (number .exit)) (now (place .exit)) ≡ told (innerProductEstimateOf (setupFrom mode dim bits projections) (lent (now (signs .entry)) (now (directions .entry)) (now (matrix .entry))) (now (query .entry)) (now (bytes .entry))) ⌝ }
+    ensures left { λ _. ⌜ now (value .exit) ≡ after (innerProductEstimateOf (setupFrom mode dim bits projections) (lent (now (signs .entry)) (now (directions .entry)) (now (matrix .entry))) (now (query .entry)) (now (bytes .entry))) (now (value .entry)) ⌝ }
 {
     let scalars = codes::setup(mode, dim, bits, projections);
     tell_score(
@@ -93,8 +94,8 @@ pub extern "C" fn foldrima_l2_distance_estimate(
     place: &mut usize,
     value: &mut f32,
 )
-    ensures answer { λ _. ⌜ said (now (number .exit)) (now (place .exit)) ≡ told (l2DistanceEstimateOf (setupFrom mode dim bits projections) (lentFrom (now (signs .entry)) (now (directions .entry)) (now (matrix .entry)) (now (query .entry))) (now (bytes .entry))) ⌝ }
-    ensures left { λ _. ⌜ now (value .exit) ≡ after (l2DistanceEstimateOf (setupFrom mode dim bits projections) (lentFrom (now (signs .entry)) (now (directions .entry)) (now (matrix .entry)) (now (query .entry))) (now (bytes .entry))) (now (value .entry)) ⌝ }
+    ensures answer { λ _. ⌜ said (now (number .exit)) (now (place .exit)) ≡ told (l2DistanceEstimateOf (setupFrom mode dim bits projections) (lent (now (signs .entry)) (now (directions .entry)) (now (matrix .entry))) (now (query .entry)) (now (bytes .entry))) ⌝ }
+    ensures left { λ _. ⌜ now (value .exit) ≡ after (l2DistanceEstimateOf (setupFrom mode dim bits projections) (lent (now (signs .entry)) (now (directions .entry)) (now (matrix .entry))) (now (query .entry)) (now (bytes .entry))) (now (value .entry)) ⌝ }
 {
     let scalars = codes::setup(mode, dim, bits, projections);
     tell_score(
@@ -147,8 +148,8 @@ pub extern "C" fn foldrima_decode_approximate(
     number: &mut u32,
     place: &mut usize,
 )
-    ensures answer { λ _. ⌜ said (now (number .exit)) (now (place .exit)) ≡ told (done (decodeApproximateOf (setupFrom mode dim bits projections) (now (signs .entry)) (now (directions .entry)) (now (matrix .entry)) (now (bytes .entry)) (length (now (out .entry))))) ⌝ }
-    ensures left { λ _. ⌜ now (out .exit) ≡ after (decodeApproximateOf (setupFrom mode dim bits projections) (now (signs .entry)) (now (directions .entry)) (now (matrix .entry)) (now (bytes .entry)) (length (now (out .entry)))) (now (out .entry)) ⌝ }
+    ensures answer { λ _. ⌜ said (now (number .exit)) (now (place .exit)) ≡ told (done (decodeApproximateOf (setupFrom mode dim bits projections) (lent (now (signs .entry)) (now (directions .entry)) (now (matrix .entry))) (now (bytes .entry)) (length (now (out .entry))))) ⌝ }
+    ensures left { λ _. ⌜ now (out .exit) ≡ after (decodeApproximateOf (setupFrom mode dim bits projections) (lent (now (signs .entry)) (now (directions .entry)) (now (matrix .entry))) (now (bytes .entry)) (length (now (out .entry)))) (now (out .entry)) ⌝ }
 {
     let scalars = codes::setup(mode, dim, bits, projections);
     tell(

@@ -7,6 +7,7 @@ ghost use mathlib.Core.Path.{_≡_};
 ghost use lib.ListN.{length};
 ghost use Rattle.error.specs.Answer.{first, accepted, done, after};
 ghost use Rattle.rotation.specs.Rotation.{applyOf, applyInverseOf};
+ghost use Rattle.setup.specs.Lent.{lent};
 ghost use Rattle.setup.specs.Checks.{setupChecks};
 ghost use Rattle.qjl.specs.Sketch.{sketchOf};
 ghost use Rattle.qjl.specs.Score.{sketchScoreOf};
@@ -62,7 +63,7 @@ pub extern "C" fn foldrima_check_setup(
     number: &mut u32,
     place: &mut usize,
 )
-    ensures { λ _. ⌜ said (now (number .exit)) (now (place .exit)) ≡ told (first (setupChecks (setupFrom mode dim bits projections) (now (signs .entry)) (now (directions .entry)) (now (matrix .entry))) accepted) ⌝ }
+    ensures { λ _. ⌜ said (now (number .exit)) (now (place .exit)) ≡ told (first (setupChecks (setupFrom mode dim bits projections) (lent (now (signs .entry)) (now (directions .entry)) (now (matrix .entry)))) accepted) ⌝ }
 {
     let scalars = codes::setup(mode, dim, bits, projections);
     tell(
@@ -87,8 +88,8 @@ pub extern "C" fn foldrima_sketch(
     number: &mut u32,
     place: &mut usize,
 )
-    ensures answer { λ _. ⌜ said (now (number .exit)) (now (place .exit)) ≡ told (done (sketchOf (setupFrom mode dim bits projections) (now (signs .entry)) (now (directions .entry)) (now (matrix .entry)) (now (vector .entry)) (length (now (out .entry))))) ⌝ }
-    ensures left { λ _. ⌜ now (out .exit) ≡ after (sketchOf (setupFrom mode dim bits projections) (now (signs .entry)) (now (directions .entry)) (now (matrix .entry)) (now (vector .entry)) (length (now (out .entry)))) (now (out .entry)) ⌝ }
+    ensures answer { λ _. ⌜ said (now (number .exit)) (now (place .exit)) ≡ told (done (sketchOf (setupFrom mode dim bits projections) (lent (now (signs .entry)) (now (directions .entry)) (now (matrix .entry))) (now (vector .entry)) (length (now (out .entry))))) ⌝ }
+    ensures left { λ _. ⌜ now (out .exit) ≡ after (sketchOf (setupFrom mode dim bits projections) (lent (now (signs .entry)) (now (directions .entry)) (now (matrix .entry))) (now (vector .entry)) (length (now (out .entry)))) (now (out .entry)) ⌝ }
 {
     let scalars = codes::setup(mode, dim, bits, projections);
     tell(
@@ -114,8 +115,8 @@ pub extern "C" fn foldrima_sketch_score(
     place: &mut usize,
     value: &mut f32,
 )
-    ensures answer { λ _. ⌜ said (now (number .exit)) (now (place .exit)) ≡ told (sketchScoreOf (setupFrom mode dim bits projections) (now (signs .entry)) (now (directions .entry)) (now (matrix .entry)) (now (query .entry)) (now (sketch .entry))) ⌝ }
-    ensures left { λ _. ⌜ now (value .exit) ≡ after (sketchScoreOf (setupFrom mode dim bits projections) (now (signs .entry)) (now (directions .entry)) (now (matrix .entry)) (now (query .entry)) (now (sketch .entry))) (now (value .entry)) ⌝ }
+    ensures answer { λ _. ⌜ said (now (number .exit)) (now (place .exit)) ≡ told (sketchScoreOf (setupFrom mode dim bits projections) (lent (now (signs .entry)) (now (directions .entry)) (now (matrix .entry))) (now (query .entry)) (now (sketch .entry))) ⌝ }
+    ensures left { λ _. ⌜ now (value .exit) ≡ after (sketchScoreOf (setupFrom mode dim bits projections) (lent (now (signs .entry)) (now (directions .entry)) (now (matrix .entry))) (now (query .entry)) (now (sketch .entry))) (now (value .entry)) ⌝ }
 {
     let scalars = codes::setup(mode, dim, bits, projections);
     tell_score(

@@ -2,3 +2,4 @@ pub mod Places
 pub mod Answers
 pub mod Chains
 pub mod Sweep
+pub mod Finite

@@ -1,8 +1,11 @@
 -- The checks that more than one crate makes, as document 01 numbers them. Of two lengths the one that was found comes first. Assumes nothing.
 use Prim.Native.Nat.{ℕ, _^_}
 use mathlib.Core.Bool.{Bool, not, _||_}
+use mathlib.Core.List.{[], _∷_}
 use lib.Dec.{leb, ltb, eqb}
-use Rattle.error.specs.Answer.{Check, check}
+use lib.Ieee.{Float}
+use lib.Ieee.Scale.{finite}
+use Rattle.error.specs.Answer.{Answer, value, Check, check, first}
 
 -- whether two numbers are not equal
 abbrev pub differs : ℕ → ℕ → Bool
@@ -20,6 +23,18 @@ wrongInput found needed = check (differs found needed) 5 found
 abbrev pub wrongRoom : ℕ → ℕ → Check
 wrongRoom found needed = check (differs found needed) 6 needed
 
--- '15: index at or above 2^bits. Place: its index; for a codebook or a single angle, 0.' This is the single one
+-- '15: index at or above 2^bits. Place: its index; for a codebook or a single angle, 0.' This is the check of a codebook's index and of a single angle's
 abbrev pub wrongIndex : ℕ → ℕ → Check
 wrongIndex bits index = check (leb (2 ^ bits) index) 15 0
+
+-- '11: a value is not finite', and '9: a matrix entry is not finite'
+unfoldable pub badValue : Float → Bool
+badValue x = not (finite x)
+
+-- '12: a score or distance is not finite. Place 0.'
+abbrev pub wrongScore : Float → Check
+wrongScore x = check (not (finite x)) 12 0
+
+-- a score or a distance, judged
+abbrev pub finiteScoreOf : Float → Answer Float
+finiteScoreOf x = first (wrongScore x ∷ []) (value x)

@@ -1,4 +1,5 @@
 pub mod Answer
 pub mod Checks
+pub mod Lengths
 pub mod Outcomes
 pub mod Sweep

@@ -1,8 +1,16 @@
--- What an `Outcome` says, in document 01's terms. Assumes nothing.
-use Rattle.error.specs.Answer.{Answer, refused, accepted}
+-- What an `Outcome` and a `Scored` say, in document 01's terms. Assumes nothing.
+use lib.Ieee.{Float}
+use Rattle.error.specs.Answer.{Answer, value, refused, accepted}
 use Rattle.error.specs.declared.Outcome.{Outcome}
-use Rattle.error.specs.declared.Outcome.the-variants.{Done, Refused}
+use Rattle.error.specs.declared.Outcome.the-variants as outcome
+use Rattle.error.specs.declared.Scored.{Scored}
+use Rattle.error.specs.declared.Scored.the-variants as scored
 
 abbrev pub says : Outcome → Answer (Unit {0})
-says Done = accepted
-says (Refused n p) = refused n p
+says outcome.Done = accepted
+says (outcome.Refused n p) = refused n p
+
+-- 'A score is a number with its value, or a refusal; one answer type holds both.'
+abbrev pub saysScore : Scored → Answer Float
+saysScore (scored.Score x) = value x
+saysScore (scored.Refused n p) = refused n p

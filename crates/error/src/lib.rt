@@ -1,5 +1,12 @@
-// The refusals, and the answer of a call that has no value of its own.
+// The refusals; the answers of a call that has no value of its own, of one that counts bytes and of one that scores; and the check of floats that every
+// crate above makes.
 // Ported from turbo-quant/src/error.rs and changed: an error is a number and a place.
+
+ghost use mathlib.Core.Path.{_≡_};
+ghost use Rattle.error.specs.Answer.{place};
+ghost use Rattle.error.specs.Checks.{badValue, finiteScoreOf};
+ghost use Rattle.error.specs.Outcomes.{saysScore};
+ghost use Rattle.error.specs.Sweep.{clear};
 
 // The refusal numbers of document 01. A name is the Rust's where it has one.
 
@@ -48,4 +55,67 @@ pub const PROFILE_MISMATCH: u32 = 20;
 pub enum Outcome {
     Done,
     Refused { number: u32, place: usize },
+}
+
+// What a call answers that counts bytes.
+pub enum Length {
+    Bytes(usize),
+    Refused { number: u32, place: usize },
+}
+// A score or a distance with its value, or a refusal.
+pub enum Scored {
+    Score(f32),
+    Refused { number: u32, place: usize },
+}
+
+// A score or a distance, or 12 where it is not finite.
+pub fn finite_score(score: f32) -> Scored
+    ensures { λ r. ⌜ saysScore r ≡ finiteScoreOf score ⌝ }
+{
+    if float::is_finite(score) {
+        return Scored::Score(score);
+    }
+    Scored::Refused {
+        number: NON_FINITE_SCORE,
+        place: 0,
+    }
+}
+
+// Whether every value is finite. The pass goes to the end, so that it is done for several values at a time.
+pub fn all_finite(values: &[f32]) -> bool
+    ensures { λ r. ⌜ r ≡ clear badValue (now (values .entry)) ⌝ }
+{
+    let mut ok = true;
+    let mut i = 0;
+    while i < values.len() {
+        if !float::is_finite(values[i]) {
+            ok = false;
+        }
+        i += 1;
+    }
+    ok
+}
+
+// The index of the first value that is not finite, or their number where there is none.
+pub fn first_non_finite(values: &[f32]) -> usize
+    ensures { λ r. ⌜ r ≡ place badValue (now (values .entry)) ⌝ }
+{
+    if all_finite(values) {
+        return values.len();
+    }
+    find_non_finite(values)
+}
+
+// The index of the first value that is not finite, one by one, or their number where there is none.
+fn find_non_finite(values: &[f32]) -> usize
+    ensures { λ r. ⌜ r ≡ place badValue (now (values .entry)) ⌝ }
+{
+    let mut i = 0;
+    while i < values.len() {
+        if !float::is_finite(values[i]) {
+            return i;
+        }
+        i += 1;
+    }
+    i
 }

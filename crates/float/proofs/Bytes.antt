@@ -2,16 +2,17 @@
 -- and what is read from four bytes whose pattern is no NaN's is written as those bytes (`toLeBytes-ofLeBytes`). Assumes nothing.
 use mathlib.Core.Path.{_≡_, sym, ap, _∙_, subst}
 use mathlib.Core.Bool.{not}
-use mathlib.Core.List.{List}
-use Prim.Native.Nat.{ℕ, _^_, _<_}
+use mathlib.Core.List.{List, _++_}
+use Prim.Native.Nat.{ℕ, _+_, _^_, _≤_, _<_}
 use native.Mathlib.Nat.{mod-eq-of-lt}
 use lib.Dec.{T, lit<}
-use lib.ListN.{length}
+use lib.ListN.{length, take, drop}
 use lib.Ieee.{Float, binary32, fits, isNan, ofBits, toBits}
 use lib.Ieee.Bits.{ofBits-toBits, toBits-ofBits, toBits-lt}
 use Rattle.digits.specs.Digits.{number, digits}
 use Rattle.digits.proofs.Laws.{Below, number-digits, digits-number, number-lt, length-digits}
-use Rattle.float.specs.Bytes.{ofLeBytes, toLeBytes}
+use Rattle.digits.proofs.Words.{put-word-room}
+use Rattle.float.specs.Bytes.{ofLeBytes, toLeBytes, putF32Of}
 
 pub length-toLeBytes : (x : Float) → length (toLeBytes x) ≡ 4
 unfolding toLeBytes
@@ -28,3 +29,8 @@ toLeBytes-ofLeBytes bytes h l n =
     ap (digits 256 4) (toBits-ofBits binary32 (number 256 bytes) (subst (λ (k : ℕ). number 256 bytes < 256 ^ k) l (number-lt 256 bytes h)) n)
     ∙ ap (λ (k : ℕ). digits 256 k (number 256 bytes)) (sym l)
     ∙ digits-number 256 bytes h
+
+-- a float is stored where there is room for it
+pub put-f32-room : (out : List ℕ) (at : ℕ) (x : Float) → at + 4 ≤ length out → putF32Of out at x ≡ take at out ++ toLeBytes x ++ drop (at + 4) out
+unfolding putF32Of toLeBytes
+put-f32-room out at x h = put-word-room out at (toBits binary32 x) h

@@ -3,7 +3,7 @@
 use mathlib.Core.Path.{_≡_, refl, sym, ap, _∙_, subst}
 use mathlib.Core.Bool.{Bool, true, false, not, cond}
 use Prim.Native.Nat.{ℕ, zero, suc, _+_, _-_, _*_, _/_, _%_, _^_, _≤_, _<_}
-use native.Mathlib.Nat.{mod-eq-of-lt, mul-div-cancel}
+use native.Mathlib.Nat.{mod-eq-of-lt}
 use native.Mathlib.Decide.{decLt}
 use native.Mathlib.Numerals.{sub-one}
 use native.Mathlib.Omega.{arith}
@@ -12,9 +12,9 @@ use lib.IntN.{ℤ}
 use lib.Dec.{T, ltb, eqb, ltb→lt}
 use lib.Ieee.{Float, nan, inf, fin, binary32, up, down, size, odd, ofFields, ofBits, toBits, fits}
 use lib.Ieee.Exact.{HasValue, odd-sign}
-use lib.Ieee.Fits.{down-pos}
 use lib.Ieee.Bits.{ofBits-toBits}
-use Rattle.float.specs.Units.{nonNegative, units, significandOf, shiftOf}
+use Rattle.float.specs.Units.{nonNegative, unit, mag, significandOf, shiftOf}
+use Rattle.float.proofs.Units.{mag-of-value}
 
 -- ---- the fields of a pattern
 
@@ -150,14 +150,9 @@ toBits-negative m e =
     let n = m * up e * 2 ^ 149 / down e in
     first-part 0x8000_0000 ((size n - 24) * 2 ^ 23) (n / 2 ^ (size n - 24))
 
-value-units : (x : Float) (s : Bool) (a : ℕ) → HasValue x s a (2 ^ 149) → units x ≡ a
-unfolding units
-value-units nan s a h = absurd h
-value-units (inf t) s a h = absurd h
-value-units (fin t m e) s a h = ap (λ (n : ℕ). n / down e) (h .1) ∙ mul-div-cancel a (down-pos e)
-
-pub units-ofBits : (b : ℕ) → b < 0x7F80_0000 → units (ofBits binary32 b) ≡ significandOf b * 2 ^ shiftOf b
-units-ofBits b h = value-units (ofBits binary32 b) false (significandOf b * 2 ^ shiftOf b) (decode b h)
+pub mag-ofBits : (b : ℕ) → b < 0x7F80_0000 → mag (ofBits binary32 b) ≡ significandOf b * 2 ^ shiftOf b
+unfolding unit
+mag-ofBits b h = mag-of-value (ofBits binary32 b) false (significandOf b * 2 ^ shiftOf b) (decode b h)
 
 pub toBits-below : (x : Float) → T (fits binary32 x) → T (nonNegative x) → toBits binary32 x < 0x7F80_0000
 toBits-below x h n = ltb→lt (toBits binary32 x) 0x7F80_0000 (subst T (nonNegative-toBits x h) n)
@@ -167,9 +162,10 @@ decode-toBits x h n =
     let b = toBits binary32 x in
     subst (λ (y : Float). HasValue y false (significandOf b * 2 ^ shiftOf b) (2 ^ 149)) (ofBits-toBits binary32 x h) (decode b (toBits-below x h n))
 
-pub units-toBits : (x : Float) → T (fits binary32 x) → T (nonNegative x) → units x ≡ significandOf (toBits binary32 x) * 2 ^ shiftOf (toBits binary32 x)
-units-toBits x h n = value-units x false (significandOf (toBits binary32 x) * 2 ^ shiftOf (toBits binary32 x)) (decode-toBits x h n)
+pub mag-toBits : (x : Float) → T (fits binary32 x) → T (nonNegative x) → mag x ≡ significandOf (toBits binary32 x) * 2 ^ shiftOf (toBits binary32 x)
+unfolding unit
+mag-toBits x h n = mag-of-value x false (significandOf (toBits binary32 x) * 2 ^ shiftOf (toBits binary32 x)) (decode-toBits x h n)
 
--- so the units of such an f32 are its exact value
-pub units-value : (x : Float) → T (fits binary32 x) → T (nonNegative x) → HasValue x false (units x) (2 ^ 149)
-units-value x h n = subst (λ (u : ℕ). HasValue x false u (2 ^ 149)) (sym (units-toBits x h n)) (decode-toBits x h n)
+-- so the size of such an f32 is its exact value
+pub mag-value : (x : Float) → T (fits binary32 x) → T (nonNegative x) → HasValue x false (mag x) (2 ^ 149)
+mag-value x h n = subst (λ (u : ℕ). HasValue x false u (2 ^ 149)) (sym (mag-toBits x h n)) (decode-toBits x h n)

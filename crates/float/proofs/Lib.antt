@@ -8,3 +8,5 @@ pub mod RootPattern
 pub mod Round
 pub mod SquareRoot
 pub mod Levels
+pub mod Copying
+pub mod Units

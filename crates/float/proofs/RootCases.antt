@@ -13,9 +13,9 @@ use lib.Dec.{T, ltb, eqb}
 use lib.Pow.{pow-pos}
 use lib.Ieee.{Float, nan, inf, fin, binary32, up, down, fits, toBits, lt, eq}
 use lib.Ieee.Fits.{up-pos}
-use Rattle.float.specs.Units.{nonNegative, units, significandOf, shiftOf}
+use Rattle.float.specs.Units.{nonNegative, mag, significandOf, shiftOf}
 use Rattle.float.specs.SquareRoot.{squareRoot}
-use Rattle.float.proofs.Decode.{significand-low, decode-toBits, units-toBits}
+use Rattle.float.proofs.Decode.{significand-low, decode-toBits, mag-toBits}
 
 -- ---- the specials
 
@@ -105,24 +105,24 @@ other-positive a u (suc v) d A U h = zero-lt-suc v
 magnitude : (a b : ℕ) → ltb (0 * b) (a * 1) ≡ true → 0 < a
 magnitude a b h = omega (arith, ltb-true (0 * b) (a * 1) h)
 
-pub positive-units : (x : Float) → T (fits binary32 x) → lt zero-float x ≡ true → lt x (inf false) ≡ true → 0 < units x
+pub positive-mag : (x : Float) → T (fits binary32 x) → lt zero-float x ≡ true → lt x (inf false) ≡ true → 0 < mag x
 unfolding lt
-positive-units nan f g h = absurd (false≢true g)
-positive-units (inf true) f g h = absurd (false≢true g)
-positive-units (inf false) f g h = absurd (false≢true h)
-positive-units (fin true m e) f g h = absurd (false≢true g)
-positive-units (fin false m e) f g h =
+positive-mag nan f g h = absurd (false≢true g)
+positive-mag (inf true) f g h = absurd (false≢true g)
+positive-mag (inf false) f g h = absurd (false≢true h)
+positive-mag (fin true m e) f g h = absurd (false≢true g)
+positive-mag (fin false m e) f g h =
     let b = toBits binary32 (fin false m e) in
-    subst (λ (n : ℕ). 0 < n) (sym (units-toBits (fin false m e) f tt))
+    subst (λ (n : ℕ). 0 < n) (sym (mag-toBits (fin false m e) f tt))
     (other-positive (m * up e) (2 ^ 149) (significandOf b * 2 ^ shiftOf b) (down e) (magnitude (m * up e) (down e) g) (pow-pos 149) (decode-toBits (fin false m e) f tt .1))
 
 -- a pattern of 0 is that of 0 units
-pub toBits-positive : (x : Float) → T (fits binary32 x) → T (nonNegative x) → 0 < units x → 0 < toBits binary32 x
+pub toBits-positive : (x : Float) → T (fits binary32 x) → T (nonNegative x) → 0 < mag x → 0 < toBits binary32 x
 toBits-positive x f g h = go (eq-zero-or-pos (toBits binary32 x))
   where
     empty : (b : ℕ) → b ≡ 0 → significandOf b * 2 ^ shiftOf b ≡ 0
     empty b e = ap (λ (n : ℕ). n * 2 ^ shiftOf b) (significand-low b (omega arith) ∙ e) ∙ zero-mul (2 ^ shiftOf b)
 
     go : (toBits binary32 x ≡ 0) ⊎ (0 < toBits binary32 x) → 0 < toBits binary32 x
-    go (inl e) = absurd (lt-irrefl 0 (subst (λ (n : ℕ). 0 < n) (units-toBits x f g ∙ empty (toBits binary32 x) e) h))
+    go (inl e) = absurd (lt-irrefl 0 (subst (λ (n : ℕ). 0 < n) (mag-toBits x f g ∙ empty (toBits binary32 x) e) h))
     go (inr l) = l

@@ -10,9 +10,9 @@ use lib.Dec.{lit<, lit≤}
 use lib.Pow.{pow-add, pow-pos, pow-mono, shl-lt}
 use lib.Ieee.{binary32, ofBits, size}
 use lib.Ieee.Digits.{size-lt, size-le, back}
-use Rattle.float.specs.Units.{units, significandOf, shiftOf}
+use Rattle.float.specs.Units.{mag, significandOf, shiftOf}
 use Rattle.float.specs.SquareRoot.{square, nearestRoot, dropped, rootPattern}
-use Rattle.float.proofs.Decode.{significand-high, units-ofBits}
+use Rattle.float.proofs.Decode.{significand-high, mag-ofBits}
 
 -- ---- how many digits are dropped
 
@@ -109,8 +109,8 @@ carried-value d = rw (pow-succ' 2 d) (omega arith)
 value : (d q : ℕ) → 2 ^ 23 ≤ q → q < 2 ^ 24 → significandOf (d * 2 ^ 23 + q) * 2 ^ shiftOf (d * 2 ^ 23 + q) ≡ q * 2 ^ d
 value d q l h = ap₂ (λ (a k : ℕ). a * 2 ^ k) (pattern-significand d q l h) (pattern-shift d q l h)
 
-pub units-pattern : (d q : ℕ) → d ≤ 200 → 2 ^ 23 ≤ q → q ≤ 2 ^ 24 → units (ofBits binary32 (d * 2 ^ 23 + q)) ≡ q * 2 ^ d
-units-pattern d q D l h = units-ofBits (d * 2 ^ 23 + q) (pattern-lt d q D h) ∙ go (eq-or-lt-of-le h)
+pub mag-pattern : (d q : ℕ) → d ≤ 200 → 2 ^ 23 ≤ q → q ≤ 2 ^ 24 → mag (ofBits binary32 (d * 2 ^ 23 + q)) ≡ q * 2 ^ d
+mag-pattern d q D l h = mag-ofBits (d * 2 ^ 23 + q) (pattern-lt d q D h) ∙ go (eq-or-lt-of-le h)
   where
     go : (q ≡ 2 ^ 24) ⊎ (q < 2 ^ 24) → significandOf (d * 2 ^ 23 + q) * 2 ^ shiftOf (d * 2 ^ 23 + q) ≡ q * 2 ^ d
     go (inl e) =

@@ -4,6 +4,7 @@ use Prim.Native.Nat.{ℕ}
 use mathlib.Core.List.{List}
 use lib.Ieee.{Float, binary32, ofBits, toBits}
 use Rattle.digits.specs.Digits.{number, digits}
+use Rattle.digits.specs.Words.{putWordOf}
 
 -- the float whose pattern these bytes are; every NaN's pattern reads as the one `nan`
 unfoldable pub ofLeBytes : List ℕ → Float
@@ -12,3 +13,7 @@ ofLeBytes bytes = ofBits binary32 (number 256 bytes)
 -- the four bytes of a float's pattern; `nan` is written as 7FC00000
 unfoldable pub toLeBytes : Float → List ℕ
 toLeBytes x = digits 256 4 (toBits binary32 x)
+
+-- a float's four bytes in place of the four at `at`; where there are not four, the list stays as it is
+unfoldable pub putF32Of : List ℕ → ℕ → Float → List ℕ
+putF32Of out at x = putWordOf out at (toBits binary32 x)

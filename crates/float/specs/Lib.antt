@@ -1,4 +1,6 @@
 pub mod Bytes
+pub mod Constants
 pub mod Rounding
 pub mod SquareRoot
 pub mod Units
+pub mod Copying

@@ -5,20 +5,20 @@ use Prim.Native.Nat.{ℕ, zero, suc, _+_, _-_, _*_, _/_, _^_, _<_}
 use mathlib.Core.Bool.{false, cond}
 use lib.Dec.{T, ltb, leb}
 use lib.Ieee.{Float, nan, inf, fin, binary32, fits, ofBits, size}
-use Rattle.float.specs.Units.{nonNegative, units}
+use Rattle.float.specs.Units.{nonNegative, unit, mag}
 
 abbrev pub square : ℕ → ℕ
 square a = a * a
 
--- In units of 2 ^ -149 the root of x is the real number whose square is `units x * 2 ^ 149`. Of two floats r and y, r is nearer to the root exactly where
--- the root lies on r's side of the midpoint (r + y) / 2: for y below r, where (r + y) ^ 2 is below 4 * units x * 2 ^ 149, and for y above r the other way round.
+-- In units of 2 ^ -149 the root of x is the real number whose square is `mag x * 2 ^ 149`. Of two floats r and y, r is nearer to the root exactly where
+-- the root lies on r's side of the midpoint (r + y) / 2: for y below r, where (r + y) ^ 2 is below 4 * mag x * 2 ^ 149, and for y above r the other way round.
 -- r is a finite f32 that is not negative, and it is nearer than every other such y. Nearer is strict: the midpoint of two
 -- neighbours ends one binary place below an f32's last, so its square has more digits than an f32 holds, a tie can't occur, and 'ties to even' never has to be asked.
 pub record NearestRoot (x r : Float) : Type 0 where
   pub fit : T (fits binary32 r)
   pub not-negative : T (nonNegative r)
-  pub above-smaller : (y : Float) → T (fits binary32 y) → T (nonNegative y) → units y < units r → square (units y + units r) < 4 * (units x * 2 ^ 149)
-  pub below-larger : (y : Float) → T (fits binary32 y) → T (nonNegative y) → units r < units y → 4 * (units x * 2 ^ 149) < square (units y + units r)
+  pub above-smaller : (y : Float) → T (fits binary32 y) → T (nonNegative y) → mag y < mag r → square (mag y + mag r) < 4 * (mag x * 2 ^ 149)
+  pub below-larger : (y : Float) → T (fits binary32 y) → T (nonNegative y) → mag r < mag y → 4 * (mag x * 2 ^ 149) < square (mag y + mag r)
 
 -- the root of n, cut: to r, what was found so far, j more binary digits are added, the highest first, each where the square stays at most n
 unfoldable pub rootBits : ℕ → ℕ → ℕ → ℕ
@@ -42,8 +42,8 @@ rootPattern n = dropped n * 2 ^ 23 + nearestRoot (n / 2 ^ (2 * dropped n))
 
 -- IEEE 754's squareRoot: a zero is its own root, with its sign, and what is below zero has none
 unfoldable pub squareRoot : Float → Float
-unfolding rootPattern units
+unfolding rootPattern mag unit
 squareRoot nan = nan
 squareRoot (inf s) = cond s nan (inf false)
 squareRoot (fin s zero e) = fin s zero e
-squareRoot (fin s (suc m) e) = cond s nan (ofBits binary32 (rootPattern (units (fin false (suc m) e) * 2 ^ 149)))
+squareRoot (fin s (suc m) e) = cond s nan (ofBits binary32 (rootPattern (mag (fin false (suc m) e) * 2 ^ 149)))

@@ -12,11 +12,15 @@ nonNegative nan = false
 nonNegative (inf s) = false
 nonNegative (fin s m e) = not s
 
--- the magnitude, in units of 2 ^ -149
-unfoldable pub units : Float → ℕ
-units nan = 0
-units (inf s) = 0
-units (fin s m e) = m * up e * 2 ^ 149 / down e
+-- how many units make 1.0
+unfoldable pub unit : ℕ
+unit = 2 ^ 149
+
+-- the size of x in units; 0 for a NaN and an infinity. The division leaves nothing over where x fits binary32
+unfoldable pub mag : Float → ℕ
+mag nan = 0
+mag (inf s) = 0
+mag (fin s m e) = m * up e * unit / down e
 
 -- of a pattern below 7F800000: the digits, with the leading one where the exponent's field is not 0
 unfoldable pub significandOf : ℕ → ℕ

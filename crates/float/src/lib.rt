@@ -1,5 +1,5 @@
 // What `std` lacks for `f32`, worked out for every float: NaN, the infinities and both zeros among them.
-// The Rust original calls `f32::is_finite`, `from_le_bytes`, `to_le_bytes`, `clamp`, `floor`, `round` and `sqrt` of its own `std`.
+// The Rust original calls `f32::is_finite`, `from_le_bytes`, `clamp`, `floor`, `round` and `sqrt`, and `copy_from_slice`, of its own `std`.
 
 ghost use mathlib.Core.Path.{_≡_};
 ghost use mathlib.Core.List.{[], _∷_};
@@ -7,10 +7,11 @@ ghost use Prim.Native.Nat.{_+_, _*_, _^_, _<_};
 ghost use lib.Dec.{T};
 ghost use lib.Ieee.{binary32, ofBits, toBits};
 ghost use lib.Ieee.Scale.{finite};
-ghost use Rattle.float.specs.Bytes.{ofLeBytes, toLeBytes};
+ghost use Rattle.float.specs.Bytes.{ofLeBytes, putF32Of};
+ghost use Rattle.float.specs.Copying.{copyIntoOf};
 ghost use Rattle.float.specs.Rounding.{floorUnsigned, roundUnsigned, clamped};
 ghost use Rattle.float.specs.SquareRoot.{NearestRoot, squareRoot, rootPattern, nearestRoot, rootBits};
-ghost use Rattle.float.specs.Units.{nonNegative, units, significandOf, shiftOf};
+ghost use Rattle.float.specs.Units.{nonNegative, mag, significandOf, shiftOf};
 
 // Whether x is neither a NaN nor an infinity.
 pub fn is_finite(x: f32) -> bool
@@ -45,19 +46,14 @@ pub fn to_bits(x: f32) -> u32
 pub fn from_le_bytes(a: u8, b: u8, c: u8, d: u8) -> f32
     ensures { λ r. ⌜ r ≡ ofLeBytes (a ∷ b ∷ c ∷ d ∷ []) ⌝ }
 {
-    from_bits((a as u32) + 256 * ((b as u32) + 256 * ((c as u32) + 256 * (d as u32))))
+    from_bits(digits::word_of(a, b, c, d))
 }
 
-// The four bytes of a float, the least significant first.
-pub fn to_le_bytes(x: f32) -> [u8; 4]
-    ensures { λ r. ⌜ r ≡ toLeBytes x ⌝ }
+// Writes the four bytes of a float at `at`, the least significant first; where there is no room for four, nothing.
+pub fn put_f32(out: &mut [u8], at: usize, x: f32)
+    ensures { λ r. ⌜ now (out .exit) ≡ putF32Of (now (out .entry)) at x ⌝ }
 {
-    let n = to_bits(x);
-    let a = (n % 256) as u8;
-    let b = (n / 256 % 256) as u8;
-    let c = (n / 256 / 256 % 256) as u8;
-    let d = (n / 256 / 256 / 256 % 256) as u8;
-    [a, b, c, d]
+    digits::put_word(out, at, to_bits(x) as u64);
 }
 
 // Rust's `x.clamp(min, max)`, and where that panics too: what is below min is min, and then what is above max is max.
@@ -107,7 +103,7 @@ pub fn round_u16(x: f32) -> u16
 // IEEE 754's squareRoot: the nearest `f32`. Each zero is its own root; NaN and what is below zero give NaN.
 pub fn sqrt(x: f32) -> f32
     ensures value { λ r. ⌜ r ≡ squareRoot x ⌝ }
-    ensures nearest { λ r. ⌜ (T (nonNegative x) → 0 < units x → NearestRoot x r) ⌝ }
+    ensures nearest { λ r. ⌜ (T (nonNegative x) → 0 < mag x → NearestRoot x r) ⌝ }
 {
     if x == 0.0f32 {
         return x;
@@ -121,7 +117,21 @@ pub fn sqrt(x: f32) -> f32
     0.0f32 / 0.0f32
 }
 
-// A pattern with a clear sign stands for significand * 2^shift units of 2^-149. The significand.
+// The values of the input, into an output of the same length; where the lengths differ, nothing is written.
+pub fn copy_into(input: &[f32], output: &mut [f32])
+    ensures { λ _. ⌜ now (output .exit) ≡ copyIntoOf (now (input .entry)) (now (output .entry)) ⌝ }
+{
+    if input.len() != output.len() {
+        return;
+    }
+    let mut i = 0;
+    while i < input.len() {
+        output[i] = input[i];
+        i += 1;
+    }
+}
+
+// The significand of a pattern with a clear sign, which stands for significand * 2^shift units of 2^-149.
 fn significand(b: u32) -> u32
     ensures { λ r. ⌜ r ≡ significandOf b ⌝ }
 {

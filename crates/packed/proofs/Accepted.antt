@@ -22,7 +22,8 @@ use Rattle.radius.specs.Radii.{badRadius}
 use Rattle.packed.specs.Fields.{mapOf, hasRange, hasSigns, dimOf, bitsOf, boundsOf, projectionsOf}
 use Rattle.packed.specs.Layout.{headerLength, totalOf, headerOf}
 use Rattle.packed.specs.Radii.{badBounds, badBoundsFor}
-use Rattle.packed.specs.Reading.{radiiOf, badPolarBits, outsideProjections, recordChecks, readRecordOf}
+use Rattle.packed.specs.Reading.{radiiOf, badPolarBits, recordChecks, readRecordOf}
+use Rattle.setup.specs.Checks.{badProjections}
 use Rattle.packed.specs.Accepted.{Accepted}
 
 -- ---- the checks that depend on a bit of the map byte, both ways
@@ -44,14 +45,14 @@ bits-pass : (t : Bool) (b : ℕ) → 1 ≤ b → b ≤ 16 → (t ≡ true → b 
 bits-pass true b least most beside = rw (le-ltb b 1 least, le-ltb 15 b (beside refl))
 bits-pass false b least most beside = rw (le-ltb b 1 least, le-ltb 16 b most)
 
-projections-told : (t : Bool) (m : ℕ) → outsideProjections (cond t PolarWithQjl PolarOnly) m ≡ false → t ≡ true → (0 < m) × (m ≤ 4096)
+projections-told : (t : Bool) (m : ℕ) → badProjections (cond t PolarWithQjl PolarOnly) m ≡ false → t ≡ true → (0 < m) × (m ≤ 4096)
 projections-told true m e s =
     let both = or-false (eqb m 0) (ltb 4096 m) e in
     let above = eqb-false m 0 (both .0) in
     (omega (arith, above), ltb-false 4096 m (both .1))
 projections-told false m e s = true-not-false (sym s)
 
-projections-pass : (t : Bool) (m : ℕ) → (t ≡ true → (0 < m) × (m ≤ 4096)) → outsideProjections (cond t PolarWithQjl PolarOnly) m ≡ false
+projections-pass : (t : Bool) (m : ℕ) → (t ≡ true → (0 < m) × (m ≤ 4096)) → badProjections (cond t PolarWithQjl PolarOnly) m ≡ false
 projections-pass true m h = let both = h refl in rw (ne-eqb m 0 (λ z. omega (arith, z, both .0)), le-ltb 4096 m (both .1))
 projections-pass false m h = refl
 

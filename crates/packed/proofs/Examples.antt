@@ -10,7 +10,7 @@ use Rattle.error.specs.Answer.{value, refused, place}
 use Rattle.digits.specs.Digits.{number, digits}
 use Rattle.float.specs.Bytes.{ofLeBytes}
 use Rattle.bitpack.specs.Padding.{badPadding}
-use Rattle.radius.specs.Chunks.{chunks}
+use Rattle.lists.specs.Chunks.{chunks}
 use Rattle.radius.specs.Radii.{zeroFloat, oneFloat}
 use Rattle.radius.specs.Linear.{restored, linearRadius}
 use Rattle.radius.specs.declared.RadiusCodecProfileV1.the-variants.{F32}
@@ -23,7 +23,7 @@ use Rattle.packed.specs.Reading.{radiiOf, indicesOf, signsOf, readRecord
 abbrev pub bytes12 : List ℕ
 bytes12 = 0x00 ∷ 0x02 ∷ 0x00 ∷ 0x00 ∷ 0x00 ∷ 0x01 ∷ 0x00 ∷ 0x00 ∷ 0x80 ∷ 0x3F ∷ 0x01 ∷ []
 
-pub p12 : readRecordOf bytes12 ≡ value (record { mode = PolarOnly; profile = F32; dim = 2; bits = 1; projections = 0; range = record { min = zeroFloat; max = zeroFloat }; radii = 6; indices = 10; signs = 11; end = 11 })
+pub p12 : readRecordOf bytes12 ≡ value (record { mode = PolarOnly; profile = F32; dim = 2; bits = 1; projections = 0; range = record { min = zeroFloat; max = zeroFloat }; «radii_start» = 6; «indices_start» = 10; «signs_start» = 11; end = 11 })
 unfolding readRecordOf headerOf radiiOf radiiBytes indicesBytes signsBytes boundsOf projectionsOf number ones onesIn place chunks ofLeBytes ofBits lt badPadding
 p12 = refl
 
@@ -43,7 +43,7 @@ p12-signs = refl
 abbrev pub bytes13 : List ℕ
 bytes13 = 0x02 ∷ 0x02 ∷ 0x00 ∷ 0x00 ∷ 0x00 ∷ 0x01 ∷ 0x03 ∷ 0x00 ∷ 0x00 ∷ 0x00 ∷ 0x00 ∷ 0x00 ∷ 0x80 ∷ 0x3F ∷ 0x01 ∷ 0x05 ∷ []
 
-pub p13 : readRecordOf bytes13 ≡ value (record { mode = PolarWithQjl; profile = F32; dim = 2; bits = 1; projections = 3; range = record { min = zeroFloat; max = zeroFloat }; radii = 10; indices = 14; signs = 15; end = 16 })
+pub p13 : readRecordOf bytes13 ≡ value (record { mode = PolarWithQjl; profile = F32; dim = 2; bits = 1; projections = 3; range = record { min = zeroFloat; max = zeroFloat }; «radii_start» = 10; «indices_start» = 14; «signs_start» = 15; end = 16 })
 unfolding readRecordOf headerOf radiiOf radiiBytes indicesBytes signsBytes boundsOf projectionsOf number ones onesIn place chunks ofLeBytes ofBits lt badPadding
 p13 = refl
 

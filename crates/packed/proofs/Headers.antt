@@ -16,11 +16,11 @@ use Rattle.radius.specs.declared.RadiusCodecProfileV1.{RadiusCodecProfileV1}
 use Rattle.radius.specs.declared.RadiusCodecProfileV1.the-variants.{F32, BlockLinearU16, BlockLogU8}
 use Rattle.setup.specs.declared.TurboMode.{TurboMode}
 use Rattle.setup.specs.declared.TurboMode.the-variants.{PolarOnly, PolarWithQjl}
-use Rattle.rotation.specs.Checks.{badPower}
 use Rattle.setup.specs.Setups.{byMode}
 use Rattle.packed.specs.Fields.{mapOf, hasSigns, modeOf, wordAt, projectionsAt, dimOf, bitsOf, projectionsOf}
 use Rattle.packed.specs.Layout.{headerLength}
-use Rattle.packed.specs.Reading.{wrongSize, badPolarBits, outsideProjections, shapeChecks, headerChecks}
+use Rattle.packed.specs.Reading.{wrongSize, badRecordDimension, badPolarBits, shapeChecks, headerChecks}
+use Rattle.setup.specs.Checks.{badProjections}
 
 pub record Usable (bytes : List ℕ) : Type 0 where
   pub long : 6 ≤ length bytes
@@ -32,7 +32,7 @@ pub record Usable (bytes : List ℕ) : Type 0 where
   pub least-bits : 1 ≤ bitsOf bytes
   pub most-bits : bitsOf bytes ≤ byMode (modeOf (mapOf bytes)) 16 15
   pub header : headerLength (mapOf bytes) ≤ length bytes
-  pub projections : outsideProjections (modeOf (mapOf bytes)) (projectionsOf bytes) ≡ false
+  pub projections : badProjections (modeOf (mapOf bytes)) (projectionsOf bytes) ≡ false
 
 pub usable : {A : Type 0} (bytes : List ℕ) (a : Answer A) {x : A} → first (headerChecks bytes) a ≡ value x → Usable bytes
 usable bytes a e =
@@ -61,7 +61,7 @@ mode-most PolarWithQjl = omega arith
 pub bits-most : (bytes : List ℕ) → Usable bytes → bitsOf bytes ≤ 16
 bits-most bytes u = let h = mode-most (modeOf (mapOf bytes)) in omega (arith, h, u .most-bits)
 
-either-most : (t : Bool) (m : ℕ) → outsideProjections (cond t PolarWithQjl PolarOnly) (cond t m 0) ≡ false → cond t m 0 ≤ 4096
+either-most : (t : Bool) (m : ℕ) → badProjections (cond t PolarWithQjl PolarOnly) (cond t m 0) ≡ false → cond t m 0 ≤ 4096
 either-most true m e = ltb-false 4096 m (or-false (eqb m 0) (ltb 4096 m) e .1)
 either-most false m e = omega arith
 
@@ -81,10 +81,10 @@ product-most a b m n h k = mul-le-mul h k
 
 module _ {A : Type 0} (bytes : List ℕ) (a : Answer A) (long : ltb (length bytes) 6 ≡ false) (map : ltb 3 (mapOf bytes) ≡ false) where
   pub header-shape : {n p : ℕ} → first (shapeChecks (modeOf (mapOf bytes)) (dimOf bytes) (bitsOf bytes)) accepted ≡ refused n p → first (headerChecks bytes) a ≡ refused n p
-  header-shape e = rw (long, map) (append-refused (shapeChecks (modeOf (mapOf bytes)) (dimOf bytes) (bitsOf bytes)) (wrongSize (ltb (length bytes) (headerLength (mapOf bytes))) bytes ∷ check (outsideProjections (modeOf (mapOf bytes)) (projectionsOf bytes)) 8 (projectionsOf bytes) ∷ []) tt a e)
+  header-shape e = rw (long, map) (append-refused (shapeChecks (modeOf (mapOf bytes)) (dimOf bytes) (bitsOf bytes)) (wrongSize (ltb (length bytes) (headerLength (mapOf bytes))) bytes ∷ check (badProjections (modeOf (mapOf bytes)) (projectionsOf bytes)) 8 (projectionsOf bytes) ∷ []) tt a e)
 
   pub header-cut : first (shapeChecks (modeOf (mapOf bytes)) (dimOf bytes) (bitsOf bytes)) accepted ≡ accepted → ltb (length bytes) (headerLength (mapOf bytes)) ≡ true → first (headerChecks bytes) a ≡ refused 13 (length bytes)
-  header-cut pass e = rw (long, map) (append-passed (shapeChecks (modeOf (mapOf bytes)) (dimOf bytes) (bitsOf bytes)) (wrongSize (ltb (length bytes) (headerLength (mapOf bytes))) bytes ∷ check (outsideProjections (modeOf (mapOf bytes)) (projectionsOf bytes)) 8 (projectionsOf bytes) ∷ []) tt a pass ∙ rw e)
+  header-cut pass e = rw (long, map) (append-passed (shapeChecks (modeOf (mapOf bytes)) (dimOf bytes) (bitsOf bytes)) (wrongSize (ltb (length bytes) (headerLength (mapOf bytes))) bytes ∷ check (badProjections (modeOf (mapOf bytes)) (projectionsOf bytes)) 8 (projectionsOf bytes) ∷ []) tt a pass ∙ rw e)
 
 -- ---- the last check, where all before it pass
 
@@ -93,13 +93,13 @@ pub record Passed (bytes : List ℕ) : Type 0 where
   pub map : ltb 3 (mapOf bytes) ≡ false
   pub above : eqb (dimOf bytes) 0 ≡ false
   pub even : eqb (dimOf bytes % 2) 1 ≡ false
-  pub power : badPower (dimOf bytes) ≡ false
+  pub power : badRecordDimension (dimOf bytes) ≡ false
   pub bits : badPolarBits (modeOf (mapOf bytes)) (bitsOf bytes) ≡ false
   pub header : ltb (length bytes) (headerLength (mapOf bytes)) ≡ false
 
 module _ {A : Type 0} (bytes : List ℕ) (a : Answer A) (p : Passed bytes) where
-  pub header-wrong : outsideProjections (modeOf (mapOf bytes)) (projectionsOf bytes) ≡ true → first (headerChecks bytes) a ≡ refused 8 (projectionsOf bytes)
+  pub header-wrong : badProjections (modeOf (mapOf bytes)) (projectionsOf bytes) ≡ true → first (headerChecks bytes) a ≡ refused 8 (projectionsOf bytes)
   header-wrong e = rw (p .long, p .map, p .above, p .even, p .power, p .bits, p .header, e)
 
-  pub header-right : outsideProjections (modeOf (mapOf bytes)) (projectionsOf bytes) ≡ false → first (headerChecks bytes) a ≡ a
+  pub header-right : badProjections (modeOf (mapOf bytes)) (projectionsOf bytes) ≡ false → first (headerChecks bytes) a ≡ a
   header-right e = first-accepts (headerChecks bytes) a (p .long, (p .map, (p .above, (p .even, (p .power, (p .bits, (p .header, (e, tt))))))))

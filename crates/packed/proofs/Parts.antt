@@ -24,23 +24,23 @@ part-length bytes at long h = length-take-le long (drop at bytes) (rw length-dro
 -- ---- by the header's places
 
 module _ (bytes : List ℕ) {header : Header} (is : header ≡ headerOf bytes) where
-  pub radii-part : take (header .indices - header .radii) (drop (header .radii) bytes) ≡ radiiBytes bytes
+  pub radii-part : take (header .«indices_start» - header .«radii_start») (drop (header .«radii_start») bytes) ≡ radiiBytes bytes
   unfolding headerOf radiiBytes
-  radii-part = ap (λ (h : Header). take (h .indices - h .radii) (drop (h .radii) bytes)) is ∙ part-between bytes (radiiAt bytes) (radiiLength bytes)
+  radii-part = ap (λ (h : Header). take (h .«indices_start» - h .«radii_start») (drop (h .«radii_start») bytes)) is ∙ part-between bytes (radiiAt bytes) (radiiLength bytes)
 
-  pub indices-part : take (header .signs - header .indices) (drop (header .indices) bytes) ≡ indicesBytes bytes
+  pub indices-part : take (header .«signs_start» - header .«indices_start») (drop (header .«indices_start») bytes) ≡ indicesBytes bytes
   unfolding headerOf indicesBytes
-  indices-part = ap (λ (h : Header). take (h .signs - h .indices) (drop (h .indices) bytes)) is ∙ part-between bytes (indicesAt bytes) (indicesLength bytes)
+  indices-part = ap (λ (h : Header). take (h .«signs_start» - h .«indices_start») (drop (h .«indices_start») bytes)) is ∙ part-between bytes (indicesAt bytes) (indicesLength bytes)
 
-  pub signs-part : take (header .end - header .signs) (drop (header .signs) bytes) ≡ signsBytes bytes
+  pub signs-part : take (header .end - header .«signs_start») (drop (header .«signs_start») bytes) ≡ signsBytes bytes
   unfolding headerOf signsBytes
-  signs-part = ap (λ (h : Header). take (h .end - h .signs) (drop (h .signs) bytes)) is ∙ part-between bytes (signsAt bytes) (signsLength bytes)
+  signs-part = ap (λ (h : Header). take (h .end - h .«signs_start») (drop (h .«signs_start») bytes)) is ∙ part-between bytes (signsAt bytes) (signsLength bytes)
 
 -- the header's places, in their order
 pub record Ordered (header : Header) (total : ℕ) : Type 0 where
-  pub first : header .radii ≤ header .indices
-  pub second : header .indices ≤ header .signs
-  pub third : header .signs ≤ header .end
+  pub first : header .«radii_start» ≤ header .«indices_start»
+  pub second : header .«indices_start» ≤ header .«signs_start»
+  pub third : header .«signs_start» ≤ header .end
   pub last : header .end ≡ total
 
 pub ordered : (bytes : List ℕ) {header : Header} → header ≡ headerOf bytes → Ordered header (totalOf bytes)

@@ -1,23 +1,21 @@
 -- What the checks of the whole length, the range and the payloads answer, case by case, as the code comes to them. Assumes nothing.
-use Prim.Native.Nat.{ℕ, _*_, _/_, _≤_, _<_}
-use mathlib.Core.Path.{_≡_, sym, ap, _∙_}
+use Prim.Native.Nat.{ℕ, _≤_, _<_}
+use mathlib.Core.Path.{_≡_, sym, _∙_}
 use mathlib.Core.Bool.{true, false}
 use mathlib.Core.List.{List, [], _∷_}
-use native.Mathlib.Omega.{arith}
 use borrow.Author.Tests.{lt-ltb, le-ltb, eq-eqb, ne-eqb}
 use lib.ListN.{length}
 use Rattle.error.specs.Answer.{refused, place, first, accepted}
 use Rattle.bitpack.specs.Padding.{bytesFor, wrongPadding, validatePaddingZeroOf}
 use Rattle.error.proofs.Chains.{append-refused, append-passed}
-use Rattle.radius.specs.Codec.{widthOf, radiiFor}
+use Rattle.radius.specs.Codec.{radiiFor}
 use Rattle.radius.specs.declared.Range.{Range}
-use Rattle.radius.specs.declared.RadiusCodecProfileV1.{RadiusCodecProfileV1}
-use Rattle.radius.specs.declared.RadiusCodecProfileV1.the-variants.{F32, BlockLinearU16, BlockLogU8}
-use Rattle.radius.proofs.Chunks.{chunks-length}
+use Rattle.radius.specs.declared.RadiusCodecProfileV1.the-variants.{F32, BlockLinearU16}
+use Rattle.lists.proofs.Chunks.{chunks-length}
 use Rattle.radius.specs.Radii.{badRadius}
 use Rattle.packed.specs.Fields.{mapOf, hasRange, profileOf, boundsOf, projectionsOf}
 use Rattle.packed.specs.Layout.{pairsOf, indicesUsed, totalOf, radiiBytes, indicesBytes, signsBytes}
-use Rattle.packed.specs.Radii.{badBoundsFor, firstBad}
+use Rattle.packed.specs.Radii.{badBoundsFor}
 use Rattle.packed.specs.Reading.{radiiOf, payloadChecks}
 use Rattle.packed.proofs.Parts.{length-indices, length-signs}
 use mathlib.Core.Bool.{Bool, cond}
@@ -32,16 +30,6 @@ either-length false count range payload = chunks-length ofLeBytes 4 count payloa
 pub length-radiiOf : (bytes : List ℕ) → length (radiiOf bytes) ≡ pairsOf bytes
 unfolding radiiOf
 length-radiiOf bytes = either-length (hasRange (mapOf bytes)) (pairsOf bytes) (boundsOf bytes) (radiiBytes bytes)
-
--- of a payload of whole radii, the first one that is refused
-whole-count : (profile : RadiusCodecProfileV1) (n count : ℕ) → n ≡ widthOf profile * count → n / widthOf profile ≡ count
-whole-count F32 n count h = omega arith
-whole-count BlockLinearU16 n count h = omega arith
-whole-count BlockLogU8 n count h = omega arith
-
-pub first-bad-whole : (profile : RadiusCodecProfileV1) (range : Range) (payload : List ℕ) (count : ℕ) → length payload ≡ widthOf profile * count → firstBad profile range payload ≡ place badRadius (radiiFor profile count range payload)
-unfolding firstBad
-first-bad-whole profile range payload count h = ap (λ (n : ℕ). place badRadius (radiiFor profile n range payload)) (whole-count profile (length payload) count h)
 
 -- of a payload of the right length only the padding is left to say
 pub padding-only : (packed : List ℕ) (used : ℕ) → length packed ≡ bytesFor used → validatePaddingZeroOf packed used ≡ first (wrongPadding packed used ∷ []) accepted

@@ -23,7 +23,7 @@ use Rattle.radius.specs.Codec.{radiiFor}
 use Rattle.radius.specs.Linear.{restored, linearRadius}
 use Rattle.radius.specs.declared.Range.{Range}
 use Rattle.radius.specs.declared.RadiusCodecProfileV1.the-variants.{F32, BlockLinearU16}
-use Rattle.radius.proofs.Chunks.{chunks-getD, chunks-length}
+use Rattle.lists.proofs.Chunks.{chunks-getD, chunks-length}
 use Rattle.packed.specs.Fields.{mapOf, hasRange, bitsOf, boundsOf, projectionsOf}
 use Rattle.packed.specs.Layout.{pairsOf, radiiBytes, indicesBytes, signsBytes}
 use Rattle.packed.specs.Reading.{radiiOf, indicesOf, signsOf}

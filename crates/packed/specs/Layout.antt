@@ -66,8 +66,8 @@ headerOf bytes = record {
   bits = bitsOf bytes;
   projections = projectionsOf bytes;
   range = boundsOf bytes;
-  radii = radiiAt bytes;
-  indices = indicesAt bytes;
-  signs = signsAt bytes;
+  «radii_start» = radiiAt bytes;
+  «indices_start» = indicesAt bytes;
+  «signs_start» = signsAt bytes;
   end = totalOf bytes;
 }

@@ -2,8 +2,9 @@
 -- six bytes 13; 18; 2; 3; 4; 1 (16 is refused beside bit 1); header cut short 13; 8; total length 13; 17 ..; 16; 14 for indices; 14 for signs.'
 -- Assumes nothing.
 use Prim.Native.Nat.{ℕ, _^_}
-use mathlib.Core.Bool.{Bool, false, _||_}
+use mathlib.Core.Bool.{Bool, not, _||_}
 use mathlib.Core.List.{List, [], _∷_, _++_, map}
+use lib.Count.{ones}
 use lib.Dec.{ltb, eqb}
 use lib.IntN.{ℤ}
 use lib.ListN.{length}
@@ -15,8 +16,9 @@ use Rattle.error.specs.Checks.{differs, wrongRoom}
 use Rattle.bitpack.specs.Signs.{signOfBit}
 use Rattle.radius.specs.Codec.{radiiFor}
 use Rattle.radius.specs.Radii.{badRadius}
-use Rattle.rotation.specs.Checks.{wrongZeroDimension, wrongOddDimension, wrongPower}
+use Rattle.rotation.specs.Checks.{wrongZeroDimension, wrongOddDimension}
 use Rattle.setup.specs.declared.TurboMode.{TurboMode}
+use Rattle.setup.specs.Checks.{wrongProjections}
 use Rattle.setup.specs.Setups.{byMode}
 use Rattle.packed.specs.Fields.{mapOf, profileOf, modeOf, dimOf, bitsOf, boundsOf, projectionsOf}
 use Rattle.packed.specs.Layout.{headerLength, pairsOf, indicesUsed, totalOf, radiiBytes, indicesBytes, signsBytes, headerOf}
@@ -56,13 +58,17 @@ wrongMap bytes = check (ltb 3 (mapOf bytes)) 18 (mapOf bytes)
 abbrev pub badPolarBits : TurboMode → ℕ → Bool
 badPolarBits mode bits = ltb bits 1 || ltb (byMode mode 16 15) bits
 
--- '8: in residual mode, projections 0 or above 4,096.'
-abbrev pub outsideProjections : TurboMode → ℕ → Bool
-outsideProjections mode m = byMode mode false (eqb m 0 || ltb 4096 m)
+-- 'even dimension that is no power of two, or above 4,096': the record's own rule, in reading and in writing
+abbrev pub badRecordDimension : ℕ → Bool
+badRecordDimension dim = not (eqb (ones dim) 1) || ltb 4096 dim
+
+-- '4: .. Place: the dimension.'
+abbrev pub wrongRecordDimension : ℕ → Check
+wrongRecordDimension dim = check (badRecordDimension dim) 4 dim
 
 -- '2; 3; 4; 1', in reading and in writing
 abbrev pub shapeChecks : TurboMode → ℕ → ℕ → List Check
-shapeChecks mode dim bits = wrongZeroDimension dim ∷ wrongOddDimension dim ∷ wrongPower dim ∷ check (badPolarBits mode bits) 1 bits ∷ []
+shapeChecks mode dim bits = wrongZeroDimension dim ∷ wrongOddDimension dim ∷ wrongRecordDimension dim ∷ check (badPolarBits mode bits) 1 bits ∷ []
 
 -- the checks of the header up to its projections
 abbrev pub headerChecks : List ℕ → List Check
@@ -71,7 +77,7 @@ headerChecks bytes =
     ∷ wrongMap bytes
     ∷ shapeChecks (modeOf (mapOf bytes)) (dimOf bytes) (bitsOf bytes)
     ++ (wrongSize (ltb (length bytes) (headerLength (mapOf bytes))) bytes
-    ∷ check (outsideProjections (modeOf (mapOf bytes)) (projectionsOf bytes)) 8 (projectionsOf bytes)
+    ∷ wrongProjections (modeOf (mapOf bytes)) (projectionsOf bytes)
     ∷ [])
 
 -- the checks of the whole length, the range and the payloads. '16: a radius is NaN, infinite or below zero', as it is read: 'A linear radius that

@@ -13,23 +13,26 @@ use error::ZERO_PROJECTION_COUNT;
 use radius::RadiusCodecProfileV1;
 use radius::Range;
 use setup::TurboMode;
-ghost use Prim.Native.Nat.{_+_, _*_, _≤_};
+ghost use Prim.Native.Nat.{_+_, _≤_};
 ghost use mathlib.Core.Path.{_≡_};
-ghost use mathlib.Core.List.{map};
-ghost use lib.ListN.{length, take, drop};
-ghost use Rattle.error.specs.Answer.{first, place, accepted};
+ghost use lib.ListN.{length};
+ghost use Rattle.error.specs.Answer.{first, accepted};
 ghost use Rattle.error.specs.Outcomes.{says};
-ghost use Rattle.float.specs.Bytes.{ofLeBytes};
-ghost use Rattle.radius.specs.Chunks.{chunks};
-ghost use Rattle.radius.specs.Codec.{widthOf};
-ghost use Rattle.radius.specs.Linear.{linearRadius};
-ghost use Rattle.radius.specs.Radii.{badRadius};
 ghost use Rattle.packed.specs.Fields.{mapOf, profileOf, modeOf, wordAt, floatAt, boundsOf, projectionsOf};
 ghost use Rattle.packed.specs.Layout.{headerLength, headerOf};
-ghost use Rattle.packed.specs.Radii.{badBounds, badBoundsFor, firstBad};
-ghost use Rattle.packed.specs.Reading.{saysReading, badPolarBits, outsideProjections, shapeChecks, headerChecks, payloadChecks, readRecordOf};
+ghost use Rattle.packed.specs.Radii.{badBounds, badBoundsFor};
+ghost use Rattle.packed.specs.Reading.{saysReading, badRecordDimension, badPolarBits, shapeChecks, headerChecks, payloadChecks, readRecordOf};
 
-// What a record says before its payloads, and where these stand: each from its own field to the next one, the signs to `end`.
+// The scalars that a record is written with. Without signs the projections are ignored.
+pub struct Code {
+    pub profile: RadiusCodecProfileV1,
+    pub mode: TurboMode,
+    pub dim: usize,
+    pub bits: u8,
+    pub projections: usize,
+}
+
+// What a record says before its payloads, and where these start in its bytes: each goes on to where the next one starts, the signs to `end`.
 pub struct Header {
     pub mode: TurboMode,
     pub profile: RadiusCodecProfileV1,
@@ -37,9 +40,9 @@ pub struct Header {
     pub bits: u8,
     pub projections: usize,
     pub range: Range,
-    pub radii: usize,
-    pub indices: usize,
-    pub signs: usize,
+    pub radii_start: usize,
+    pub indices_start: usize,
+    pub signs_start: usize,
     pub end: usize,
 }
 
@@ -79,7 +82,7 @@ pub fn check_shape(mode: TurboMode, dim: usize, bits: u8) -> Outcome
             place: dim,
         };
     }
-    if rotation::outside_powers(dim) {
+    if outside_dimension(dim) {
         return Outcome::Refused {
             number: ROTATION_FAILED,
             place: dim,
@@ -99,43 +102,6 @@ pub fn header_length(map: u8) -> usize
     ensures { λ r. ⌜ r ≡ headerLength map ⌝ }
 {
     6 + 8 * (map % 2) as usize + 4 * (map / 2 % 2) as usize
-}
-
-// How many bytes a radius takes.
-pub fn width_of(profile: RadiusCodecProfileV1) -> usize
-    ensures { λ r. ⌜ r ≡ widthOf profile ⌝ }
-{
-    match profile {
-        RadiusCodecProfileV1::F32 => 4,
-        RadiusCodecProfileV1::BlockLinearU16 => 2,
-        RadiusCodecProfileV1::BlockLogU8 => 1,
-    }
-}
-
-// Whether, beside signs, the projections are 0 or above 4,096.
-pub fn outside_projections(mode: TurboMode, projections: usize) -> bool
-    ensures { λ r. ⌜ r ≡ outsideProjections mode projections ⌝ }
-{
-    match mode {
-        TurboMode::PolarOnly => false,
-        TurboMode::PolarWithQjl => {
-            if projections == 0 {
-                return true;
-            }
-            4096 < projections
-        }
-    }
-}
-
-// The place of the first radius of a payload that is refused as it is read, or how many whole ones there are.
-pub fn first_bad(payload: &[u8], profile: RadiusCodecProfileV1, range: Range) -> usize
-    ensures { λ r. ⌜ r ≡ firstBad profile range (now (payload .entry)) ⌝ }
-{
-    match profile {
-        RadiusCodecProfileV1::F32 => first_bad_float(payload, payload.len() / 4),
-        RadiusCodecProfileV1::BlockLinearU16 => first_bad_linear(payload, range, payload.len() / 2),
-        RadiusCodecProfileV1::BlockLogU8 => 0,
-    }
 }
 
 // The checks of the header up to its projections.
@@ -169,7 +135,7 @@ fn check_header(bytes: &[u8]) -> Outcome
         };
     }
     let projections = projections_of(bytes);
-    if outside_projections(mode_of(map), projections) {
+    if setup::outside_projections(mode_of(map), projections) {
         return Outcome::Refused {
             number: ZERO_PROJECTION_COUNT,
             place: projections,
@@ -189,7 +155,7 @@ fn header_of(bytes: &[u8]) -> Header
     let projections = projections_of(bytes);
     let profile = profile_of(map);
     let radii = header_length(map);
-    let indices = radii + width_of(profile) * (dim / 2);
+    let indices = radii + radius::width_of(profile) * (dim / 2);
     let signs = indices + (dim / 2 * (bits as usize) + 7) / 8;
     let end = signs + (projections + 7) / 8;
     let mode = mode_of(map);
@@ -201,9 +167,9 @@ fn header_of(bytes: &[u8]) -> Header
         bits,
         projections,
         range,
-        radii,
-        indices,
-        signs,
+        radii_start: radii,
+        indices_start: indices,
+        signs_start: signs,
         end,
     }
 }
@@ -213,9 +179,9 @@ fn check_payloads(bytes: &[u8], header: Header) -> Outcome
     requires { ⌜ (header ≡ headerOf (now bytes)) × (first (headerChecks (now bytes)) accepted ≡ accepted) ⌝ }
     ensures { λ r. ⌜ says r ≡ first (payloadChecks (now (bytes .entry))) accepted ⌝ }
 {
-    let radii = header.radii;
-    let indices = header.indices;
-    let signs = header.signs;
+    let radii = header.radii_start;
+    let indices = header.indices_start;
+    let signs = header.signs_start;
     let end = header.end;
     if bytes.len() != end {
         return Outcome::Refused {
@@ -232,7 +198,7 @@ fn check_payloads(bytes: &[u8], header: Header) -> Outcome
         };
     }
     let pairs = header.dim / 2;
-    let bad = first_bad(&bytes[radii..indices], profile, range);
+    let bad = radius::first_bad_payload(&bytes[radii..indices], profile, range);
     if bad < pairs {
         return Outcome::Refused {
             number: MALFORMED_RADIUS,
@@ -252,41 +218,7 @@ fn check_payloads(bytes: &[u8], header: Header) -> Outcome
     bitpack::validate_padding_zero(&bytes[signs..end], header.projections)
 }
 
-// The place of the first four bytes that are no radius, or how many there are.
-fn first_bad_float(payload: &[u8], count: usize) -> usize
-    requires { ⌜ 4 * count ≤ length (now payload) ⌝ }
-    ensures { λ r. ⌜ r ≡ place badRadius (map ofLeBytes (chunks 4 count (now (payload .entry)))) ⌝ }
-{
-    let mut i = 0;
-    let mut at = 0;
-    while i < count {
-        if is_bad(get_f32(payload, at)) {
-            return i;
-        }
-        i += 1;
-        at += 4;
-    }
-    i
-}
-
-// The place of the first two bytes that read as no radius within a range, or how many there are.
-fn first_bad_linear(payload: &[u8], range: Range, count: usize) -> usize
-    requires { ⌜ 2 * count ≤ length (now payload) ⌝ }
-    ensures { λ r. ⌜ r ≡ place badRadius (map (linearRadius range) (chunks 2 count (now (payload .entry)))) ⌝ }
-{
-    let mut i = 0;
-    let mut at = 0;
-    while i < count {
-        if is_bad(get_linear(payload, at, range)) {
-            return i;
-        }
-        i += 1;
-        at += 2;
-    }
-    i
-}
-
-// Whether the map byte's bit 1 stands: signs beside the polar code.
+// The mode that the map byte tells by its bit 1: signs beside the polar code where it stands.
 fn mode_of(map: u8) -> TurboMode
     ensures { λ r. ⌜ r ≡ modeOf map ⌝ }
 {
@@ -334,6 +266,13 @@ fn projections_of(bytes: &[u8]) -> usize
     0
 }
 
+// Whether an even dimension is none that a record may have.
+fn outside_dimension(dim: usize) -> bool
+    ensures { λ r. ⌜ r ≡ badRecordDimension dim ⌝ }
+{
+    rotation::outside_powers(dim)
+}
+
 // Whether polar bits are outside 1..16, or 16 beside signs.
 fn outside_bits(mode: TurboMode, bits: u8) -> bool
     ensures { λ r. ⌜ r ≡ badPolarBits mode bits ⌝ }
@@ -362,23 +301,7 @@ fn wrong_bounds(profile: RadiusCodecProfileV1, range: Range) -> bool
 fn bad_bounds(range: Range) -> bool
     ensures { λ r. ⌜ r ≡ badBounds range ⌝ }
 {
-    is_bad(range.min) || is_bad(range.max) || range.max < range.min
-}
-
-// Whether a radius is NaN, infinite or below zero.
-fn is_bad(radius: f32) -> bool
-    ensures { λ r. ⌜ r ≡ badRadius radius ⌝ }
-{
-    !float::is_finite(radius) || radius < 0.0
-}
-
-// The radius of the two bytes at `at`, within a range.
-fn get_linear(payload: &[u8], at: usize, range: Range) -> f32
-    requires { ⌜ at + 2 ≤ length (now payload) ⌝ }
-    ensures { λ r. ⌜ r ≡ linearRadius range (take 2 (drop at (now (payload .entry)))) ⌝ }
-{
-    let n = (payload[at] as u16) + 256 * (payload[at + 1] as u16);
-    range.min + (range.max - range.min) * (n as f32 / 65535.0)
+    radius::is_bad_radius(range.min) || radius::is_bad_radius(range.max) || range.max < range.min
 }
 
 // The u32 of the four bytes at `at`.
@@ -386,11 +309,7 @@ fn get_u32(bytes: &[u8], at: usize) -> usize
     requires { ⌜ at + 4 ≤ length (now bytes) ⌝ }
     ensures { λ r. ⌜ r ≡ wordAt (now (bytes .entry)) at ⌝ }
 {
-    let a = bytes[at] as usize;
-    let b = bytes[at + 1] as usize;
-    let c = bytes[at + 2] as usize;
-    let d = bytes[at + 3] as usize;
-    a + 256 * (b + 256 * (c + 256 * d))
+    digits::word_of(bytes[at], bytes[at + 1], bytes[at + 2], bytes[at + 3]) as usize
 }
 
 // The f32 of the four bytes at `at`.

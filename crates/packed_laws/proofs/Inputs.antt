@@ -19,56 +19,58 @@ use Rattle.bitpack.specs.Signs.{badSketchSign}
 use Rattle.bitpack.proofs.Differs.{differs-same}
 use Rattle.radius.specs.Codec.{badProfile}
 use Rattle.radius.specs.Radii.{badRadius}
-use Rattle.radius.specs.declared.RadiusCodecProfileV1.{RadiusCodecProfileV1}
-use Rattle.setup.specs.declared.TurboMode.{TurboMode}
-use Rattle.packed.specs.Reading.{badPolarBits, outsideProjections}
-use Rattle.packed_writing.specs.Writing.{countedFor, recordOf, neededFor, readBack, fieldChecks, valueChecks, writeRecordOf}
+use Rattle.packed.specs.declared.Code.{Code}
+use Rattle.packed.specs.Reading.{badPolarBits}
+use Rattle.setup.specs.Checks.{badProjections}
+use Rattle.radius.specs.Firsts.{readBack}
+use Rattle.packed_writing.specs.Writing.{recordOf, neededFor, fieldChecks, valueChecks, writeRecordOf}
+use Rattle.setup.specs.Setups.{counted}
 
-pub record Written (profile : RadiusCodecProfileV1) (dim bits : ℕ) (mode : TurboMode) (m : ℕ) (radii : List Float) (indices : List ℕ) (signs : List ℤ) (room : ℕ) (bytes : List ℕ) : Type 0 where
-  pub made : bytes ≡ recordOf profile dim bits mode m radii indices signs
-  pub known : badProfile profile ≡ false
-  pub above : 0 < dim
-  pub even : dim % 2 ≡ 0
-  pub one-bit : ones dim ≡ 1
-  pub most : dim ≤ 4096
-  pub bits-inside : badPolarBits mode bits ≡ false
-  pub projections-inside : outsideProjections mode m ≡ false
-  pub radii-long : length radii ≡ dim / 2
-  pub indices-long : length indices ≡ dim / 2
-  pub signs-long : length signs ≡ countedFor mode m
+pub record Written (code : Code) (radii : List Float) (indices : List ℕ) (signs : List ℤ) (room : ℕ) (bytes : List ℕ) : Type 0 where
+  pub made : bytes ≡ recordOf code radii indices signs
+  pub known : badProfile (code .profile) ≡ false
+  pub above : 0 < code .dim
+  pub even : code .dim % 2 ≡ 0
+  pub one-bit : ones (code .dim) ≡ 1
+  pub most : code .dim ≤ 4096
+  pub bits-inside : badPolarBits (code .mode) (code .bits) ≡ false
+  pub projections-inside : badProjections (code .mode) (code .projections) ≡ false
+  pub radii-long : length radii ≡ code .dim / 2
+  pub indices-long : length indices ≡ code .dim / 2
+  pub signs-long : length signs ≡ counted (code .mode) (code .projections)
   pub radii-good : (i : ℕ) → i < length radii → badRadius (getD radii i nan) ≡ false
-  pub read-good : (i : ℕ) → i < length (readBack profile radii) → badRadius (getD (readBack profile radii) i nan) ≡ false
-  pub indices-good : ltb (place (badIndex bits) indices) (length indices) ≡ false
+  pub read-good : (i : ℕ) → i < length (readBack (code .profile) radii) → badRadius (getD (readBack (code .profile) radii) i nan) ≡ false
+  pub indices-good : ltb (place (badIndex (code .bits)) indices) (length indices) ≡ false
   pub signs-good : ltb (place badSketchSign signs) (length signs) ≡ false
-  pub sized : room ≡ neededFor profile dim bits mode m
+  pub sized : room ≡ neededFor code
 
-pub written : (profile : RadiusCodecProfileV1) (dim bits : ℕ) (mode : TurboMode) (m : ℕ) (radii : List Float) (indices : List ℕ) (signs : List ℤ) (room : ℕ) {bytes : List ℕ}
-    → writeRecordOf profile dim bits mode m radii indices signs room ≡ value bytes → Written profile dim bits mode m radii indices signs room bytes
+pub written : (code : Code) (radii : List Float) (indices : List ℕ) (signs : List ℤ) (room : ℕ) {bytes : List ℕ}
+    → writeRecordOf code radii indices signs room ≡ value bytes → Written code radii indices signs room bytes
 unfolding writeRecordOf
-written profile dim bits mode m radii indices signs room told =
-    let checks = fieldChecks profile dim bits mode m (length radii) (length indices) (length signs) ++ valueChecks profile bits radii indices signs ++ (wrongRoom room (neededFor profile dim bits mode m) ∷ []) in
-    let record-bytes = recordOf profile dim bits mode m radii indices signs in
+written code radii indices signs room told =
+    let checks = fieldChecks code (length radii) (length indices) (length signs) ++ valueChecks (code .profile) (code .bits) radii indices signs ++ (wrongRoom room (neededFor code) ∷ []) in
+    let record-bytes = recordOf code radii indices signs in
     let all = first-all checks (value record-bytes) told in
     let lengths = all .1 .1 .1 .1 .1 .1 in
     let values = lengths .1 .1 .1 in
-    let powers = or-false (not (eqb (ones dim) 1)) (ltb 4096 dim) (all .1 .1 .1 .0) in
-    let above = eqb-false dim 0 (all .1 .0) in
-    let even = eqb-false (dim % 2) 1 (all .1 .1 .0) in
+    let powers = or-false (not (eqb (ones (code .dim)) 1)) (ltb 4096 (code .dim)) (all .1 .1 .1 .0) in
+    let above = eqb-false (code .dim) 0 (all .1 .0) in
+    let even = eqb-false (code .dim % 2) 1 (all .1 .1 .0) in
     record {
       made = sym (first-value checks record-bytes told);
       known = all .0;
       above = omega (arith, above);
       even = omega (arith, even);
-      one-bit = eqb-true (ones dim) 1 (not-false (eqb (ones dim) 1) (powers .0));
-      most = ltb-false 4096 dim (powers .1);
+      one-bit = eqb-true (ones (code .dim)) 1 (not-false (eqb (ones (code .dim)) 1) (powers .0));
+      most = ltb-false 4096 (code .dim) (powers .1);
       bits-inside = all .1 .1 .1 .1 .0;
       projections-inside = all .1 .1 .1 .1 .1 .0;
-      radii-long = differs-same (length radii) (dim / 2) (lengths .0);
-      indices-long = differs-same (length indices) (dim / 2) (lengths .1 .0);
-      signs-long = differs-same (length signs) (countedFor mode m) (lengths .1 .1 .0);
+      radii-long = differs-same (length radii) (code .dim / 2) (lengths .0);
+      indices-long = differs-same (length indices) (code .dim / 2) (lengths .1 .0);
+      signs-long = differs-same (length signs) (counted (code .mode) (code .projections)) (lengths .1 .1 .0);
       radii-good = each-clear badRadius radii nan (values .0);
-      read-good = each-clear badRadius (readBack profile radii) nan (values .1 .0);
+      read-good = each-clear badRadius (readBack (code .profile) radii) nan (values .1 .0);
       indices-good = values .1 .1 .0;
       signs-good = values .1 .1 .1 .0;
-      sized = differs-same room (neededFor profile dim bits mode m) (values .1 .1 .1 .1 .0);
+      sized = differs-same room (neededFor code) (values .1 .1 .1 .1 .0);
     }

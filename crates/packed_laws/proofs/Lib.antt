@@ -10,3 +10,4 @@ pub mod Rewritten
 pub mod NotBelow
 pub mod LinearRadius
 pub mod LinearRecord
+pub mod Promised

@@ -23,7 +23,7 @@ use Rattle.error.specs.Checks.{differs}
 use Rattle.radius.specs.Linear.{linearRadius}
 use Rattle.radius.specs.Radii.{zeroFloat, badRadius}
 use Rattle.radius.specs.declared.Range.{Range}
-use Rattle.radius.proofs.Chunks.{chunks-getD}
+use Rattle.lists.proofs.Chunks.{chunks-getD}
 use Rattle.packed.specs.Fields.{mapOf, hasRange, profileOf, floatAt, boundsOf, projectionsOf}
 use Rattle.packed.specs.Layout.{pairsOf, radiiAt, radiiLength, indicesUsed, totalOf, radiiBytes, indicesBytes, signsBytes, headerOf}
 use Rattle.packed.specs.Radii.{badBounds, badBoundsFor}

@@ -23,16 +23,17 @@ use Rattle.bitpack.specs.Packing.{wrongOverflow, packIndicesOf, unpackIndicesOf
 use Rattle.bitpack.specs.Signs.{unpackSignsOf}
 use Rattle.bitpack.proofs.RoundTrip.{unpack-pack, unpack-indices, unpack-pack-signs, unpack-signs-bits}
 use Rattle.radius.specs.Codec.{widthOf, rangeFor, payloadFor}
-use Rattle.radius.specs.declared.RadiusCodecProfileV1.{RadiusCodecProfileV1}
 use Rattle.radius.specs.declared.RadiusCodecProfileV1.the-variants.{F32}
-use Rattle.radius.proofs.Chunks.{chunks-joined, map-same}
+use Rattle.lists.proofs.Chunks.{chunks-joined, map-same}
 use Rattle.radius.proofs.RoundTrip.{Floats}
 use Rattle.setup.specs.declared.TurboMode.{TurboMode}
 use Rattle.setup.specs.declared.TurboMode.the-variants.{PolarOnly, PolarWithQjl}
+use Rattle.packed.specs.declared.Code.{Code}
 use Rattle.packed.specs.Fields.{projectionsOf}
 use Rattle.packed.specs.Layout.{headerLength, pairsOf, indicesUsed, indicesAt, indicesLength, signsAt, signsLength, partAt, radiiBytes, indicesBytes, signsBytes}
 use Rattle.packed.specs.Reading.{badPolarBits, radiiOf, indicesOf, signsOf}
-use Rattle.packed_writing.specs.Writing.{mapFor, headerBytes, indexBytes, signBytes, recordOf, readBack}
+use Rattle.packed_writing.specs.Writing.{mapFor, headerBytes, indexBytes, signBytes, recordOf}
+use Rattle.radius.specs.Firsts.{readBack}
 use Rattle.packed.proofs.Headers.{product-most}
 use Rattle.packed_writing.proofs.Writing.{indices-pass, signs-pass}
 use Rattle.packed_writing.proofs.PartsBack.{length-header, length-payloadFor, radii-back}
@@ -77,52 +78,52 @@ floats-readBack radii f =
     chunks-joined toLeBytes 4 length-toLeBytes ofLeBytes radii
     ∙ map-same (λ r. ofLeBytes (toLeBytes r)) radii nan (λ i h. ofLeBytes-toLeBytes (getD radii i nan) (f .at i h))
 
-module _ {profile : RadiusCodecProfileV1} {dim bits : ℕ} {mode : TurboMode} {m : ℕ} {radii : List Float} {indices : List ℕ} {signs : List ℤ} {room : ℕ} {bytes : List ℕ} (w : Written profile dim bits mode m radii indices signs room bytes) where
+module _ {code : Code} {radii : List Float} {indices : List ℕ} {signs : List ℤ} {room : ℕ} {bytes : List ℕ} (w : Written code radii indices signs room bytes) where
   -- ---- the payloads' bytes
 
-  pub radii-bytes-written : radiiBytes bytes ≡ payloadFor profile radii
-  radii-bytes-written = ap radiiBytes (w .made) ∙ radii-back profile dim bits mode m radii indices signs (w .known) (omega (arith, w .most)) (w .radii-long)
+  pub radii-bytes-written : radiiBytes bytes ≡ payloadFor (code .profile) radii
+  radii-bytes-written = ap radiiBytes (w .made) ∙ radii-back code radii indices signs (w .known) (omega (arith, w .most)) (w .radii-long)
 
   -- where the indices start
-  indices-start : indicesAt bytes ≡ headerLength (mapFor profile mode) + widthOf profile * length radii
+  indices-start : indicesAt bytes ≡ headerLength (mapFor (code .profile) (code .mode)) + widthOf (code .profile) * length radii
   indices-start = rw (profile-written w, map-written w, dim-written w, w .radii-long)
 
-  indices-size : indicesUsed bytes ≡ length indices * bits
+  indices-size : indicesUsed bytes ≡ length indices * code .bits
   indices-size = rw (dim-written w, bits-written w, w .indices-long)
 
   signs-size : projectionsOf bytes ≡ length signs
   signs-size = projections-written w ∙ sym (w .signs-long)
 
-  before-indices : length (headerBytes profile dim bits mode m (rangeFor profile radii)) + length (payloadFor profile radii) ≡ indicesAt bytes
-  before-indices = rw (length-header profile dim bits mode m (rangeFor profile radii), length-payloadFor profile radii (w .known)) (sym indices-start)
+  before-indices : length (headerBytes code (rangeFor (code .profile) radii)) + length (payloadFor (code .profile) radii) ≡ indicesAt bytes
+  before-indices = rw (length-header code (rangeFor (code .profile) radii), length-payloadFor (code .profile) radii (w .known)) (sym indices-start)
 
-  pub indices-bytes-written : indicesBytes bytes ≡ indexBytes bits indices
+  pub indices-bytes-written : indicesBytes bytes ≡ indexBytes (code .bits) indices
   unfolding indicesBytes recordOf
   indices-bytes-written =
       ap (λ (l : List ℕ). partAt l (indicesAt bytes) (indicesLength bytes)) (w .made)
-      ∙ part-third (headerBytes profile dim bits mode m (rangeFor profile radii)) (payloadFor profile radii) (indexBytes bits indices) (signBytes signs) (indicesAt bytes) (indicesLength bytes)
+      ∙ part-third (headerBytes code (rangeFor (code .profile) radii)) (payloadFor (code .profile) radii) (indexBytes (code .bits) indices) (signBytes signs) (indicesAt bytes) (indicesLength bytes)
       before-indices
-      (length-digits 256 (bytesFor (length indices * bits)) (number (2 ^ bits) indices) ∙ ap bytesFor (sym indices-size))
+      (length-digits 256 (bytesFor (length indices * code .bits)) (number (2 ^ code .bits) indices) ∙ ap bytesFor (sym indices-size))
 
   pub signs-bytes-written : signsBytes bytes ≡ signBytes signs
   unfolding signsBytes recordOf
   signs-bytes-written =
-      let sized : length (indexBytes bits indices) ≡ indicesLength bytes = length-digits 256 (bytesFor (length indices * bits)) (number (2 ^ bits) indices) ∙ ap bytesFor (sym indices-size) in
+      let sized : length (indexBytes (code .bits) indices) ≡ indicesLength bytes = length-digits 256 (bytesFor (length indices * code .bits)) (number (2 ^ code .bits) indices) ∙ ap bytesFor (sym indices-size) in
       ap (λ (l : List ℕ). partAt l (signsAt bytes) (signsLength bytes)) (w .made)
-      ∙ part-last (headerBytes profile dim bits mode m (rangeFor profile radii)) (payloadFor profile radii) (indexBytes bits indices) (signBytes signs) (signsAt bytes) (signsLength bytes)
+      ∙ part-last (headerBytes code (rangeFor (code .profile) radii)) (payloadFor (code .profile) radii) (indexBytes (code .bits) indices) (signBytes signs) (signsAt bytes) (signsLength bytes)
       (rw (before-indices, sized))
       (length-digits 256 (bytesFor (length signs)) _ ∙ ap bytesFor (sym signs-size))
 
   -- ---- packed, and unpacked again
 
-  indices-packed : packIndicesOf indices bits (bytesFor (length indices * bits)) ≡ value (indexBytes bits indices)
+  indices-packed : packIndicesOf indices (code .bits) (bytesFor (length indices * code .bits)) ≡ value (indexBytes (code .bits) indices)
   indices-packed =
-      let b = bits-few mode bits (w .bits-inside) in
-      let few = product-most (length indices) bits 2048 16 (omega (arith, w .indices-long, w .most)) (b .1) in
-      indices-pass indices bits (bytesFor (length indices * bits)) (b .0) (b .1) (omega (arith, few)) refl (w .indices-good)
+      let b = bits-few (code .mode) (code .bits) (w .bits-inside) in
+      let few = product-most (length indices) (code .bits) 2048 16 (omega (arith, w .indices-long, w .most)) (b .1) in
+      indices-pass indices (code .bits) (bytesFor (length indices * code .bits)) (b .0) (b .1) (omega (arith, few)) refl (w .indices-good)
 
-  indices-unpacked : unpackIndicesOf (indexBytes bits indices) (length indices) bits (length indices) ≡ value indices
-  indices-unpacked = unpack-pack indices bits (bytesFor (length indices * bits)) indices-packed
+  indices-unpacked : unpackIndicesOf (indexBytes (code .bits) indices) (length indices) (code .bits) (length indices) ≡ value indices
+  indices-unpacked = unpack-pack indices (code .bits) (bytesFor (length indices * code .bits)) indices-packed
 
   signs-unpacked : unpackSignsOf (signBytes signs) (length signs) (length signs) ≡ value signs
   signs-unpacked = unpack-pack-signs signs (bytesFor (length signs)) (signs-pass signs (bytesFor (length signs)) refl (w .signs-good))
@@ -135,7 +136,7 @@ module _ {profile : RadiusCodecProfileV1} {dim bits : ℕ} {mode : TurboMode} {m
   unfolding indicesOf
   indices-written =
       rw (bits-written w, pairs-written, indices-bytes-written)
-      (unpack-indices (indexBytes bits indices) (length indices) bits (length indices) indices-unpacked)
+      (unpack-indices (indexBytes (code .bits) indices) (length indices) (code .bits) (length indices) indices-unpacked)
 
   -- the signs come back
   pub signs-written : signsOf bytes ≡ signs
@@ -143,14 +144,14 @@ module _ {profile : RadiusCodecProfileV1} {dim bits : ℕ} {mode : TurboMode} {m
   signs-written = rw (signs-size, signs-bytes-written) (unpack-signs-bits (signBytes signs) (length signs) (length signs) signs-unpacked)
 
   -- the radii are read as the writer said
-  pub radii-written : Floats radii → radiiOf bytes ≡ readBack profile radii
+  pub radii-written : Floats radii → radiiOf bytes ≡ readBack (code .profile) radii
   unfolding radiiOf readBack
   radii-written f = rw (profile-written w, bounds-written w f, radii-bytes-written, dim-written w, w .radii-long)
 
   -- ---- no padding
 
   pub indices-clean : badPadding (indicesBytes bytes) (indicesUsed bytes) ≡ false
-  indices-clean = rw (indices-bytes-written, indices-size) (unpacked-clean (indexBytes bits indices) (length indices) bits (length indices) indices-unpacked)
+  indices-clean = rw (indices-bytes-written, indices-size) (unpacked-clean (indexBytes (code .bits) indices) (length indices) (code .bits) (length indices) indices-unpacked)
 
   pub signs-clean : badPadding (signsBytes bytes) (projectionsOf bytes) ≡ false
   signs-clean = rw (signs-bytes-written, signs-size) (unpacked-signs-clean (signBytes signs) (length signs) (length signs) signs-unpacked)

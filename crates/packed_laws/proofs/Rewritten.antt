@@ -20,31 +20,32 @@ use Rattle.radius.specs.declared.RadiusCodecProfileV1.the-variants.{F32, BlockL
 use Rattle.radius.proofs.RoundTrip.{Floats}
 use Rattle.setup.specs.declared.TurboMode.the-variants.{PolarOnly, PolarWithQjl}
 use Rattle.packed.specs.declared.Header.{Header}
-use Rattle.packed.specs.Fields.{mapOf, hasRange, hasSigns, profileOf, modeOf, dimOf, bitsOf, boundsOf, projectionsOf}
+use Rattle.packed.specs.Fields.{mapOf, hasRange, hasSigns, profileOf, modeOf, bitsOf, boundsOf, projectionsOf}
 use Rattle.packed.specs.Layout.{radiiBytes, headerOf}
 use Rattle.packed.specs.Reading.{radiiOf, indicesOf, signsOf, recordChecks, readRecordOf}
 use Rattle.packed.specs.Accepted.{Accepted}
-use Rattle.packed_writing.specs.Writing.{mapFor, countedFor, headerBytes, indexBytes, signBytes, recordOf, neededFor, fieldChecks, valueChecks, writeRecordOf}
+use Rattle.packed_writing.specs.Writing.{mapFor, headerBytes, indexBytes, signBytes, recordOf, neededFor, fieldChecks, valueChecks, writeRecordOf}
+use Rattle.setup.specs.Setups.{counted}
 use Rattle.packed.proofs.Accepted.{read-accepts}
 use Rattle.packed.proofs.Payloads.{length-radiiOf}
 use Rattle.packed.proofs.Radii.{radii-fit, length-indicesOf, indices-below, length-signsOf, signs-good}
-use Rattle.packed_laws.specs.RoundTrips.{SameButRadii}
+use Rattle.packed_laws.specs.RoundTrips.{SameButRadii, codeAs, codeOf}
 use Rattle.packed_laws.proofs.Inputs.{written}
 use Rattle.packed_laws.proofs.Fields.{map-written, dim-written, bits-written, projections-written, bounds-written, length-written}
 use Rattle.packed_laws.proofs.Payloads.{floats-readBack, radii-written, indices-bytes-written, signs-bytes-written}
 use Rattle.packed_laws.proofs.TakenApart.{map-again, indices-again, signs-again, parts-again, floats-again}
 
-either-counted : (t : Bool) (n : ℕ) → countedFor (cond t PolarWithQjl PolarOnly) (cond t n 0) ≡ cond t n 0
+either-counted : (t : Bool) (n : ℕ) → counted (cond t PolarWithQjl PolarOnly) (cond t n 0) ≡ cond t n 0
 either-counted true n = refl
 either-counted false n = refl
 
 -- without signs no projections are counted
-counted-again : (bytes : List ℕ) → countedFor (modeOf (mapOf bytes)) (projectionsOf bytes) ≡ projectionsOf bytes
+counted-again : (bytes : List ℕ) → counted (modeOf (mapOf bytes)) (projectionsOf bytes) ≡ projectionsOf bytes
 unfolding projectionsOf
 counted-again bytes = either-counted (hasSigns (mapOf bytes)) _
 
 -- the record's length is the one that writing it needs
-needed-again : (bytes : List ℕ) → Accepted bytes → neededFor (profileOf (mapOf bytes)) (dimOf bytes) (bitsOf bytes) (modeOf (mapOf bytes)) (projectionsOf bytes) ≡ length bytes
+needed-again : (bytes : List ℕ) → Accepted bytes → neededFor (codeOf bytes) ≡ length bytes
 needed-again bytes a = rw (map-again (mapOf bytes) (a .map), counted-again bytes) (sym (a .total))
 
 -- the radii of a record are f32
@@ -56,29 +57,28 @@ module _ (bytes : List ℕ) (b : Below 256 bytes) {header : Header} (read : read
   plain-profile : hasRange (mapOf bytes) ≡ false → profileOf (mapOf bytes) ≡ F32
   plain-profile plain = ap (λ (t : Bool). cond t BlockLinearU16 F32) plain
 
-  record-again : hasRange (mapOf bytes) ≡ false → recordOf F32 (dimOf bytes) (bitsOf bytes) (modeOf (mapOf bytes)) (projectionsOf bytes) (radiiOf bytes) (indicesOf bytes) (signsOf bytes) ≡ bytes
+  record-again : hasRange (mapOf bytes) ≡ false → recordOf (codeAs F32 bytes) (radiiOf bytes) (indicesOf bytes) (signsOf bytes) ≡ bytes
   unfolding recordOf headerBytes
   record-again plain =
       let a = read-accepts bytes read in
       let payload = indexBytes (bitsOf bytes) (indicesOf bytes) ++ signBytes (signsOf bytes) in
       let range = boundsOf bytes in
-      ap (λ (l : List ℕ). headerBytes F32 (dimOf bytes) (bitsOf bytes) (modeOf (mapOf bytes)) (projectionsOf bytes) range ++ (l ++ payload)) (floats-again bytes b a plain)
-      ∙ ap (λ (p : RadiusCodecProfileV1). headerBytes p (dimOf bytes) (bitsOf bytes) (modeOf (mapOf bytes)) (projectionsOf bytes) range ++ (radiiBytes bytes ++ payload)) (sym (plain-profile plain))
+      ap (λ (l : List ℕ). headerBytes (codeAs F32 bytes) range ++ (l ++ payload)) (floats-again bytes b a plain)
+      ∙ ap (λ (p : RadiusCodecProfileV1). headerBytes (codeAs p bytes) range ++ (radiiBytes bytes ++ payload)) (sym (plain-profile plain))
       ∙ parts-again bytes b a
 
   -- an accepted F32 record, taken apart and written again, gives the same bytes
-  pub rewritten : hasRange (mapOf bytes) ≡ false → writeRecordOf F32 (dimOf bytes) (bitsOf bytes) (modeOf (mapOf bytes)) (projectionsOf bytes) (radiiOf bytes) (indicesOf bytes) (signsOf bytes) (length bytes) ≡ value bytes
+  pub rewritten : hasRange (mapOf bytes) ≡ false → writeRecordOf (codeAs F32 bytes) (radiiOf bytes) (indicesOf bytes) (signsOf bytes) (length bytes) ≡ value bytes
   unfolding writeRecordOf readRecordOf
   rewritten plain =
       let a = read-accepts bytes read in
       let all = first-all (recordChecks bytes) (value (headerOf bytes)) read in
-      let mode = modeOf (mapOf bytes) in
-      let again = recordOf F32 (dimOf bytes) (bitsOf bytes) mode (projectionsOf bytes) (radiiOf bytes) (indicesOf bytes) (signsOf bytes) in
+      let again = recordOf (codeAs F32 bytes) (radiiOf bytes) (indicesOf bytes) (signsOf bytes) in
       let good = all .1 .1 .1 .1 .1 .1 .1 .1 .1 .1 .0 in
       first-accepts
-      (fieldChecks F32 (dimOf bytes) (bitsOf bytes) mode (projectionsOf bytes) (length (radiiOf bytes)) (length (indicesOf bytes)) (length (signsOf bytes))
+      (fieldChecks (codeAs F32 bytes) (length (radiiOf bytes)) (length (indicesOf bytes)) (length (signsOf bytes))
       ++ valueChecks F32 (bitsOf bytes) (radiiOf bytes) (indicesOf bytes) (signsOf bytes)
-      ++ (wrongRoom (length bytes) (neededFor F32 (dimOf bytes) (bitsOf bytes) mode (projectionsOf bytes)) ∷ []))
+      ++ (wrongRoom (length bytes) (neededFor (codeAs F32 bytes)) ∷ []))
       (value again) (
         refl,
         (
@@ -128,19 +128,19 @@ module _ (bytes : List ℕ) (b : Below 256 bytes) {header : Header} (read : read
   linear-profile = ap (λ (t : Bool). cond t BlockLinearU16 F32) linear
 
   -- an accepted linear record is the bytes of its header, of its radii, and of its packed indices and signs
-  pub linear-parts : headerBytes BlockLinearU16 (dimOf bytes) (bitsOf bytes) (modeOf (mapOf bytes)) (projectionsOf bytes) (boundsOf bytes) ++ (radiiBytes bytes ++ (indexBytes (bitsOf bytes) (indicesOf bytes) ++ signBytes (signsOf bytes))) ≡ bytes
+  pub linear-parts : headerBytes (codeAs BlockLinearU16 bytes) (boundsOf bytes) ++ (radiiBytes bytes ++ (indexBytes (bitsOf bytes) (indicesOf bytes) ++ signBytes (signsOf bytes))) ≡ bytes
   linear-parts =
-      ap (λ (p : RadiusCodecProfileV1). headerBytes p (dimOf bytes) (bitsOf bytes) (modeOf (mapOf bytes)) (projectionsOf bytes) (boundsOf bytes) ++ (radiiBytes bytes ++ (indexBytes (bitsOf bytes) (indicesOf bytes) ++ signBytes (signsOf bytes)))) (sym linear-profile)
+      ap (λ (p : RadiusCodecProfileV1). headerBytes (codeAs p bytes) (boundsOf bytes) ++ (radiiBytes bytes ++ (indexBytes (bitsOf bytes) (indicesOf bytes) ++ signBytes (signsOf bytes)))) (sym linear-profile)
       ∙ parts-again bytes b (read-accepts bytes read)
 
   -- taken apart and written again it keeps everything but the range and the radii's bytes
   pub rewritten-linear : (room : ℕ) {again : List ℕ}
-      → writeRecordOf BlockLinearU16 (dimOf bytes) (bitsOf bytes) (modeOf (mapOf bytes)) (projectionsOf bytes) (radiiOf bytes) (indicesOf bytes) (signsOf bytes) room ≡ value again → SameButRadii bytes again
+      → writeRecordOf (codeAs BlockLinearU16 bytes) (radiiOf bytes) (indicesOf bytes) (signsOf bytes) room ≡ value again → SameButRadii bytes again
   rewritten-linear room told =
       let a = read-accepts bytes read in
-      let w = written BlockLinearU16 (dimOf bytes) (bitsOf bytes) (modeOf (mapOf bytes)) (projectionsOf bytes) (radiiOf bytes) (indicesOf bytes) (signsOf bytes) room told in
+      let w = written (codeAs BlockLinearU16 bytes) (radiiOf bytes) (indicesOf bytes) (signsOf bytes) room told in
       let same : mapFor BlockLinearU16 (modeOf (mapOf bytes)) ≡ mapOf bytes = ap (λ (p : RadiusCodecProfileV1). mapFor p (modeOf (mapOf bytes))) (sym linear-profile) ∙ map-again (mapOf bytes) (a .map) in
-      let needed = ap (λ (p : RadiusCodecProfileV1). neededFor p (dimOf bytes) (bitsOf bytes) (modeOf (mapOf bytes)) (projectionsOf bytes)) (sym linear-profile) ∙ needed-again bytes a in
+      let needed = ap (λ (p : RadiusCodecProfileV1). neededFor (codeAs p bytes)) (sym linear-profile) ∙ needed-again bytes a in
       record {
         map-same = map-written w ∙ same;
         dim-same = dim-written w;

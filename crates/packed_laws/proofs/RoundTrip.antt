@@ -8,10 +8,11 @@ use Rattle.error.specs.Answer.{value}
 use Rattle.radius.specs.declared.RadiusCodecProfileV1.{RadiusCodecProfileV1}
 use Rattle.radius.specs.declared.RadiusCodecProfileV1.the-variants.{F32}
 use Rattle.radius.proofs.RoundTrip.{Floats}
-use Rattle.setup.specs.declared.TurboMode.{TurboMode}
+use Rattle.packed.specs.declared.Code.{Code}
 use Rattle.packed.specs.Layout.{headerOf}
 use Rattle.packed.specs.Reading.{radiiOf, indicesOf, signsOf, readRecordOf}
-use Rattle.packed_writing.specs.Writing.{readBack, writeRecordOf}
+use Rattle.packed_writing.specs.Writing.{writeRecordOf}
+use Rattle.radius.specs.Firsts.{readBack}
 use Rattle.packed.proofs.Accepted.{accepted-reads}
 use Rattle.packed_laws.specs.RoundTrips.{headerFor, SameFields}
 use Rattle.packed_laws.proofs.Inputs.{written}
@@ -19,20 +20,20 @@ use Rattle.packed_laws.proofs.Fields.{map-written, mode-written, profil
 use Rattle.packed_laws.proofs.Payloads.{floats-readBack, radii-written, indices-written, signs-written}
 use Rattle.packed_laws.proofs.WrittenAccepted.{accepted-written}
 
-module _ (profile : RadiusCodecProfileV1) (dim bits : ℕ) (mode : TurboMode) (m : ℕ) (radii : List Float) (indices : List ℕ) (signs : List ℤ) (room : ℕ) {bytes : List ℕ} (told : writeRecordOf profile dim bits mode m radii indices signs room ≡ value bytes) where
+module _ (code : Code) (radii : List Float) (indices : List ℕ) (signs : List ℤ) (room : ℕ) {bytes : List ℕ} (told : writeRecordOf code radii indices signs room ≡ value bytes) where
   -- the indices are read back as they were written
   pub written-indices : indicesOf bytes ≡ indices
-  written-indices = indices-written (written profile dim bits mode m radii indices signs room told)
+  written-indices = indices-written (written code radii indices signs room told)
 
   -- the signs are read back as they were written
   pub written-signs : signsOf bytes ≡ signs
-  written-signs = signs-written (written profile dim bits mode m radii indices signs room told)
+  written-signs = signs-written (written code radii indices signs room told)
 
   module _ (floats : Floats radii) where
     -- the header is read back as it was written, and the record fills the room that was lent
-    pub written-fields : SameFields bytes profile dim bits mode m radii room
+    pub written-fields : SameFields bytes code radii room
     written-fields =
-        let w = written profile dim bits mode m radii indices signs room told in
+        let w = written code radii indices signs room told in
         record {
           map-same = map-written w;
           mode-same = mode-written w;
@@ -46,17 +47,20 @@ module _ (profile : RadiusCodecProfileV1) (dim bits : ℕ) (mode : TurboMode) (m
 
     -- a writer never writes a record that its reader refuses
     pub written-accepted : readRecordOf bytes ≡ value (headerOf bytes)
-    written-accepted = accepted-reads bytes (accepted-written (written profile dim bits mode m radii indices signs room told) floats)
+    written-accepted = accepted-reads bytes (accepted-written (written code radii indices signs room told) floats)
 
     -- the header that the reader gives holds what was written
-    pub written-header : readRecordOf bytes ≡ value (headerFor profile dim bits mode m radii)
-    written-header = written-accepted ∙ ap value (header-written (written profile dim bits mode m radii indices signs room told) floats)
+    pub written-header : readRecordOf bytes ≡ value (headerFor code radii)
+    written-header = written-accepted ∙ ap value (header-written (written code radii indices signs room told) floats)
 
     -- the radii are read back as the writer said that they would be
-    pub written-radii : radiiOf bytes ≡ readBack profile radii
-    written-radii = radii-written (written profile dim bits mode m radii indices signs room told) floats
+    pub written-radii : radiiOf bytes ≡ readBack (code .profile) radii
+    written-radii = radii-written (written code radii indices signs room told) floats
 
 -- F32 radii are read back as they were written, to the last bit
-pub written-floats : (dim bits : ℕ) (mode : TurboMode) (m : ℕ) (radii : List Float) (indices : List ℕ) (signs : List ℤ) (room : ℕ) {bytes : List ℕ}
-    → writeRecordOf F32 dim bits mode m radii indices signs room ≡ value bytes → Floats radii → radiiOf bytes ≡ radii
-written-floats dim bits mode m radii indices signs room told floats = written-radii F32 dim bits mode m radii indices signs room told floats ∙ floats-readBack radii floats
+pub written-floats : (code : Code) (radii : List Float) (indices : List ℕ) (signs : List ℤ) (room : ℕ) {bytes : List ℕ}
+    → code .profile ≡ F32 → writeRecordOf code radii indices signs room ≡ value bytes → Floats radii → radiiOf bytes ≡ radii
+written-floats code radii indices signs room plain told floats =
+    written-radii code radii indices signs room told floats
+    ∙ ap (λ (profile : RadiusCodecProfileV1). readBack profile radii) plain
+    ∙ floats-readBack radii floats

@@ -18,9 +18,9 @@ use Rattle.bitpack.specs.Padding.{bytesFor}
 use Rattle.bitpack.specs.Packing.{unpackIndicesOf}
 use Rattle.bitpack.specs.Signs.{unpackSignsOf}
 use Rattle.bitpack.proofs.RoundTrip.{pack-bytes, pack-unpack, pack-signs-bytes, pack-unpack-signs}
-use Rattle.radius.specs.Chunks.{chunks}
+use Rattle.lists.specs.Chunks.{chunks}
 use Rattle.radius.specs.Radii.{badRadius}
-use Rattle.radius.proofs.Chunks.{chunks-getD, joined-chunks}
+use Rattle.lists.proofs.Chunks.{chunks-getD, joined-chunks}
 use Rattle.packed.specs.Fields.{mapOf, rangeBit, signsBit, hasRange, hasSigns, profileOf, modeOf, floatAt, dimOf, bitsOf, boundsOf, projectionsAt, projectionsOf}
 use Rattle.packed.specs.Layout.{headerLength, pairsOf, radiiAt, radiiLength, indicesUsed, indicesAt, indicesLength, signsAt, signsLength, partAt, radiiBytes, indicesBytes, signsBytes}
 use Rattle.packed.specs.Radii.{badBounds}
@@ -30,6 +30,7 @@ use Rattle.packed_writing.specs.Writing.{mapFor, rangeBytes, projectionBytes, h
 use Rattle.packed.proofs.Headers.{product-most}
 use Rattle.packed.proofs.Parts.{length-radii, length-indices, length-signs}
 use Rattle.packed.proofs.Payloads.{length-radiiOf}
+use Rattle.packed_laws.specs.RoundTrips.{codeOf}
 use Rattle.packed_laws.proofs.Parts.{part-below, part-two, word-again, float-again, four-parts, six-bytes, header-parts}
 
 -- the map byte is made again from what it tells
@@ -70,7 +71,7 @@ module _ (bytes : List ℕ) (b : Below 256 bytes) (a : Accepted bytes) where
   projections-again false e = rw (bit-none (mapOf bytes / 2) e)
 
   -- the header's bytes are those of its fields
-  pub header-again : headerBytes (profileOf (mapOf bytes)) (dimOf bytes) (bitsOf bytes) (modeOf (mapOf bytes)) (projectionsOf bytes) (boundsOf bytes) ≡ take (headerLength (mapOf bytes)) bytes
+  pub header-again : headerBytes (codeOf bytes) (boundsOf bytes) ≡ take (headerLength (mapOf bytes)) bytes
   unfolding headerBytes
   header-again =
       let map = mapOf bytes in
@@ -121,7 +122,7 @@ module _ (bytes : List ℕ) (b : Below 256 bytes) (a : Accepted bytes) where
       (pack-unpack-signs (signsBytes bytes) (projectionsOf bytes) (projectionsOf bytes) signs-unpacked signs-below)
 
   -- the whole record, with the radii's own bytes
-  pub parts-again : headerBytes (profileOf (mapOf bytes)) (dimOf bytes) (bitsOf bytes) (modeOf (mapOf bytes)) (projectionsOf bytes) (boundsOf bytes) ++ (radiiBytes bytes ++ (indexBytes (bitsOf bytes) (indicesOf bytes) ++ signBytes (signsOf bytes))) ≡ bytes
+  pub parts-again : headerBytes (codeOf bytes) (boundsOf bytes) ++ (radiiBytes bytes ++ (indexBytes (bitsOf bytes) (indicesOf bytes) ++ signBytes (signsOf bytes))) ≡ bytes
   unfolding radiiBytes indicesBytes signsBytes
   parts-again =
       rw (header-again, indices-again, signs-again)

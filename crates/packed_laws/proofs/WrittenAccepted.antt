@@ -17,12 +17,15 @@ use Rattle.radius.specs.declared.RadiusCodecProfileV1.the-variants.{F32, BlockL
 use Rattle.radius.proofs.RoundTrip.{Floats}
 use Rattle.setup.specs.declared.TurboMode.{TurboMode}
 use Rattle.setup.specs.declared.TurboMode.the-variants.{PolarOnly, PolarWithQjl}
+use Rattle.packed.specs.declared.Code.{Code}
 use Rattle.packed.specs.Fields.{mapOf, hasRange, hasSigns}
 use Rattle.packed.specs.Layout.{headerLength}
 use Rattle.packed.specs.Radii.{badBounds}
-use Rattle.packed.specs.Reading.{badPolarBits, outsideProjections}
+use Rattle.packed.specs.Reading.{badPolarBits}
+use Rattle.setup.specs.Checks.{badProjections}
 use Rattle.packed.specs.Accepted.{Accepted}
-use Rattle.packed_writing.specs.Writing.{mapFor, countedFor}
+use Rattle.packed_writing.specs.Writing.{mapFor}
+use Rattle.setup.specs.Setups.{counted}
 use Rattle.packed_laws.proofs.Ranges.{range-good}
 use Rattle.packed_laws.proofs.Inputs.{Written}
 use Rattle.packed_laws.proofs.Fields.{map-written, dim-written, bits-written, projections-written, bounds-written, length-written, total-written}
@@ -49,7 +52,7 @@ signs-bits : (profile : RadiusCodecProfileV1) (mode : TurboMode) (b : ℕ) → b
 signs-bits profile PolarOnly b e s = true-not-false (sym s ∙ no-signs profile)
 signs-bits profile PolarWithQjl b e s = ltb-false 15 b (or-false (ltb b 1) (ltb 15 b) e .1)
 
-signs-counted : (profile : RadiusCodecProfileV1) (mode : TurboMode) (m : ℕ) → outsideProjections mode m ≡ false → hasSigns (mapFor profile mode) ≡ true → (0 < countedFor mode m) × (countedFor mode m ≤ 4096)
+signs-counted : (profile : RadiusCodecProfileV1) (mode : TurboMode) (m : ℕ) → badProjections mode m ≡ false → hasSigns (mapFor profile mode) ≡ true → (0 < counted mode m) × (counted mode m ≤ 4096)
 signs-counted profile PolarOnly m e s = true-not-false (sym s ∙ no-signs profile)
 signs-counted profile PolarWithQjl m e s =
     let both = or-false (eqb m 0) (ltb 4096 m) e in
@@ -64,28 +67,28 @@ range-passes F32 PolarWithQjl radii e h t = true-not-false (sym t)
 range-passes BlockLinearU16 mode radii e h t = range-good radii h
 range-passes BlockLogU8 mode radii e h t = true-not-false e
 
-module _ {profile : RadiusCodecProfileV1} {dim bits : ℕ} {mode : TurboMode} {m : ℕ} {radii : List Float} {indices : List ℕ} {signs : List ℤ} {room : ℕ} {bytes : List ℕ} (w : Written profile dim bits mode m radii indices signs room bytes) where
+module _ {code : Code} {radii : List Float} {indices : List ℕ} {signs : List ℤ} {room : ℕ} {bytes : List ℕ} (w : Written code radii indices signs room bytes) where
   header-fits : headerLength (mapOf bytes) ≤ length bytes
   header-fits = rw (map-written w) (omega (arith, length-written w, w .sized))
 
   -- each of the reader's conditions holds of what was written
   pub accepted-written : Floats radii → Accepted bytes
   accepted-written f =
-      let b = bits-few mode bits (w .bits-inside) in
+      let b = bits-few (code .mode) (code .bits) (w .bits-inside) in
       record {
         long = omega (arith, header-fits);
-        map = rw (map-written w) (map-most profile mode);
+        map = rw (map-written w) (map-most (code .profile) (code .mode));
         above = rw (dim-written w) (w .above);
         even = rw (dim-written w) (w .even);
         one-bit = rw (dim-written w) (w .one-bit);
         most = rw (dim-written w) (w .most);
         least-bits = rw (bits-written w) (b .0);
         most-bits = rw (bits-written w) (b .1);
-        residual-bits = rw (map-written w, bits-written w) (signs-bits profile mode bits (w .bits-inside));
+        residual-bits = rw (map-written w, bits-written w) (signs-bits (code .profile) (code .mode) (code .bits) (w .bits-inside));
         header = header-fits;
-        projections = rw (map-written w, projections-written w) (signs-counted profile mode m (w .projections-inside));
+        projections = rw (map-written w, projections-written w) (signs-counted (code .profile) (code .mode) (code .projections) (w .projections-inside));
         total = length-written w ∙ sym (total-written w);
-        bounds = rw (map-written w, bounds-written w f) (range-passes profile mode radii (w .known) (w .radii-good));
+        bounds = rw (map-written w, bounds-written w f) (range-passes (code .profile) (code .mode) radii (w .known) (w .radii-good));
         radii = rw (radii-written w f) (w .read-good);
         indices = indices-clean w;
         signs = signs-clean w;

@@ -1,47 +1,61 @@
 -- What the round trips of a record promise: the header that inputs are written with, the fields that come back, and what a linear record keeps. Document 01: 'Writing
 -- a record, F32 or linear'; 'In PolarOnly m counts as 0'. Assumes nothing.
-use Prim.Native.Nat.{ℕ, _+_, _*_, _/_}
+use Prim.Native.Nat.{ℕ, _+_, _*_, _/_, _<_}
 use mathlib.Core.Path.{_≡_}
+use mathlib.Core.Bool.{true, false}
 use mathlib.Core.List.{List}
-use lib.ListN.{length}
-use lib.Ieee.{Float}
+use lib.Dec.{T}
+use lib.IntN.{ℤ}
+use lib.ListN.{length, getD}
+use lib.Ieee.{Float, nan, binary32, fits}
+use Rattle.error.specs.Answer.{value}
 use Rattle.bitpack.specs.Padding.{bytesFor}
 use Rattle.radius.specs.Codec.{widthOf, rangeFor}
 use Rattle.radius.specs.Radii.{rangeOf}
 use Rattle.radius.specs.declared.RadiusCodecProfileV1.{RadiusCodecProfileV1}
-use Rattle.radius.specs.declared.RadiusCodecProfileV1.the-variants.{BlockLinearU16}
-use Rattle.setup.specs.declared.TurboMode.{TurboMode}
+use Rattle.radius.specs.declared.RadiusCodecProfileV1.the-variants.{F32, BlockLinearU16}
+use Rattle.packed.specs.declared.Code.{Code}
 use Rattle.packed.specs.declared.Header.{Header}
-use Rattle.packed.specs.Fields.{mapOf, profileOf, modeOf, dimOf, bitsOf, boundsOf, projectionsOf}
-use Rattle.packed.specs.Layout.{headerLength, indicesBytes, signsBytes}
-use Rattle.packed.specs.Reading.{radiiOf}
-use Rattle.packed_writing.specs.Writing.{mapFor, countedFor, neededFor, readBack}
+use Rattle.packed.specs.Fields.{mapOf, hasRange, profileOf, modeOf, dimOf, bitsOf, boundsOf, projectionsOf}
+use Rattle.packed.specs.Layout.{headerLength, indicesBytes, signsBytes, headerOf}
+use Rattle.packed.specs.Reading.{radiiOf, indicesOf, signsOf, readRecordOf}
+use Rattle.packed.specs.Accepted.{Accepted}
+use Rattle.packed_writing.specs.Writing.{mapFor, neededFor, writeRecordOf}
+use Rattle.setup.specs.Setups.{counted}
+use Rattle.radius.specs.Firsts.{readBack}
+
+-- the scalars that a record's bytes tell: under a profile, and under their own
+abbrev pub codeAs : RadiusCodecProfileV1 → List ℕ → Code
+codeAs profile bytes = record { profile = profile; mode = modeOf (mapOf bytes); dim = dimOf bytes; bits = bitsOf bytes; projections = projectionsOf bytes }
+
+abbrev pub codeOf : List ℕ → Code
+codeOf bytes = codeAs (profileOf (mapOf bytes)) bytes
 
 -- the header that a record is written with, by value
-unfoldable pub headerFor : RadiusCodecProfileV1 → ℕ → ℕ → TurboMode → ℕ → List Float → Header
-headerFor profile dim bits mode m radii = record {
-  mode = mode;
-  profile = profile;
-  dim = dim;
-  bits = bits;
-  projections = countedFor mode m;
-  range = rangeFor profile radii;
-  radii = headerLength (mapFor profile mode);
-  indices = headerLength (mapFor profile mode) + widthOf profile * (dim / 2);
-  signs = headerLength (mapFor profile mode) + widthOf profile * (dim / 2) + bytesFor (dim / 2 * bits);
-  end = neededFor profile dim bits mode m;
+unfoldable pub headerFor : Code → List Float → Header
+headerFor code radii = record {
+  mode = code .mode;
+  profile = code .profile;
+  dim = code .dim;
+  bits = code .bits;
+  projections = counted (code .mode) (code .projections);
+  range = rangeFor (code .profile) radii;
+  «radii_start» = headerLength (mapFor (code .profile) (code .mode));
+  «indices_start» = headerLength (mapFor (code .profile) (code .mode)) + widthOf (code .profile) * (code .dim / 2);
+  «signs_start» = headerLength (mapFor (code .profile) (code .mode)) + widthOf (code .profile) * (code .dim / 2) + bytesFor (code .dim / 2 * code .bits);
+  end = neededFor code;
 }
 
 -- the fields of the bytes are those that were given; `room` is the output's length
-pub record SameFields (bytes : List ℕ) (profile : RadiusCodecProfileV1) (dim bits : ℕ) (mode : TurboMode) (m : ℕ) (radii : List Float) (room : ℕ) : Type 0 where
-  pub map-same : mapOf bytes ≡ mapFor profile mode
-  pub mode-same : modeOf (mapOf bytes) ≡ mode
-  pub profile-same : profileOf (mapOf bytes) ≡ profile
-  pub dim-same : dimOf bytes ≡ dim
-  pub bits-same : bitsOf bytes ≡ bits
-  pub projections-same : projectionsOf bytes ≡ countedFor mode m
+pub record SameFields (bytes : List ℕ) (code : Code) (radii : List Float) (room : ℕ) : Type 0 where
+  pub map-same : mapOf bytes ≡ mapFor (code .profile) (code .mode)
+  pub mode-same : modeOf (mapOf bytes) ≡ code .mode
+  pub profile-same : profileOf (mapOf bytes) ≡ code .profile
+  pub dim-same : dimOf bytes ≡ code .dim
+  pub bits-same : bitsOf bytes ≡ code .bits
+  pub projections-same : projectionsOf bytes ≡ counted (code .mode) (code .projections)
   -- the range of linear radii; F32 has none, and 0, 0 stands for it
-  pub range-same : boundsOf bytes ≡ rangeFor profile radii
+  pub range-same : boundsOf bytes ≡ rangeFor (code .profile) radii
   pub length-same : length bytes ≡ room
 
 -- what a linear record keeps that is taken apart and written again
@@ -56,3 +70,31 @@ pub record SameButRadii (bytes again : List ℕ) : Type 0 where
   -- the range is that of the radii as read, and they are read again as the writer says
   pub range-read : boundsOf again ≡ rangeOf (radiiOf bytes)
   pub radii-read : radiiOf again ≡ readBack BlockLinearU16 (radiiOf bytes)
+
+-- what comes back from bytes that were written: indices, signs and F32 radii, and linear radii as they are read
+pub record ComesBack (code : Code) (radii : List Float) (indices : List ℕ) (signs : List ℤ) (room : ℕ) (bytes : List ℕ) : Type 0 where
+  -- a writer never writes a record that its reader refuses, and the header says what was given
+  pub header-back : readRecordOf bytes ≡ value (headerFor code radii)
+  pub fields-back : SameFields bytes code radii room
+  pub indices-back : indicesOf bytes ≡ indices
+  pub signs-back : signsOf bytes ≡ signs
+  -- to the last bit for F32; linear radii as the writer says that they will be read
+  pub floats-back : code .profile ≡ F32 → radiiOf bytes ≡ radii
+  pub radii-back : radiiOf bytes ≡ readBack (code .profile) radii
+
+-- Acceptance and the round trips, as one claim. Of what is given only this is asked: a byte is below 256, and a radius is an f32.
+pub record RoundTrips : Type 0 where
+  -- the listed conditions are the sole ones
+  pub accepted-reads : (bytes : List ℕ) → Accepted bytes → readRecordOf bytes ≡ value (headerOf bytes)
+  pub read-accepts : (bytes : List ℕ) (header : Header) → readRecordOf bytes ≡ value header → Accepted bytes
+  -- what was written comes back
+  pub written : (code : Code) (radii : List Float) (indices : List ℕ) (signs : List ℤ) (room : ℕ) (bytes : List ℕ)
+      → ((i : ℕ) → i < length radii → T (fits binary32 (getD radii i nan)))
+      → writeRecordOf code radii indices signs room ≡ value bytes → ComesBack code radii indices signs room bytes
+  -- and bytes come back from what they hold: an accepted F32 record, taken apart and written again, gives the same bytes
+  pub rewritten : (bytes : List ℕ) (header : Header) → ((i : ℕ) → i < length bytes → getD bytes i 0 < 256) → readRecordOf bytes ≡ value header
+      → hasRange (mapOf bytes) ≡ false → writeRecordOf (codeAs F32 bytes) (radiiOf bytes) (indicesOf bytes) (signsOf bytes) (length bytes) ≡ value bytes
+  -- of a linear one, where it is written again at all, everything but the range and the radii's bytes
+  pub rewritten-linear : (bytes : List ℕ) (header : Header) (room : ℕ) (again : List ℕ) → ((i : ℕ) → i < length bytes → getD bytes i 0 < 256) → readRecordOf bytes ≡ value header
+      → hasRange (mapOf bytes) ≡ true → writeRecordOf (codeAs BlockLinearU16 bytes) (radiiOf bytes) (indicesOf bytes) (signsOf bytes) room ≡ value again
+      → SameButRadii bytes again

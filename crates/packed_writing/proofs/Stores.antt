@@ -63,9 +63,6 @@ store-header xs run rest k s sized long =
 
 -- ---- parts of a list that are lent: the front up to k, and what stands from k on
 
-pub lent-front : (xs : List ℕ) (k : ℕ) → k ≤ length xs → length (take (k - 0) xs) ≡ k
-lent-front xs k h = let e : k - 0 ≡ k = omega arith in ap (λ (n : ℕ). length (take n xs)) e ∙ length-take-le k xs h
-
 pub lent-back : (xs : List ℕ) (k n : ℕ) → length xs ≡ k + n → length (take (length xs - k) (drop k xs)) ≡ n
 lent-back xs k n long =
     let e : length xs - k ≡ n = omega (arith, long) in
@@ -86,7 +83,3 @@ store-two xs front back k h =
     ∙ ap (λ (l : List ℕ). front ++ drop (k - 0) (take k xs ++ l)) (append-nil back)
     ∙ ap (λ (n : ℕ). front ++ drop n (take k xs ++ back)) e
     ∙ ap (λ (l : List ℕ). front ++ l) (drop-at (take k xs) back k (length-take-le k xs h))
-
--- what was lent from scratch memory comes back as it was left
-pub lent-again : (xs front : List ℕ) (k : ℕ) → length front ≡ k → take (k - 0) (front ++ drop (k - 0) xs) ≡ front
-lent-again xs front k h = let e : k - 0 ≡ k = omega arith in ap (λ (n : ℕ). take n (front ++ drop (k - 0) xs)) e ∙ take-at front (drop (k - 0) xs) k h

@@ -1,6 +1,6 @@
 -- What the writer's codecs answer once their inputs have passed: each payload, and the checks that are left. Assumes nothing.
 use Prim.Native.Nat.{ℕ, _+_, _-_, _*_, _/_, _^_, _≤_}
-use mathlib.Core.Path.{_≡_, refl, ap, _∙_}
+use mathlib.Core.Path.{_≡_, refl, _∙_}
 use mathlib.Core.Bool.{true, false}
 use mathlib.Core.List.{List, [], _∷_}
 use borrow.Author.Tests.{le-ltb, eq-eqb}
@@ -10,22 +10,24 @@ use lib.ListN.{length, length-append}
 use Rattle.float.specs.Bytes.{toLeBytes}
 use Rattle.float.proofs.Bytes.{length-toLeBytes}
 use lib.Ieee.{Float}
-use Rattle.error.specs.Answer.{value, refused, check, place, first, each, accepted, done}
-use Rattle.error.proofs.Chains.{first-done, append-refused, append-passed}
+use Rattle.error.specs.Answer.{value, refused, check, place, first, each, accepted}
+use Rattle.error.proofs.Chains.{append-refused, append-passed}
 use Rattle.bitpack.specs.Padding.{bytesFor}
 use Rattle.bitpack.specs.Packing.{badIndex, packIndicesOf}
 use Rattle.bitpack.specs.Signs.{badSketchSign, packSignsOf}
-use Rattle.radius.specs.Codec.{badProfile, widthOf, compressChecks, rangeFor, compressRangeOf}
+use Rattle.radius.specs.Codec.{badProfile, widthOf, compressChecks}
 use Rattle.radius.specs.Radii.{badRadius}
 use Rattle.radius.specs.declared.Range.{Range}
 use Rattle.radius.specs.declared.RadiusCodecProfileV1.{RadiusCodecProfileV1}
 use Rattle.radius.specs.declared.RadiusCodecProfileV1.the-variants.{F32, BlockLinearU16, BlockLogU8}
 use Rattle.setup.specs.declared.TurboMode.{TurboMode}
 use Rattle.setup.specs.declared.TurboMode.the-variants.{PolarOnly, PolarWithQjl}
-use Rattle.setup.specs.Setups.{byMode}
+use Rattle.setup.specs.Setups.{byMode, counted}
+use Rattle.packed.specs.declared.Code.{Code}
 use Rattle.packed.specs.Layout.{headerLength}
-use Rattle.packed.specs.Reading.{outsideProjections, shapeChecks}
-use Rattle.packed_writing.specs.Writing.{byProfile, mapFor, countedFor, rangeBytes, indexBytes, signBytes, lengthChecks, fieldChecks}
+use Rattle.packed.specs.Reading.{shapeChecks}
+use Rattle.setup.specs.Checks.{badProjections}
+use Rattle.packed_writing.specs.Writing.{byProfile, mapFor, rangeBytes, indexBytes, signBytes, lengthChecks, fieldChecks}
 
 -- ---- the header's length
 
@@ -39,27 +41,23 @@ header-long BlockLogU8 PolarWithQjl = refl
 
 -- ---- the scalars' checks leave those of the lengths
 
-module _ (profile : RadiusCodecProfileV1) (dim bits : ℕ) (mode : TurboMode) (m radii indices signs : ℕ) (known : badProfile profile ≡ false) where
-  pub fields-shape : {n p : ℕ} → first (shapeChecks mode dim bits) accepted ≡ refused n p → first (fieldChecks profile dim bits mode m radii indices signs) accepted ≡ refused n p
-  fields-shape e = rw known (append-refused (shapeChecks mode dim bits) (check (outsideProjections mode m) 8 m ∷ lengthChecks (dim / 2) (countedFor mode m) radii indices signs) tt accepted e)
+module _ (code : Code) (radii indices signs : ℕ) (known : badProfile (code .profile) ≡ false) where
+  pub fields-shape : {n p : ℕ} → first (shapeChecks (code .mode) (code .dim) (code .bits)) accepted ≡ refused n p → first (fieldChecks code radii indices signs) accepted ≡ refused n p
+  fields-shape e = rw known (append-refused (shapeChecks (code .mode) (code .dim) (code .bits)) (check (badProjections (code .mode) (code .projections)) 8 (code .projections) ∷ lengthChecks ((code .dim) / 2) (counted (code .mode) (code .projections)) radii indices signs) tt accepted e)
 
-  module _ (pass : first (shapeChecks mode dim bits) accepted ≡ accepted) where
-    left : first (fieldChecks profile dim bits mode m radii indices signs) accepted ≡ first (check (outsideProjections mode m) 8 m ∷ lengthChecks (dim / 2) (countedFor mode m) radii indices signs) accepted
-    left = rw known (append-passed (shapeChecks mode dim bits) (check (outsideProjections mode m) 8 m ∷ lengthChecks (dim / 2) (countedFor mode m) radii indices signs) tt accepted pass)
+  module _ (pass : first (shapeChecks (code .mode) (code .dim) (code .bits)) accepted ≡ accepted) where
+    left : first (fieldChecks code radii indices signs) accepted ≡ first (check (badProjections (code .mode) (code .projections)) 8 (code .projections) ∷ lengthChecks ((code .dim) / 2) (counted (code .mode) (code .projections)) radii indices signs) accepted
+    left = rw known (append-passed (shapeChecks (code .mode) (code .dim) (code .bits)) (check (badProjections (code .mode) (code .projections)) 8 (code .projections) ∷ lengthChecks ((code .dim) / 2) (counted (code .mode) (code .projections)) radii indices signs) tt accepted pass)
 
-    pub fields-projections : outsideProjections mode m ≡ true → first (fieldChecks profile dim bits mode m radii indices signs) accepted ≡ refused 8 m
+    pub fields-projections : badProjections (code .mode) (code .projections) ≡ true → first (fieldChecks code radii indices signs) accepted ≡ refused 8 (code .projections)
     fields-projections e = left ∙ rw e
 
-    pub fields-rest : outsideProjections mode m ≡ false → first (fieldChecks profile dim bits mode m radii indices signs) accepted ≡ first (lengthChecks (dim / 2) (countedFor mode m) radii indices signs) accepted
+    pub fields-rest : badProjections (code .mode) (code .projections) ≡ false → first (fieldChecks code radii indices signs) accepted ≡ first (lengthChecks ((code .dim) / 2) (counted (code .mode) (code .projections)) radii indices signs) accepted
     fields-rest e = left ∙ rw e
 
 -- ---- radii
 
 module _ (radii : List Float) (profile : RadiusCodecProfileV1) (room : ℕ) (known : badProfile profile ≡ false) (exact : room ≡ widthOf profile * length radii) where
-  pub radii-checked : compressRangeOf radii profile room ≡ first (each badRadius 16 radii ∷ []) (value (rangeFor profile radii))
-  unfolding compressRangeOf
-  radii-checked = rw (known, eq-eqb _ _ exact)
-
   pub radii-pass : ltb (place badRadius radii) (length radii) ≡ false → first (compressChecks radii profile room) accepted ≡ accepted
   radii-pass good = rw (good, known, eq-eqb _ _ exact)
 
@@ -70,9 +68,6 @@ module _ (indices : List ℕ) (bits room : ℕ) (least : 1 ≤ bits) (most : bit
   unfolding packIndicesOf
   indices-left = rw (le-ltb bits 1 least, le-ltb 16 bits most, le-ltb (2 ^ 64 - 1) (length indices * bits) fits, eq-eqb _ _ exact)
 
-  pub indices-checked : done (packIndicesOf indices bits room) ≡ first (each (badIndex bits) 15 indices ∷ []) accepted
-  indices-checked = ap done indices-left ∙ first-done (each (badIndex bits) 15 indices ∷ []) (indexBytes bits indices)
-
   pub indices-pass : ltb (place (badIndex bits) indices) (length indices) ≡ false → packIndicesOf indices bits room ≡ value (indexBytes bits indices)
   indices-pass good = indices-left ∙ rw good
 
@@ -82,9 +77,6 @@ module _ (signs : List ℤ) (room : ℕ) (exact : room ≡ bytesFor (length sign
   signs-left : packSignsOf signs room ≡ first (each badSketchSign 10 signs ∷ []) (value (signBytes signs))
   unfolding packSignsOf
   signs-left = rw (eq-eqb _ _ exact)
-
-  pub signs-checked : done (packSignsOf signs room) ≡ first (each badSketchSign 10 signs ∷ []) accepted
-  signs-checked = ap done signs-left ∙ first-done (each badSketchSign 10 signs ∷ []) (signBytes signs)
 
   pub signs-pass : ltb (place badSketchSign signs) (length signs) ≡ false → packSignsOf signs room ≡ value (signBytes signs)
   signs-pass good = signs-left ∙ rw good

@@ -1,2 +1,2 @@
 pub mod Writing
-pub mod Conditions
+pub mod Inner

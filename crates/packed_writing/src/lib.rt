@@ -1,11 +1,14 @@
 // Writing the record that `packed` reads: a polar code and, beside it, a residual sketch, as bytes. Ported from turbo-quant/src/packed.rs and
 // changed: the byte layout is this port's own, inputs and output are lent, refusals are numbers.
 use error::DIMENSION_MISMATCH;
+use error::MALFORMED_INDEX;
 use error::MALFORMED_RADIUS;
+use error::MALFORMED_SIGN;
 use error::OUTPUT_LENGTH;
 use error::Outcome;
 use error::UNDEFINED_PROFILE;
 use error::ZERO_PROJECTION_COUNT;
+use packed::Code;
 use radius::Compressed;
 use radius::RadiusCodecProfileV1;
 use radius::Range;
@@ -18,48 +21,41 @@ ghost use mathlib.Core.List.{_++_};
 ghost use lib.ListN.{length, take, drop};
 ghost use Rattle.error.specs.Answer.{value, first, accepted, done, after};
 ghost use Rattle.error.specs.Outcomes.{says};
-ghost use Rattle.digits.specs.Digits.{digits};
-ghost use Rattle.float.specs.Bytes.{toLeBytes};
 ghost use Rattle.bitpack.specs.Packing.{packIndicesOf};
 ghost use Rattle.bitpack.specs.Signs.{packSignsOf};
 ghost use Rattle.setup.specs.Setups.{byMode};
 ghost use Rattle.radius.specs.Codec.{badProfile, compressChecks, rangeFor, payloadFor};
 ghost use Rattle.packed.specs.Layout.{headerLength};
-ghost use Rattle.packed_writing.specs.Writing.{byProfile, mapFor, rangeBytes, projectionBytes, headerBytes, indexBytes, signBytes, lengthChecks, fieldChecks, radiusChecks, indexChecks, signChecks, valueChecks, writeRecordOf};
-ghost use Rattle.packed_writing.specs.Conditions.{Sized, CodesReady, Payloads};
+ghost use Rattle.packed_writing.specs.Writing.{byProfile, mapFor, rangeBytes, projectionBytes, headerBytes, indexBytes, signBytes, lengthChecks, fieldChecks, valueChecks, writeRecordOf};
+ghost use Rattle.packed_writing.specs.Inner.{CodesReady, Payloads};
 
 // Writes a record into exactly the bytes that it needs. Without signs the projections are ignored.
 pub fn write_record(
-    profile: RadiusCodecProfileV1,
-    dim: usize,
-    bits: u8,
-    mode: TurboMode,
-    projections: usize,
+    code: Code,
     radii: &[f32],
     indices: &[u16],
     signs: &[i8],
     out: &mut [u8],
 ) -> Outcome
-    ensures said { λ r. ⌜ says r ≡ done (writeRecordOf profile dim bits mode projections (now (radii .entry)) (now (indices .entry)) (now (signs .entry)) (length (now (out .entry)))) ⌝ }
-    ensures left { λ r. ⌜ now (out .exit) ≡ after (writeRecordOf profile dim bits mode projections (now (radii .entry)) (now (indices .entry)) (now (signs .entry)) (length (now (out .entry)))) (now (out .entry)) ⌝ }
+    ensures said { λ r. ⌜ says r ≡ done (writeRecordOf code (now (radii .entry)) (now (indices .entry)) (now (signs .entry)) (length (now (out .entry)))) ⌝ }
+    ensures left { λ r. ⌜ now (out .exit) ≡ after (writeRecordOf code (now (radii .entry)) (now (indices .entry)) (now (signs .entry)) (length (now (out .entry)))) (now (out .entry)) ⌝ }
 {
     if let Outcome::Refused { number, place } = check_fields(
-        profile,
-        dim,
-        bits,
-        mode,
-        projections,
+        code,
         radii.len(),
         indices.len(),
         signs.len(),
     ) {
         return Outcome::Refused { number, place };
     }
+    let profile = code.profile;
+    let mode = code.mode;
+    let bits = code.bits;
     if let Outcome::Refused { number, place } = check_values(profile, bits, radii, indices, signs) {
         return Outcome::Refused { number, place };
     }
     let head = packed::header_length(map_for(profile, mode));
-    let body = packed::width_of(profile) * radii.len();
+    let body = radius::width_of(profile) * radii.len();
     let codes = (indices.len() * (bits as usize) + 7) / 8;
     let need = head + body + codes + (signs.len() + 7) / 8;
     if out.len() != need {
@@ -69,31 +65,19 @@ pub fn write_record(
         };
     }
     let range = put_payloads(radii, profile, indices, bits, signs, &mut out[head..]);
-    put_header(
-        profile,
-        dim,
-        bits,
-        mode,
-        projections,
-        range,
-        &mut out[0..head],
-    );
+    put_header(code, range, &mut out[0..head]);
     Outcome::Done
 }
 
 // The checks of what is to be written but for the values: the scalars, then the lengths.
-fn check_fields(
-    profile: RadiusCodecProfileV1,
-    dim: usize,
-    bits: u8,
-    mode: TurboMode,
-    projections: usize,
-    radii: usize,
-    indices: usize,
-    signs: usize,
-) -> Outcome
-    ensures { λ r. ⌜ says r ≡ first (fieldChecks profile dim bits mode projections radii indices signs) accepted ⌝ }
+fn check_fields(code: Code, radii: usize, indices: usize, signs: usize) -> Outcome
+    ensures { λ r. ⌜ says r ≡ first (fieldChecks code radii indices signs) accepted ⌝ }
 {
+    let profile = code.profile;
+    let mode = code.mode;
+    let dim = code.dim;
+    let bits = code.bits;
+    let projections = code.projections;
     if is_log(profile) {
         return Outcome::Refused {
             number: UNDEFINED_PROFILE,
@@ -103,7 +87,7 @@ fn check_fields(
     if let Outcome::Refused { number, place } = packed::check_shape(mode, dim, bits) {
         return Outcome::Refused { number, place };
     }
-    if packed::outside_projections(mode, projections) {
+    if setup::outside_projections(mode, projections) {
         return Outcome::Refused {
             number: ZERO_PROJECTION_COUNT,
             place: projections,
@@ -149,7 +133,7 @@ fn check_lengths(
     Outcome::Done
 }
 
-// The checks of radii, indices and signs of lengths that fit.
+// The checks of radii, as they are and as they would be read back, of indices and of signs.
 fn check_values(
     profile: RadiusCodecProfileV1,
     bits: u8,
@@ -157,63 +141,38 @@ fn check_values(
     indices: &[u16],
     signs: &[i8],
 ) -> Outcome
-    requires { ⌜ Sized profile bits (length (now radii)) (length (now indices)) (length (now signs)) ⌝ }
+    requires { ⌜ badProfile profile ≡ false ⌝ }
     ensures { λ r. ⌜ says r ≡ first (valueChecks profile bits (now (radii .entry)) (now (indices .entry)) (now (signs .entry))) accepted ⌝ }
 {
-    if let Outcome::Refused { number, place } = check_radii(profile, radii) {
-        return Outcome::Refused { number, place };
+    let bad = radius::first_bad_radius(radii);
+    if bad < radii.len() {
+        return Outcome::Refused {
+            number: MALFORMED_RADIUS,
+            place: bad,
+        };
     }
-    if let Outcome::Refused { number, place } = check_indices(bits, indices) {
-        return Outcome::Refused { number, place };
+    let lost = radius::first_bad_read_back(radii, profile);
+    if lost < radii.len() {
+        return Outcome::Refused {
+            number: MALFORMED_RADIUS,
+            place: lost,
+        };
     }
-    check_signs(signs)
-}
-
-// The checks of radii, as they are and as they would be read back.
-fn check_radii(profile: RadiusCodecProfileV1, radii: &[f32]) -> Outcome
-    requires { ⌜ (badProfile profile ≡ false) × (length (now radii) ≤ 2048) ⌝ }
-    ensures { λ r. ⌜ says r ≡ first (radiusChecks profile (now (radii .entry))) accepted ⌝ }
-{
-    let mut scratch = zeros();
-    let long = packed::width_of(profile) * radii.len();
-    match radius::compress(radii, profile, &mut scratch[0..long]) {
-        Compressed::Made(range) => {
-            let bad = packed::first_bad(&scratch[0..long], profile, range);
-            if bad < radii.len() {
-                return Outcome::Refused {
-                    number: MALFORMED_RADIUS,
-                    place: bad,
-                };
-            }
-            Outcome::Done
-        }
-        Compressed::Refused { number, place } => Outcome::Refused { number, place },
+    let large = bitpack::first_bad_index(indices, bits);
+    if large < indices.len() {
+        return Outcome::Refused {
+            number: MALFORMED_INDEX,
+            place: large,
+        };
     }
-}
-
-// The check of indices.
-fn check_indices(bits: u8, indices: &[u16]) -> Outcome
-    requires { ⌜ (1 ≤ bits) × ((bits ≤ 16) × (length (now indices) ≤ 2048)) ⌝ }
-    ensures { λ r. ⌜ says r ≡ first (indexChecks bits (now (indices .entry))) accepted ⌝ }
-{
-    let mut scratch = zeros();
-    let long = (indices.len() * (bits as usize) + 7) / 8;
-    bitpack::pack_indices(indices, bits, &mut scratch[0..long])
-}
-
-// The check of signs.
-fn check_signs(signs: &[i8]) -> Outcome
-    requires { ⌜ length (now signs) ≤ 4096 ⌝ }
-    ensures { λ r. ⌜ says r ≡ first (signChecks (now (signs .entry))) accepted ⌝ }
-{
-    let mut scratch = zeros();
-    let long = (signs.len() + 7) / 8;
-    bitpack_signs::pack_signs(signs, &mut scratch[0..long])
-}
-
-// Memory for the largest payload: 4 bytes for each of 2,048 radii.
-fn zeros() -> [u8; 8192] {
-    [0u8; 8192]
+    let stray = bitpack_signs::first_bad_sketch_sign(signs);
+    if stray < signs.len() {
+        return Outcome::Refused {
+            number: MALFORMED_SIGN,
+            place: stray,
+        };
+    }
+    Outcome::Done
 }
 
 // Whether a profile is the one that is refused.
@@ -268,7 +227,7 @@ fn put_payloads(
     ensures is { λ r. ⌜ r ≡ rangeFor profile (now (radii .entry)) ⌝ }
     ensures left { λ r. ⌜ now (out .exit) ≡ payloadFor profile (now (radii .entry)) ++ (indexBytes bits (now (indices .entry)) ++ signBytes (now (signs .entry))) ⌝ }
 {
-    let body = packed::width_of(profile) * radii.len();
+    let body = radius::width_of(profile) * radii.len();
     put_codes(indices, bits, signs, &mut out[body..]);
     put_radii(radii, profile, &mut out[0..body])
 }
@@ -315,23 +274,17 @@ fn put_signs(signs: &[i8], out: &mut [u8])
 }
 
 // Writes the header.
-fn put_header(
-    profile: RadiusCodecProfileV1,
-    dim: usize,
-    bits: u8,
-    mode: TurboMode,
-    projections: usize,
-    range: Range,
-    out: &mut [u8],
-)
-    requires { ⌜ length (now out) ≡ headerLength (mapFor profile mode) ⌝ }
-    ensures { λ r. ⌜ now (out .exit) ≡ headerBytes profile dim bits mode projections range ⌝ }
+fn put_header(code: Code, range: Range, out: &mut [u8])
+    requires { ⌜ length (now out) ≡ headerLength (mapFor (code .profile) (code .mode)) ⌝ }
+    ensures { λ r. ⌜ now (out .exit) ≡ headerBytes code range ⌝ }
 {
+    let profile = code.profile;
+    let mode = code.mode;
     out[0] = map_for(profile, mode);
-    put_u32(out, 1, dim);
-    out[5] = bits;
+    digits::put_word(out, 1, code.dim as u64);
+    out[5] = code.bits;
     put_range(out, profile, range);
-    put_projections(out, mode, projections);
+    put_projections(out, mode, code.projections);
 }
 
 // The range at byte 6, for linear radii.
@@ -342,8 +295,8 @@ fn put_range(out: &mut [u8], profile: RadiusCodecProfileV1, range: Range)
     match profile {
         RadiusCodecProfileV1::F32 => {}
         RadiusCodecProfileV1::BlockLinearU16 => {
-            put_f32(out, 6, range.min);
-            put_f32(out, 10, range.max);
+            float::put_f32(out, 6, range.min);
+            float::put_f32(out, 10, range.max);
         }
         RadiusCodecProfileV1::BlockLogU8 => {}
     }
@@ -356,29 +309,6 @@ fn put_projections(out: &mut [u8], mode: TurboMode, projections: usize)
 {
     if let TurboMode::PolarWithQjl = mode {
         let at = out.len() - 4;
-        put_u32(out, at, projections);
+        digits::put_word(out, at, projections as u64);
     }
-}
-
-// The four bytes of a number at `at`, the least significant first.
-fn put_u32(out: &mut [u8], at: usize, n: usize)
-    requires { ⌜ at + 4 ≤ length (now out) ⌝ }
-    ensures { λ r. ⌜ now (out .exit) ≡ take at (now (out .entry)) ++ digits 256 4 n ++ drop (at + 4) (now (out .entry)) ⌝ }
-{
-    out[at] = (n % 256) as u8;
-    out[at + 1] = (n / 256 % 256) as u8;
-    out[at + 2] = (n / 256 / 256 % 256) as u8;
-    out[at + 3] = (n / 256 / 256 / 256 % 256) as u8;
-}
-
-// The four bytes of a float at `at`, the least significant first.
-fn put_f32(out: &mut [u8], at: usize, x: f32)
-    requires { ⌜ at + 4 ≤ length (now out) ⌝ }
-    ensures { λ r. ⌜ now (out .exit) ≡ take at (now (out .entry)) ++ toLeBytes x ++ drop (at + 4) (now (out .entry)) ⌝ }
-{
-    let bytes = float::to_le_bytes(x);
-    out[at] = bytes[0];
-    out[at + 1] = bytes[1];
-    out[at + 2] = bytes[2];
-    out[at + 3] = bytes[3];
 }

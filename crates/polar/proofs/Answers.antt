@@ -1,13 +1,12 @@
 -- What a call for the pairs answers, by whether its output is as long as it has to be. Assumes nothing.
 use Prim.Native.Nat.{ℕ, _*_}
-use mathlib.Core.Path.{_≡_, ap, _∙_}
+use mathlib.Core.Path.{_≡_}
 use mathlib.Core.List.{List}
 use borrow.Author.Tests.{eq-eqb, ne-eqb}
 use lib.ListN.{length}
 use lib.Ieee.{Float}
 use Rattle.error.specs.Answer.{value, refused}
-use Rattle.polar.specs.Polar.{along, across, pairs, decodedPairs, polarPairsOf}
-use Rattle.polar.proofs.Loops.{laid-length, from-length}
+use Rattle.polar.specs.Polar.{decodedPairs, polarPairsOf}
 
 module _ (directions : List Float) (indices : List ℕ) (radii : List Float) (room : ℕ) where
   pub pairs-refused : (room ≡ 2 * length radii → ⊥) → polarPairsOf directions indices radii room ≡ refused 6 (2 * length radii)
@@ -17,9 +16,3 @@ module _ (directions : List Float) (indices : List ℕ) (radii : List Float) (ro
   pub pairs-value : room ≡ 2 * length radii → polarPairsOf directions indices radii room ≡ value (decodedPairs directions indices radii)
   unfolding polarPairsOf
   pairs-value h = rw (eq-eqb room (2 * length radii) h)
-
--- two floats for each radius
-pub decoded-length : (directions : List Float) (indices : List ℕ) (radii : List Float) → length (decodedPairs directions indices radii) ≡ 2 * length radii
-unfolding decodedPairs
-decoded-length directions indices radii =
-    laid-length (along directions indices radii) (across directions indices radii) (pairs radii) ∙ ap (λ (n : ℕ). 2 * n) (from-length 0 (length radii))

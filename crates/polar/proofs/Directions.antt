@@ -9,8 +9,8 @@ use borrow.Author.Tests.{ltb-false}
 use lib.IntN.{pos}
 use lib.ListN.{length, getD}
 use lib.Ieee.{Float, nan, inf, fin, lt, up, down}
-use Rattle.rounding.specs.Value.{unit, mag}
-use Rattle.rounding.proofs.Values.{mag-zero}
+use Rattle.float.specs.Units.{unit, mag}
+use Rattle.float.proofs.Units.{mag-zero}
 use Rattle.polar.specs.Polar.{valueAt}
 
 quotient-small : (n d : ℕ) → n ≤ d → n * unit / d ≤ unit

@@ -6,7 +6,7 @@ use lib.ListN.{length, getD}
 use lib.Ieee.{Float, nan, binary32, mul}
 use Rattle.rounding.proofs.Lists.{getD-any}
 use Rattle.polar.specs.Polar.{valueAt}
-use Rattle.rounding.specs.Value.{posZero}
+use Rattle.float.specs.Constants.{posZero}
 
 -- a product with an entry that is there
 pub product-at : (vs : List Float) (i : ℕ) (v : Float) {w : Float} → i < length vs → v ≡ w → mul binary32 (getD vs i nan) v ≡ mul binary32 (valueAt vs i) w

@@ -8,7 +8,8 @@ use lib.Ieee.{Float, fin, binary32, add, sub, mul, div, ofInt, ofBits}
 use Rattle.error.specs.Answer.{value, refused}
 use Rattle.rounding.specs.Butterfly.{from}
 use Rattle.rounding.specs.Sums.{running}
-use Rattle.polar.specs.Angle.{dequantizeAngleOf, radians, twicePi, pi}
+use Rattle.polar.specs.Angle.{dequantizeAngleOf, radians, twicePi}
+use Rattle.float.specs.Constants.{pi}
 use Rattle.polar.specs.Polar.{term, polarSumOf, laid, decodedPairs, polarPairsOf}
 
 -- a small odd number, or 0

@@ -11,7 +11,7 @@ use lib.Seq.{take-all, take-suc-set}
 use lib.Ieee.{Float, binary32, add}
 use Rattle.rounding.specs.Butterfly.{from}
 use Rattle.rounding.specs.Sums.{running, total}
-use Rattle.rounding.specs.Value.{posZero}
+use Rattle.float.specs.Constants.{posZero}
 use Rattle.polar.specs.Polar.{laid}
 
 -- ---- what is left, by what is left of the count
@@ -43,11 +43,6 @@ module _ (f : ℕ → Float) (n : ℕ) where
   running-end i acc h inv = sym (inv ∙ ap (λ (is : List ℕ). running acc (map f is)) (from-none i n h))
 
 -- ---- two stores for each pair
-pub laid-length : (f g : ℕ → Float) (is : List ℕ) → length (laid f g is) ≡ 2 * length is
-unfolding laid
-laid-length f g [] = refl
-laid-length f g (i ∷ is) = omega (arith, laid-length f g is)
-
 module _ (f g : ℕ → Float) (n : ℕ) where
   pub laid-start : (out : List Float) → laid f g (from 0 n) ≡ take (2 * 0) out ++ laid f g (from 0 (n - 0))
   laid-start out = rw sub-zero

@@ -8,7 +8,7 @@ use native.Mathlib.Omega.{arith}
 use lib.ListN.{length, length-map}
 use lib.Ieee.{Float}
 use Rattle.rounding.specs.Signed.{Diff}
-use Rattle.rounding.specs.Value.{mag}
+use Rattle.float.specs.Units.{mag}
 use Rattle.rounding.specs.Close.{Close}
 use Rattle.rounding.specs.Butterfly.{from}
 use Rattle.rounding.specs.Sums.{sum, AllClose, none, next}

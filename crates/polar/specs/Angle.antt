@@ -3,15 +3,12 @@ use Prim.Native.Nat.{ℕ, _^_}
 use mathlib.Core.Bool.{false}
 use mathlib.Core.List.{[], _∷_}
 use lib.IntN.{pos}
-use lib.Ieee.{Float, fin, binary32, sub, mul, div, ofInt, ofBits}
+use lib.Ieee.{Float, fin, binary32, sub, mul, div, ofInt}
 use Rattle.error.specs.Answer.{Answer, value, refused, first}
 use Rattle.error.specs.Checks.{wrongBits, wrongIndex}
+use Rattle.float.specs.Constants.{pi}
 use Rattle.polar.specs.declared.Angle.{Angle}
 use Rattle.polar.specs.declared.Angle.the-variants.{Radians, Refused}
-
--- 'PI is 40490FDB.'
-unfoldable pub pi : Float
-pi = ofBits binary32 0x4049_0FDB
 
 -- 2 PI, the product of 2.0 and PI as an f32
 unfoldable pub twicePi : Float

@@ -1,4 +1,4 @@
--- The polar sum without rounding, over any rotation: its exact entries are whole numbers xs of some unit. Beside it what bounds its size, and its absolute error.
+-- The polar sum without rounding, over any rotation: its exact entries are whole numbers xs of some unit. Beside it what bounds its size.
 -- In document 01's words it is 'the sum over pairs of r × (qa × c + qb × s), with r the pair's radius as read from the record, (c, s) the table's direction
 -- for its index, and (qa, qb) its two entries of the query rotated without rounding'. Assumes nothing.
 use Prim.Native.Nat.{ℕ, _+_, _*_}
@@ -6,7 +6,8 @@ use mathlib.Core.List.{List, map}
 use lib.ListN.{getD}
 use lib.Ieee.{Float}
 use Rattle.rounding.specs.Signed.{Diff, nought, _⊞_, _⊠_}
-use Rattle.rounding.specs.Value.{unit, mag, val}
+use Rattle.rounding.specs.Value.{val}
+use Rattle.float.specs.Units.{mag}
 use Rattle.rounding.specs.Sums.{exactTotal, sum}
 use Rattle.polar.specs.Polar.{valueAt, cosine, sine, pairs}
 
@@ -28,22 +29,9 @@ sizeTerm bs directions indices radii i =
 unfoldable pub polarSize : List ℕ → List Float → List ℕ → List Float → ℕ
 polarSize bs directions indices radii = sum (map (λ i. sizeTerm bs directions indices radii i) (pairs radii))
 
--- ---- its absolute error, where rs are those of the rounded entries, of which s units make 2 ^ -149
--- each of the three products of pair i adds a unit of its own
-unfoldable pub errorTerm : ℕ → List ℕ → List Float → List ℕ → List Float → ℕ → ℕ
-errorTerm s rs directions indices radii i =
-    mag (valueAt radii i) * (mag (cosine directions indices i) * getD rs (2 * i) 0 + s * unit + (mag (sine directions indices i) * getD rs (2 * i + 1) 0 + s * unit))
-    + s * unit * unit
-
-unfoldable pub polarError : ℕ → List ℕ → List Float → List ℕ → List Float → ℕ
-polarError s rs directions indices radii = sum (map (λ i. errorTerm s rs directions indices radii i) (pairs radii))
-
--- ---- 'sum of r(|c| + |s|)' (document 01), and the sum of radii
+-- ---- 'sum of r(|c| + |s|)' (document 01)
 unfoldable pub directionTerm : List Float → List ℕ → List Float → ℕ → ℕ
 directionTerm directions indices radii i = mag (valueAt radii i) * (mag (cosine directions indices i) + mag (sine directions indices i))
 
 unfoldable pub directionSum : List Float → List ℕ → List Float → ℕ
 directionSum directions indices radii = sum (map (λ i. directionTerm directions indices radii i) (pairs radii))
-
-unfoldable pub radiusSum : List Float → ℕ
-radiusSum radii = sum (map mag radii)

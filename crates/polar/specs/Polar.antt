@@ -9,7 +9,7 @@ use Rattle.error.specs.Answer.{Answer, value, first}
 use Rattle.error.specs.Checks.{wrongRoom}
 use Rattle.rounding.specs.Butterfly.{from}
 use Rattle.rounding.specs.Sums.{total}
-use Rattle.rounding.specs.Value.{posZero}
+use Rattle.float.specs.Constants.{posZero}
 
 -- ---- what a pair has
 -- the float at a place
@@ -20,7 +20,8 @@ valueAt vs i = getD vs i posZero
 abbrev pub directionAt : List ℕ → ℕ → ℕ
 directionAt indices i = 2 * getD indices i 0
 
--- 'Direction pair i holds the host's cosine and sine' (document 01): those that pair i has by its index
+-- the cosine and the sine of pair i of the code: those of the table's direction pair that its index names. 'Direction pair i holds the host's cosine and
+-- sine' (document 01), with i that index
 abbrev pub cosine : List Float → List ℕ → ℕ → Float
 cosine directions indices i = valueAt directions (directionAt indices i)
 
@@ -57,7 +58,7 @@ along directions indices radii i = mul binary32 (valueAt radii i) (cosine direct
 abbrev pub across : List Float → List ℕ → List Float → ℕ → Float
 across directions indices radii i = mul binary32 (valueAt radii i) (sine directions indices i)
 
--- both, of each pair
+-- the decoded entries: r × c and r × s of the first pair, then those of the second, and on
 unfoldable pub decodedPairs : List Float → List ℕ → List Float → List Float
 decodedPairs directions indices radii = laid (along directions indices radii) (across directions indices radii) (pairs radii)
 

@@ -8,21 +8,22 @@ use lib.Dec.{eqb, ltb}
 use lib.IntN.{ℤ}
 use lib.ListN.{length}
 use lib.Ieee.{Float}
-use lib.Ieee.Scale.{finite}
 use Rattle.error.specs.Answer.{Answer, value, refused, first, each, place, accepted, done, after}
 use Rattle.error.proofs.Chains.{first-passed, first-refused, first-passes, append-passed, append-refused, append-left, append-right}
 use Rattle.error.proofs.Places.{each-offends, each-passes}
-use Rattle.rounding.specs.Value.{posZero}
-use Rattle.error.specs.Checks.{wrongInput, wrongRoom}
+use Rattle.float.specs.Constants.{posZero}
+use Rattle.error.specs.Checks.{wrongInput, wrongRoom, badValue, finiteScoreOf}
+use Rattle.setup.specs.Lent.{Lent}
 use Rattle.setup.specs.declared.Setup.{Setup}
 use Rattle.setup.specs.declared.TurboMode.{TurboMode}
 use Rattle.setup.specs.declared.TurboMode.the-variants.{PolarOnly, PolarWithQjl}
 use Rattle.setup.specs.Setups.{byMode, countedProjectionsOf}
-use Rattle.setup.specs.Checks.{badValue, setupChecks, setupChecksButEntries}
+use Rattle.setup.specs.Checks.{setupChecks, setupChecksButEntries}
 use Rattle.setup.specs.Accepted.{AcceptedSetup}
 use Rattle.setup.proofs.Accepted.{setup-accepted, but-entries-usable, but-entries-long, but-entries-rest}
-use Rattle.qjl.specs.Projection.{projected, projectOf}
-use Rattle.qjl.specs.Filled.{Rowed}
+use Rattle.qjl.specs.Projection.{projectOf}
+use Rattle.rounding.specs.Rows.{projected}
+use Rattle.qjl.specs.Inner.{Rowed}
 use Rattle.qjl.specs.Sketch.{signOfSum, vectorChecks, sketchOf}
 use Rattle.bitpack.specs.Signs.{badSketchSign}
 use Rattle.qjl.proofs.FiniteSums.{matrix-finite, query-finite}
@@ -53,25 +54,25 @@ module _ (n : ℕ) (matrix query : List Float) (room : ℕ) where
 
 -- ---- the checks of a vector
 
-module _ (s : Setup) (signs directions matrix vector : List Float) where
-  pub vector-refused : {number place : ℕ} → first (setupChecks s signs directions matrix) accepted ≡ refused number place
-      → first (vectorChecks s signs directions matrix vector) accepted ≡ refused number place
-  vector-refused e = append-refused (setupChecks s signs directions matrix) (wrongInput (length vector) (s .dim) ∷ each badValue 11 vector ∷ []) tt accepted e
+module _ (s : Setup) (l : Lent) (vector : List Float) where
+  pub vector-refused : {number place : ℕ} → first (setupChecks s l) accepted ≡ refused number place
+      → first (vectorChecks s l vector) accepted ≡ refused number place
+  vector-refused e = append-refused (setupChecks s l) (wrongInput (length vector) (s .dim) ∷ each badValue 11 vector ∷ []) tt accepted e
 
-  vector-rest : first (setupChecks s signs directions matrix) accepted ≡ accepted
-      → first (vectorChecks s signs directions matrix vector) accepted ≡ first (wrongInput (length vector) (s .dim) ∷ each badValue 11 vector ∷ []) accepted
-  vector-rest e = append-passed (setupChecks s signs directions matrix) (wrongInput (length vector) (s .dim) ∷ each badValue 11 vector ∷ []) tt accepted e
+  vector-rest : first (setupChecks s l) accepted ≡ accepted
+      → first (vectorChecks s l vector) accepted ≡ first (wrongInput (length vector) (s .dim) ∷ each badValue 11 vector ∷ []) accepted
+  vector-rest e = append-passed (setupChecks s l) (wrongInput (length vector) (s .dim) ∷ each badValue 11 vector ∷ []) tt accepted e
 
-  pub vector-length : first (setupChecks s signs directions matrix) accepted ≡ accepted → (length vector ≡ s .dim → ⊥)
-      → first (vectorChecks s signs directions matrix vector) accepted ≡ refused 5 (length vector)
+  pub vector-length : first (setupChecks s l) accepted ≡ accepted → (length vector ≡ s .dim → ⊥)
+      → first (vectorChecks s l vector) accepted ≡ refused 5 (length vector)
   vector-length e h = vector-rest e ∙ simp (ne-eqb (length vector) (s .dim) h)
 
-  pub vector-entry : {i : ℕ} → first (setupChecks s signs directions matrix) accepted ≡ accepted → length vector ≡ s .dim → i ≡ place badValue vector → i < length vector
-      → first (vectorChecks s signs directions matrix vector) accepted ≡ refused 11 i
+  pub vector-entry : {i : ℕ} → first (setupChecks s l) accepted ≡ accepted → length vector ≡ s .dim → i ≡ place badValue vector → i < length vector
+      → first (vectorChecks s l vector) accepted ≡ refused 11 i
   vector-entry e h p l = vector-rest e ∙ simp (eq-eqb (length vector) (s .dim) h, each-offends badValue vector p l, p)
 
-  pub vector-passed : {i : ℕ} → first (setupChecks s signs directions matrix) accepted ≡ accepted → length vector ≡ s .dim → i ≡ place badValue vector → length vector ≤ i
-      → first (vectorChecks s signs directions matrix vector) accepted ≡ accepted
+  pub vector-passed : {i : ℕ} → first (setupChecks s l) accepted ≡ accepted → length vector ≡ s .dim → i ≡ place badValue vector → length vector ≤ i
+      → first (vectorChecks s l vector) accepted ≡ accepted
   vector-passed e h p l = vector-rest e ∙ simp (eq-eqb (length vector) (s .dim) h, each-passes badValue vector p l)
 
 -- ---- a score from a projected query
@@ -92,112 +93,108 @@ module _ (m : ℕ) (values : List Float) (signs : List ℤ) where
       signed-sign q k = simp (each-passes badValue values p l, eq-eqb (length signs) m h, each-offends badSketchSign signs q k, q)
 
       module _ {j : ℕ} (q : j ≡ place badSketchSign signs) (k : length signs ≤ j) where
-        pub signed-infinite : finite (unitResidual m values signs) ≡ false → signedScore m values signs ≡ refused 12 0
+        pub signed-judged : signedScore m values signs ≡ finiteScoreOf (unitResidual m values signs)
         unfolding signedScore
-        signed-infinite f = simp (each-passes badValue values p l, eq-eqb (length signs) m h, each-passes badSketchSign signs q k, f)
-
-        pub signed-value : finite (unitResidual m values signs) ≡ true → signedScore m values signs ≡ value (unitResidual m values signs)
-        unfolding signedScore
-        signed-value f = simp (each-passes badValue values p l, eq-eqb (length signs) m h, each-passes badSketchSign signs q k, f)
+        signed-judged = simp (each-passes badValue values p l, eq-eqb (length signs) m h, each-passes badSketchSign signs q k)
 
 -- ---- what a vector has whose checks all pass
 
-module _ (s : Setup) (signs directions matrix vector : List Float) (passed : first (vectorChecks s signs directions matrix vector) accepted ≡ accepted) where
-  pub vector-setup : AcceptedSetup s signs directions matrix
-  vector-setup = setup-accepted s signs directions matrix (append-left (setupChecks s signs directions matrix) (wrongInput (length vector) (s .dim) ∷ each badValue 11 vector ∷ []) accepted passed)
+module _ (s : Setup) (l : Lent) (vector : List Float) (passed : first (vectorChecks s l vector) accepted ≡ accepted) where
+  pub vector-setup : AcceptedSetup s l
+  vector-setup = setup-accepted s l (append-left (setupChecks s l) (wrongInput (length vector) (s .dim) ∷ each badValue 11 vector ∷ []) accepted passed)
 
-  pub vector-rowed : Rowed (s .dim) matrix vector (countedProjectionsOf s)
+  pub vector-rowed : Rowed (s .dim) (l .matrix) vector (countedProjectionsOf s)
   vector-rowed =
-      let k = first-passes (wrongInput (length vector) (s .dim) ∷ each badValue 11 vector ∷ []) tt (append-right (setupChecks s signs directions matrix) (wrongInput (length vector) (s .dim) ∷ each badValue 11 vector ∷ []) accepted passed) in
+      let k = first-passes (wrongInput (length vector) (s .dim) ∷ each badValue 11 vector ∷ []) tt (append-right (setupChecks s l) (wrongInput (length vector) (s .dim) ∷ each badValue 11 vector ∷ []) accepted passed) in
       record { query-long = eqb-true (length vector) (s .dim) (not-false _ (k .0)); matrix-long = vector-setup .matrix-long }
 
   -- an output of as many entries as projections count
-  pub vector-ready : {counted room : ℕ} → counted ≡ countedProjectionsOf s → room ≡ counted → Rowed (s .dim) matrix vector room × (room ≤ 4096)
+  pub vector-ready : {counted room : ℕ} → counted ≡ countedProjectionsOf s → room ≡ counted → Rowed (s .dim) (l .matrix) vector room × (room ≤ 4096)
   vector-ready {counted} {room} e f =
-      subst (λ (m : ℕ). Rowed (s .dim) matrix vector m × (m ≤ 4096)) (sym (f ∙ e)) (vector-rowed, vector-setup .usable .most-projections)
+      subst (λ (m : ℕ). Rowed (s .dim) (l .matrix) vector m × (m ≤ 4096)) (sym (f ∙ e)) (vector-rowed, vector-setup .usable .most-projections)
 
   -- in residual mode every projection counts
-  pub vector-residual : s .mode ≡ PolarWithQjl → Rowed (s .dim) matrix vector (s .projections) × (s .projections ≤ 4096)
+  pub vector-residual : s .mode ≡ PolarWithQjl → Rowed (s .dim) (l .matrix) vector (s .projections) × (s .projections ≤ 4096)
   vector-residual e = vector-ready (ap (λ (m : TurboMode). byMode m 0 (s .projections)) (sym e)) refl
 
 -- ---- a sketch
 
-module _ (s : Setup) (signs directions matrix vector : List Float) (room : ℕ) where
-  pub sketch-refused : {number place : ℕ} → first (vectorChecks s signs directions matrix vector) accepted ≡ refused number place
-      → sketchOf s signs directions matrix vector room ≡ refused number place
+module _ (s : Setup) (l : Lent) (vector : List Float) (room : ℕ) where
+  pub sketch-refused : {number place : ℕ} → first (vectorChecks s l vector) accepted ≡ refused number place
+      → sketchOf s l vector room ≡ refused number place
   unfolding sketchOf
-  sketch-refused e = append-refused (vectorChecks s signs directions matrix vector) (wrongRoom room (countedProjectionsOf s) ∷ []) tt _ e
+  sketch-refused e = append-refused (vectorChecks s l vector) (wrongRoom room (countedProjectionsOf s) ∷ []) tt _ e
 
-  sketch-rest : first (vectorChecks s signs directions matrix vector) accepted ≡ accepted
-      → sketchOf s signs directions matrix vector room
-      ≡ first (wrongRoom room (countedProjectionsOf s) ∷ []) (value (map signOfSum (projected (s .dim) (countedProjectionsOf s) matrix vector)))
+  sketch-rest : first (vectorChecks s l vector) accepted ≡ accepted
+      → sketchOf s l vector room
+      ≡ first (wrongRoom room (countedProjectionsOf s) ∷ []) (value (map signOfSum (projected (s .dim) (countedProjectionsOf s) (l .matrix) vector)))
   unfolding sketchOf
-  sketch-rest e = append-passed (vectorChecks s signs directions matrix vector) (wrongRoom room (countedProjectionsOf s) ∷ []) tt _ e
+  sketch-rest e = append-passed (vectorChecks s l vector) (wrongRoom room (countedProjectionsOf s) ∷ []) tt _ e
 
-  pub sketch-room : {counted : ℕ} → first (vectorChecks s signs directions matrix vector) accepted ≡ accepted → counted ≡ countedProjectionsOf s → (room ≡ counted → ⊥)
-      → sketchOf s signs directions matrix vector room ≡ refused 6 counted
+  pub sketch-room : {counted : ℕ} → first (vectorChecks s l vector) accepted ≡ accepted → counted ≡ countedProjectionsOf s → (room ≡ counted → ⊥)
+      → sketchOf s l vector room ≡ refused 6 counted
   sketch-room e c h = sketch-rest e ∙ simp (ne-eqb room (countedProjectionsOf s) (λ f. h (f ∙ sym c))) (ap (refused 6) (sym c))
 
-  pub sketch-value : {counted : ℕ} → first (vectorChecks s signs directions matrix vector) accepted ≡ accepted → counted ≡ countedProjectionsOf s → room ≡ counted
-      → sketchOf s signs directions matrix vector room ≡ value (map signOfSum (projected (s .dim) room matrix vector))
+  pub sketch-value : {counted : ℕ} → first (vectorChecks s l vector) accepted ≡ accepted → counted ≡ countedProjectionsOf s → room ≡ counted
+      → sketchOf s l vector room ≡ value (map signOfSum (projected (s .dim) room (l .matrix) vector))
   sketch-value e c f =
       let h = f ∙ c in
-      sketch-rest e ∙ simp (eq-eqb room (countedProjectionsOf s) h) (ap (λ (k : ℕ). value (map signOfSum (projected (s .dim) k matrix vector))) (sym h))
+      sketch-rest e ∙ simp (eq-eqb room (countedProjectionsOf s) h) (ap (λ (k : ℕ). value (map signOfSum (projected (s .dim) k (l .matrix) vector))) (sym h))
 
-module _ (s : Setup) (signs directions matrix vector : List Float) where
+module _ (s : Setup) (l : Lent) (vector : List Float) where
   -- after a try that left the output as it was
   pub sketch-again : (mid old new : List ℤ) (said : Answer (Unit {0})) → mid ≡ old
-      → (said ≡ done (sketchOf s signs directions matrix vector (length mid))) × (new ≡ after (sketchOf s signs directions matrix vector (length mid)) mid)
-      → (said ≡ done (sketchOf s signs directions matrix vector (length old))) × (new ≡ after (sketchOf s signs directions matrix vector (length old)) old)
+      → (said ≡ done (sketchOf s l vector (length mid))) × (new ≡ after (sketchOf s l vector (length mid)) mid)
+      → (said ≡ done (sketchOf s l vector (length old))) × (new ≡ after (sketchOf s l vector (length old)) old)
   sketch-again mid old new said e h =
-      subst (λ (xs : List ℤ). (said ≡ done (sketchOf s signs directions matrix vector (length xs))) × (new ≡ after (sketchOf s signs directions matrix vector (length xs)) xs)) e h
+      subst (λ (xs : List ℤ). (said ≡ done (sketchOf s l vector (length xs))) × (new ≡ after (sketchOf s l vector (length xs)) xs)) e h
 
 -- ---- a sketch from finite projections
 
-module _ (s : Setup) (signs directions matrix vector : List Float) (room : ℕ) (passed : first (setupChecksButEntries s signs directions matrix) accepted ≡ accepted) where
-  pub shaped-ready : {counted : ℕ} → length vector ≡ s .dim → counted ≡ countedProjectionsOf s → room ≡ counted → Rowed (s .dim) matrix vector room × (room ≤ 4096)
+module _ (s : Setup) (l : Lent) (vector : List Float) (room : ℕ) (passed : first (setupChecksButEntries s l) accepted ≡ accepted) where
+  pub shaped-ready : {counted : ℕ} → length vector ≡ s .dim → counted ≡ countedProjectionsOf s → room ≡ counted → Rowed (s .dim) (l .matrix) vector room × (room ≤ 4096)
   shaped-ready {counted} e c f =
-      subst (λ (m : ℕ). Rowed (s .dim) matrix vector m × (m ≤ 4096)) (sym (f ∙ c))
-      (record { query-long = e; matrix-long = but-entries-long s signs directions matrix passed }, but-entries-usable s signs directions matrix passed .most-projections)
+      subst (λ (m : ℕ). Rowed (s .dim) (l .matrix) vector m × (m ≤ 4096)) (sym (f ∙ c))
+      (record { query-long = e; matrix-long = but-entries-long s l passed }, but-entries-usable s l passed .most-projections)
 
   pub shaped-value : {counted : ℕ} → length vector ≡ s .dim → counted ≡ countedProjectionsOf s → room ≡ counted → (counted ≡ 0 → ⊥)
-      → ltb (place badValue (projected (s .dim) room matrix vector)) (length (projected (s .dim) room matrix vector)) ≡ false
-      → sketchOf s signs directions matrix vector room ≡ value (map signOfSum (projected (s .dim) room matrix vector))
+      → ltb (place badValue (projected (s .dim) room (l .matrix) vector)) (length (projected (s .dim) room (l .matrix) vector)) ≡ false
+      → sketchOf s l vector room ≡ value (map signOfSum (projected (s .dim) room (l .matrix) vector))
   shaped-value {counted} e c f some clean =
       let rowed = shaped-ready e c f .0 in
-      let entries : first (setupChecks s signs directions matrix) accepted ≡ accepted = but-entries-rest s signs directions matrix passed ∙ simp (matrix-finite (s .dim) room matrix vector rowed clean) in
+      let entries : first (setupChecks s l) accepted ≡ accepted = but-entries-rest s l passed ∙ simp (matrix-finite (s .dim) room (l .matrix) vector rowed clean) in
       let above : 0 < room = rw f (above-zero counted some) in
-      let whole = query-finite (s .dim) room matrix vector rowed clean above in
-      sketch-value s signs directions matrix vector room (vector-passed s signs directions matrix vector {i = place badValue vector} entries e refl (ltb-false _ _ whole)) c f
+      let whole = query-finite (s .dim) room (l .matrix) vector rowed clean above in
+      sketch-value s l vector room (vector-passed s l vector {i = place badValue vector} entries e refl (ltb-false _ _ whole)) c f
 
 -- ---- a sketch score
 
-module _ (s : Setup) (signs directions matrix query : List Float) (sketch : List ℤ) where
-  pub score-refused : {number place : ℕ} → first (vectorChecks s signs directions matrix query) accepted ≡ refused number place
-      → sketchScoreOf s signs directions matrix query sketch ≡ refused number place
+module _ (s : Setup) (l : Lent) (query : List Float) (sketch : List ℤ) where
+  pub score-refused : {number place : ℕ} → first (vectorChecks s l query) accepted ≡ refused number place
+      → sketchScoreOf s l query sketch ≡ refused number place
   unfolding sketchScoreOf
-  score-refused e = first-refused (vectorChecks s signs directions matrix query) (modeScore (s .mode) (s .dim) (s .projections) matrix query sketch) e
+  score-refused e = first-refused (vectorChecks s l query) (modeScore (s .mode) (s .dim) (s .projections) (l .matrix) query sketch) e
 
   -- the checks of the query pass, and the mode is known
-  module _ {mode : TurboMode} (passed : first (vectorChecks s signs directions matrix query) accepted ≡ accepted) (is : s .mode ≡ mode) where
-    score-rest : sketchScoreOf s signs directions matrix query sketch ≡ modeScore mode (s .dim) (s .projections) matrix query sketch
+  module _ {mode : TurboMode} (passed : first (vectorChecks s l query) accepted ≡ accepted) (is : s .mode ≡ mode) where
+    score-rest : sketchScoreOf s l query sketch ≡ modeScore mode (s .dim) (s .projections) (l .matrix) query sketch
     unfolding sketchScoreOf
     score-rest =
-        first-passed (vectorChecks s signs directions matrix query) (modeScore (s .mode) (s .dim) (s .projections) matrix query sketch) passed
-        ∙ ap (λ (m : TurboMode). modeScore m (s .dim) (s .projections) matrix query sketch) is
+        first-passed (vectorChecks s l query) (modeScore (s .mode) (s .dim) (s .projections) (l .matrix) query sketch) passed
+        ∙ ap (λ (m : TurboMode). modeScore m (s .dim) (s .projections) (l .matrix) query sketch) is
 
-  pub score-residual : first (vectorChecks s signs directions matrix query) accepted ≡ accepted → s .mode ≡ PolarWithQjl
-      → sketchScoreOf s signs directions matrix query sketch ≡ signedScore (s .projections) (projected (s .dim) (s .projections) matrix query) sketch
+  pub score-residual : first (vectorChecks s l query) accepted ≡ accepted → s .mode ≡ PolarWithQjl
+      → sketchScoreOf s l query sketch ≡ signedScore (s .projections) (projected (s .dim) (s .projections) (l .matrix) query) sketch
   unfolding modeScore
   score-residual e m = score-rest e m
 
-  pub score-alone-length : first (vectorChecks s signs directions matrix query) accepted ≡ accepted → s .mode ≡ PolarOnly → (length sketch ≡ 0 → ⊥)
-      → sketchScoreOf s signs directions matrix query sketch ≡ refused 5 (length sketch)
+  pub score-alone-length : first (vectorChecks s l query) accepted ≡ accepted → s .mode ≡ PolarOnly → (length sketch ≡ 0 → ⊥)
+      → sketchScoreOf s l query sketch ≡ refused 5 (length sketch)
   unfolding modeScore
   score-alone-length e m h = score-rest e m ∙ simp (ne-eqb (length sketch) 0 h)
 
   -- without residual it is 0
-  pub score-alone : first (vectorChecks s signs directions matrix query) accepted ≡ accepted → s .mode ≡ PolarOnly → length sketch ≡ 0
-      → sketchScoreOf s signs directions matrix query sketch ≡ value posZero
+  pub score-alone : first (vectorChecks s l query) accepted ≡ accepted → s .mode ≡ PolarOnly → length sketch ≡ 0
+      → sketchScoreOf s l query sketch ≡ value posZero
   unfolding modeScore
   score-alone e m h = score-rest e m ∙ simp (eq-eqb (length sketch) 0 h)

@@ -6,9 +6,10 @@ use mathlib.Core.List.{[], _∷_}
 use lib.IntN.{pos, negsuc}
 use lib.Ieee.{nan, fin, binary32, add, mul, div, le, lt, eq, ofInt, ofBits, toBits}
 use Rattle.float.specs.SquareRoot.{squareRoot}
-use Rattle.rounding.specs.Value.{posZero, one}
+use Rattle.float.specs.Constants.{posZero, one, pi}
 use Rattle.rounding.specs.Sums.{running, products}
-use Rattle.qjl.specs.Projection.{rows, projected}
+use Rattle.lists.specs.Chunks.{chunks}
+use Rattle.rounding.specs.Rows.{projected}
 use Rattle.qjl.specs.Sketch.{signOfSum}
 use Rattle.qjl.specs.Score.{root, scaleOf, signSumOf}
 
@@ -28,16 +29,16 @@ sign-of-nan = refl
 -- (1, 2) and (3, -1) on (2, 0.5): 3 and 5.5
 pub small-projection : projected 2 2 (one false ∷ fin false 1 (pos 1) ∷ fin false 3 (pos 0) ∷ one true ∷ []) (fin false 1 (pos 1) ∷ fin false 1 (negsuc 0) ∷ [])
     ≡ fin false 3 (pos 0) ∷ fin false 11 (negsuc 0) ∷ []
-unfolding projected rows running products add mul
+unfolding projected chunks running products add mul
 small-projection = refl
 
 -- K for 1 and for 4 projections
 pub scale-of-one : toBits binary32 (scaleOf 1 (one false)) ≡ 0x3FA0_6C99
-unfolding scaleOf root squareRoot div mul ofInt ofBits toBits
+unfolding scaleOf root pi squareRoot div mul ofInt ofBits toBits
 scale-of-one = refl
 
 pub scale-of-four : toBits binary32 (scaleOf 4 (one false)) ≡ 0x3EA0_6C99
-unfolding scaleOf root squareRoot div mul ofInt ofBits toBits
+unfolding scaleOf root pi squareRoot div mul ofInt ofBits toBits
 scale-of-four = refl
 
 -- signs (+, −) and values (3, 5.5): the sum is -2.5

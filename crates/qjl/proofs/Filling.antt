@@ -8,7 +8,7 @@ use native.Mathlib.Omega.{arith}
 use lib.ListN.{length, getD, set, length-set}
 use lib.Seq.{getD-set-same, getD-set-other, ext-getD}
 use lib.Ieee.{Float, nan}
-use Rattle.qjl.specs.Filled.{Filled}
+use Rattle.qjl.specs.Inner.{Filled}
 
 module _ (f : ℕ → Float) where
   pub filled-start : (start : ℕ) (xs : List Float) → Filled f start start xs xs

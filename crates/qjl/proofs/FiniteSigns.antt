@@ -7,8 +7,9 @@ use lib.IntN.{ℤ}
 use lib.ListN.{length}
 use lib.Ieee.{Float}
 use Rattle.error.specs.Answer.{Answer, value, place}
-use Rattle.setup.specs.Checks.{badValue}
-use Rattle.qjl.specs.Sketch.{signOfSum, FiniteSigns, AtOnce}
+use Rattle.error.specs.Checks.{badValue}
+use Rattle.qjl.specs.Sketch.{signOfSum}
+use Rattle.qjl.specs.Inner.{FiniteSigns, AtOnce}
 
 pub signs-left : (values : List Float) (old : List ℤ) → FiniteSigns values old false old
 signs-left values old = record { clean = λ e. absurd (false≢true e); signs = λ e. absurd (false≢true e); kept = λ e. refl }

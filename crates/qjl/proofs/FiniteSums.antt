@@ -3,38 +3,22 @@
 use Prim.Native.Nat.{ℕ, zero, suc, _+_, _*_, _/_, _%_, _<_}
 use mathlib.Core.Path.{_≡_, refl, sym, subst}
 use mathlib.Core.Bool.{Bool, true, false}
-use mathlib.Core.List.{List, [], _∷_}
-use native.Mathlib.Nat.{not-suc-le-zero, le-of-suc-le-suc, mod-lt, div-add-mod', div-lt-iff-lt-mul}
+use mathlib.Core.List.{List}
+use native.Mathlib.Nat.{mod-lt, div-add-mod', div-lt-iff-lt-mul}
 use native.Mathlib.Omega.{arith}
 use lib.Dec.{T, ltb}
 use lib.ListN.{length, getD, drop, length-drop}
 use lib.Seq.{getD-drop}
-use lib.Ieee.{Float, nan, binary32, add, mul}
+use lib.Ieee.{Float, nan}
 use lib.Ieee.Scale.{finite}
 use Rattle.error.specs.Answer.{place}
 use Rattle.error.proofs.Places.{each-clear, each-none}
-use Rattle.rounding.specs.Sums.{running, products}
-use Rattle.rounding.proofs.Finite.{add-finite, mul-finite}
-use Rattle.setup.specs.Checks.{badValue}
-use Rattle.setup.proofs.Rows.{finite-passes, passes-finite}
-use Rattle.qjl.specs.Projection.{projected}
-use Rattle.qjl.specs.Filled.{Rowed, onRow}
-use Rattle.qjl.proofs.Rows.{projected-length, projected-row}
-
--- a running sum that ends finite was finite where it began
-sum-begins : (acc : Float) (vs : List Float) → T (finite (running acc vs)) → T (finite acc)
-unfolding running
-sum-begins acc [] t = t
-sum-begins acc (v ∷ vs) t = add-finite binary32 acc v (sum-begins (add binary32 acc v) vs t) .0
-
--- both factors of each term of a dot product
-dot-finite : (acc : Float) (vs cs : List Float) → T (finite (running acc (products vs cs))) → (i : ℕ) → i < length vs → i < length cs
-    → T (finite (getD vs i nan)) × T (finite (getD cs i nan))
-unfolding running products
-dot-finite acc [] cs t i h g = absurd (not-suc-le-zero h)
-dot-finite acc (v ∷ vs) [] t i h g = absurd (not-suc-le-zero g)
-dot-finite acc (v ∷ vs) (c ∷ cs) t zero h g = mul-finite binary32 v c (add-finite binary32 acc (mul binary32 v c) (sum-begins (add binary32 acc (mul binary32 v c)) (products vs cs) t) .1)
-dot-finite acc (v ∷ vs) (c ∷ cs) t (suc i) h g = dot-finite (add binary32 acc (mul binary32 v c)) vs cs t i (le-of-suc-le-suc h) (le-of-suc-le-suc g)
+use Rattle.rounding.proofs.Partial.{dot-finite}
+use Rattle.error.specs.Checks.{badValue}
+use Rattle.error.proofs.Finite.{finite-passes, passes-finite}
+use Rattle.qjl.specs.Inner.{Rowed, onRow}
+use Rattle.rounding.proofs.Rows.{projected-length, projected-row}
+use Rattle.rounding.specs.Rows.{projected}
 
 is-true : (b : Bool) → T b → b ≡ true
 is-true true t = refl

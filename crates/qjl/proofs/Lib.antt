@@ -2,7 +2,6 @@ pub mod Rows
 pub mod Filling
 pub mod FiniteSums
 pub mod FiniteSigns
-pub mod Parts
 pub mod Signs
 pub mod SignSums
 pub mod Answers

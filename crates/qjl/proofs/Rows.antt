@@ -1,37 +1,25 @@
 -- A dot product found by a loop: what is left of it at index i is the running sum over the products of what is left of the two lists.
--- And the projections row by row: how many there are, and what stands at each index. Assumes nothing.
+-- And where the rows of a matrix start and end. Assumes nothing.
 use Prim.Native.Nat.{ℕ, zero, suc, _+_, _*_, _/_, _%_, _≤_, _<_}
 use mathlib.Core.Path.{_≡_, refl, sym, ap, _∙_}
 use mathlib.Core.Bool.{Bool, true, false}
 use mathlib.Core.List.{List, [], _∷_}
-use native.Mathlib.Nat.{zero-mul, suc-mul, mul-zero, add-comm, add-zero, add-suc, add-assoc, div-add-mod', mul-div-cancel, mul-mod-left, zero-lt-suc, not-suc-le-zero, le-of-suc-le-suc, mul-le-mul-right}
+use native.Mathlib.Nat.{suc-mul, mul-zero, add-zero, add-suc, add-assoc, div-add-mod', mul-div-cancel, mul-mod-left, zero-lt-suc, mul-le-mul-right}
 use native.Mathlib.Numerals.{add-one}
 use native.Mathlib.Omega.{arith}
 use borrow.Author.Tests.{eqb-true, eqb-false, eq-eqb, ne-eqb}
 use lib.Dec.{eqb}
-use lib.ListN.{length, getD, take, drop, drop-of-length-le}
-use lib.Seq.{drop-cons, drop-drop}
+use lib.ListN.{length, getD, drop, drop-of-length-le}
+use lib.Seq.{drop-cons}
 use lib.Ieee.{Float, nan, binary32, add, mul}
-use Rattle.rounding.specs.Value.{posZero}
+use Rattle.float.specs.Constants.{posZero}
 use Rattle.rounding.specs.Sums.{running, products, dot}
-use Rattle.qjl.specs.Projection.{rows, projected}
-use Rattle.qjl.specs.Filled.{onRow, SoFar, FourSoFar, fourMore}
+use Rattle.qjl.specs.Inner.{onRow, SoFar, FourSoFar, fourMore}
 
 products-nil : (vs : List Float) → products vs [] ≡ []
 unfolding products
 products-nil [] = refl
 products-nil (v ∷ vs) = refl
-
-products-take : (vs cs : List Float) → products (take (length cs) vs) cs ≡ products vs cs
-unfolding products
-products-take [] [] = refl
-products-take [] (c ∷ cs) = refl
-products-take (v ∷ vs) [] = refl
-products-take (v ∷ vs) (c ∷ cs) = ap (λ (ps : List Float). mul binary32 v c ∷ ps) (products-take vs cs)
-
--- what follows the second list's length does not count
-pub dot-take : (n : ℕ) (vs cs : List Float) → length cs ≡ n → dot (take n vs) cs ≡ dot vs cs
-dot-take n vs cs e = ap (λ (k : ℕ). dot (take k vs) cs) (sym e) ∙ ap (running posZero) (products-take vs cs)
 
 -- ---- the loop
 
@@ -97,25 +85,6 @@ module _ (matrix query : List Float) (from : ℕ) where
         third = dot-four matrix query _ i _ c c₁ refl (omega arith) more g (inv .third);
         fourth = dot-four matrix query _ i _ d d₁ refl (omega arith) more h (inv .fourth);
       }
-
--- ---- the projections
-
-pub projected-length : (n m : ℕ) (matrix query : List Float) → length (projected n m matrix query) ≡ m
-unfolding projected rows
-projected-length n zero matrix query = refl
-projected-length n (suc m) matrix query = ap suc (projected-length n m (drop n matrix) query)
-
-next-row : (n j : ℕ) (matrix : List Float) → drop (j * n) (drop n matrix) ≡ drop (suc j * n) matrix
-next-row n j matrix = drop-drop (j * n) n matrix ∙ ap (λ (k : ℕ). drop k matrix) (add-comm n (j * n) ∙ sym (suc-mul j n))
-
-pub projected-at : (n m : ℕ) (matrix query : List Float) (j : ℕ) → j < m → getD (projected n m matrix query) j nan ≡ dot (take n (drop (j * n) matrix)) query
-unfolding projected rows
-projected-at n zero matrix query j l = absurd (not-suc-le-zero l)
-projected-at n (suc m) matrix query zero l = rw zero-mul
-projected-at n (suc m) matrix query (suc j) l = projected-at n m (drop n matrix) query j (le-of-suc-le-suc l) ∙ ap (λ (xs : List Float). dot (take n xs) query) (next-row n j matrix)
-
-pub projected-row : (n m : ℕ) (matrix query : List Float) (j : ℕ) → length query ≡ n → j < m → getD (projected n m matrix query) j nan ≡ onRow n matrix query j
-projected-row n m matrix query j e l = projected-at n m matrix query j l ∙ dot-take n (drop (j * n) matrix) query e
 
 -- ---- lengths
 

@@ -7,6 +7,7 @@ use lib.IntN.{ℤ, pos}
 use lib.ListN.{length, getD, drop, drop-of-length-le, length-map, List·getD-map}
 use lib.Seq.{drop-cons}
 use lib.Ieee.{Float, nan, binary32, add, mul, div, ofInt, ofBits}
+use Rattle.float.specs.Constants.{pi}
 use Rattle.float.specs.SquareRoot.{squareRoot}
 use Rattle.rounding.specs.Sums.{running, products}
 use Rattle.qjl.specs.Score.{root, scaleOf, signSumOf, residualOf}
@@ -14,7 +15,7 @@ use Rattle.qjl.proofs.Rows.{nothing-left}
 
 -- the root's pattern
 pub root-pattern : ofBits binary32 0x3FA0_6C99 ≡ root
-unfolding root squareRoot div ofBits
+unfolding root pi squareRoot div ofBits
 root-pattern = refl
 
 -- the residual from its two factors

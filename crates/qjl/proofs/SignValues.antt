@@ -10,7 +10,7 @@ use lib.IntN.{ℤ, pos, negsuc}
 use lib.ListN.{length, getD, length-map}
 use lib.Ieee.{Float, binary32, ofInt}
 use Rattle.rounding.specs.Signed.{Diff}
-use Rattle.rounding.specs.Value.{one}
+use Rattle.float.specs.Constants.{one}
 use Rattle.rounding.specs.Close.{Close}
 use Rattle.rounding.specs.Sums.{total, products, exactTotal, turnedEach, sum, AllClose}
 use Rattle.rounding.proofs.Exact.{mul-commutes}

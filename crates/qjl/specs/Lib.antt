@@ -1,5 +1,5 @@
 pub mod Projection
-pub mod Filled
 pub mod Sketch
 pub mod Score
 pub mod Exact
+pub mod Inner

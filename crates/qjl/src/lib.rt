@@ -5,9 +5,9 @@
 use error::DIMENSION_MISMATCH;
 use error::MALFORMED_SIGN;
 use error::NON_FINITE_INPUT;
-use error::NON_FINITE_SCORE;
 use error::OUTPUT_LENGTH;
 use error::Outcome;
+use error::Scored;
 use setup::Setup;
 use setup::TurboMode;
 ghost use mathlib.Core.Path.{_≡_};
@@ -16,20 +16,15 @@ ghost use Prim.Native.Nat.{_+_, _*_, _≤_};
 ghost use lib.Dec.{eqb};
 ghost use lib.ListN.{length, drop};
 ghost use lib.Ieee.{binary32, mul, ofInt};
-ghost use Rattle.error.specs.Answer.{first, place, accepted, done, after};
-ghost use Rattle.error.specs.Outcomes.{says};
+ghost use Rattle.error.specs.Answer.{first, accepted, done, after};
+ghost use Rattle.error.specs.Outcomes.{says, saysScore};
 ghost use Rattle.rounding.specs.Sums.{dot};
-ghost use Rattle.qjl.specs.Projection.{projected, projectOf};
-ghost use Rattle.qjl.specs.Filled.{Filled, SoFar, FourSoFar, FourDots, fourMore, onRow, Rowed};
-ghost use Rattle.qjl.specs.Sketch.{signOfSum, vectorChecks, sketchOf, FiniteSigns, AtOnce};
-ghost use Rattle.bitpack.specs.Signs.{badSketchSign};
-ghost use Rattle.qjl.specs.Score.{saysScore, scaleOf, signSumOf, residualOf, signedScore, sketchScoreOf};
-
-// A score with its value, or a refusal.
-pub enum Scored {
-    Score(f32),
-    Refused { number: u32, place: usize },
-}
+ghost use Rattle.qjl.specs.Projection.{projectOf};
+ghost use Rattle.rounding.specs.Rows.{projected};
+ghost use Rattle.setup.specs.Lent.{lent};
+ghost use Rattle.qjl.specs.Sketch.{signOfSum, vectorChecks, sketchOf};
+ghost use Rattle.qjl.specs.Inner.{Filled, SoFar, FourSoFar, FourDots, fourMore, onRow, Rowed, FiniteSigns, AtOnce};
+ghost use Rattle.qjl.specs.Score.{scaleOf, signSumOf, residualOf, signedScore, sketchScoreOf};
 
 // The sums of four rows.
 struct Four {
@@ -57,8 +52,8 @@ pub fn sketch(
     vector: &[f32],
     out: &mut [i8],
 ) -> Outcome
-    ensures { λ r. ⌜ says r ≡ done (sketchOf setup (now (signs .entry)) (now (directions .entry)) (now (matrix .entry)) (now (vector .entry)) (length (now (out .entry)))) ⌝ }
-    ensures { λ _. ⌜ now (out .exit) ≡ after (sketchOf setup (now (signs .entry)) (now (directions .entry)) (now (matrix .entry)) (now (vector .entry)) (length (now (out .entry)))) (now (out .entry)) ⌝ }
+    ensures { λ r. ⌜ says r ≡ done (sketchOf setup (lent (now (signs .entry)) (now (directions .entry)) (now (matrix .entry))) (now (vector .entry)) (length (now (out .entry)))) ⌝ }
+    ensures { λ _. ⌜ now (out .exit) ≡ after (sketchOf setup (lent (now (signs .entry)) (now (directions .entry)) (now (matrix .entry))) (now (vector .entry)) (length (now (out .entry)))) (now (out .entry)) ⌝ }
 {
     if sketch_at_once(setup, signs, directions, matrix, vector, out) {
         return Outcome::Done;
@@ -75,7 +70,7 @@ pub fn sketch_score(
     query: &[f32],
     sketch: &[i8],
 ) -> Scored
-    ensures { λ r. ⌜ saysScore r ≡ sketchScoreOf setup (now (signs .entry)) (now (directions .entry)) (now (matrix .entry)) (now (query .entry)) (now (sketch .entry)) ⌝ }
+    ensures { λ r. ⌜ saysScore r ≡ sketchScoreOf setup (lent (now (signs .entry)) (now (directions .entry)) (now (matrix .entry))) (now (query .entry)) (now (sketch .entry)) ⌝ }
 {
     let checked = check_vector(setup, signs, directions, matrix, query);
     if let Outcome::Refused { number, place } = checked {
@@ -160,7 +155,7 @@ pub fn check_vector(
     matrix: &[f32],
     vector: &[f32],
 ) -> Outcome
-    ensures { λ r. ⌜ says r ≡ first (vectorChecks setup (now (signs .entry)) (now (directions .entry)) (now (matrix .entry)) (now (vector .entry))) accepted ⌝ }
+    ensures { λ r. ⌜ says r ≡ first (vectorChecks setup (lent (now (signs .entry)) (now (directions .entry)) (now (matrix .entry))) (now (vector .entry))) accepted ⌝ }
 {
     let checked = setup::check_setup(setup, signs, directions, matrix);
     if let Outcome::Refused { number, place } = checked {
@@ -173,7 +168,7 @@ pub fn check_vector(
             place: vector.len(),
         };
     }
-    let bad = setup::first_non_finite(vector);
+    let bad = error::first_non_finite(vector);
     if bad < vector.len() {
         return Outcome::Refused {
             number: NON_FINITE_INPUT,
@@ -193,7 +188,7 @@ fn sketch_at_once(
     vector: &[f32],
     out: &mut [i8],
 ) -> bool
-    ensures { λ r. ⌜ AtOnce (sketchOf setup (now (signs .entry)) (now (directions .entry)) (now (matrix .entry)) (now (vector .entry)) (length (now (out .entry)))) (now (out .entry)) r (now (out .exit)) ⌝ }
+    ensures { λ r. ⌜ AtOnce (sketchOf setup (lent (now (signs .entry)) (now (directions .entry)) (now (matrix .entry))) (now (vector .entry)) (length (now (out .entry)))) (now (out .entry)) r (now (out .exit)) ⌝ }
 {
     let checked = setup::check_but_entries(setup, signs, directions, matrix);
     if let Outcome::Refused { number, place } = checked {
@@ -229,7 +224,7 @@ fn finite_signs_into(values: &[f32], out: &mut [i8]) -> bool
     requires { ⌜ length (now out) ≡ length (now values) ⌝ }
     ensures { λ r. ⌜ FiniteSigns (now (values .entry)) (now (out .entry)) r (now (out .exit)) ⌝ }
 {
-    let bad = setup::first_non_finite(values);
+    let bad = error::first_non_finite(values);
     if bad < values.len() {
         return false;
     }
@@ -246,8 +241,8 @@ fn sketch_checked(
     vector: &[f32],
     out: &mut [i8],
 ) -> Outcome
-    ensures { λ r. ⌜ says r ≡ done (sketchOf setup (now (signs .entry)) (now (directions .entry)) (now (matrix .entry)) (now (vector .entry)) (length (now (out .entry)))) ⌝ }
-    ensures { λ _. ⌜ now (out .exit) ≡ after (sketchOf setup (now (signs .entry)) (now (directions .entry)) (now (matrix .entry)) (now (vector .entry)) (length (now (out .entry)))) (now (out .entry)) ⌝ }
+    ensures { λ r. ⌜ says r ≡ done (sketchOf setup (lent (now (signs .entry)) (now (directions .entry)) (now (matrix .entry))) (now (vector .entry)) (length (now (out .entry)))) ⌝ }
+    ensures { λ _. ⌜ now (out .exit) ≡ after (sketchOf setup (lent (now (signs .entry)) (now (directions .entry)) (now (matrix .entry))) (now (vector .entry)) (length (now (out .entry)))) (now (out .entry)) ⌝ }
 {
     let checked = check_vector(setup, signs, directions, matrix, vector);
     if let Outcome::Refused { number, place } = checked {
@@ -316,7 +311,7 @@ fn signed_score(projections: usize, values: &[f32], sketch: &[i8]) -> Scored
     requires { ⌜ projections ≤ 4096 ⌝ }
     ensures { λ r. ⌜ saysScore r ≡ signedScore projections (now (values .entry)) (now (sketch .entry)) ⌝ }
 {
-    let bad = setup::first_non_finite(values);
+    let bad = error::first_non_finite(values);
     if bad < values.len() {
         return Scored::Refused {
             number: NON_FINITE_INPUT,
@@ -329,21 +324,14 @@ fn signed_score(projections: usize, values: &[f32], sketch: &[i8]) -> Scored
             place: sketch.len(),
         };
     }
-    let stray = first_no_sign(sketch);
+    let stray = bitpack_signs::first_bad_sketch_sign(sketch);
     if stray < sketch.len() {
         return Scored::Refused {
             number: MALFORMED_SIGN,
             place: stray,
         };
     }
-    let score = residual(projections as u16, 1.0, values, sketch);
-    if !float::is_finite(score) {
-        return Scored::Refused {
-            number: NON_FINITE_SCORE,
-            place: 0,
-        };
-    }
-    Scored::Score(score)
+    error::finite_score(residual(projections as u16, 1.0, values, sketch))
 }
 
 // Room for the projections, of which there are at most 4,096.
@@ -465,28 +453,4 @@ fn times(sign: i8, value: f32) -> f32
     ensures { λ r. ⌜ r ≡ mul binary32 (ofInt binary32 sign) value ⌝ }
 {
     sign as f32 * value
-}
-
-// The index of the first number that is neither -1 nor 1, or how many there are.
-fn first_no_sign(signs: &[i8]) -> usize
-    ensures { λ r. ⌜ r ≡ place badSketchSign (now (signs .entry)) ⌝ }
-{
-    let mut i = 0;
-    while i < signs.len() {
-        if no_sign(signs[i]) {
-            return i;
-        }
-        i += 1;
-    }
-    i
-}
-
-// Whether a number is neither -1 nor 1.
-fn no_sign(sign: i8) -> bool
-    ensures { λ r. ⌜ r ≡ badSketchSign sign ⌝ }
-{
-    if sign == 1 {
-        return false;
-    }
-    sign != -1
 }

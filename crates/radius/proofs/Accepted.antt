@@ -12,7 +12,7 @@ use lib.Ieee.Scale.{finite}
 use Rattle.error.specs.Answer.{Answer, value, Check, check, first, place}
 use Rattle.error.proofs.Places.{place-le, place-passed}
 use Rattle.float.specs.Bytes.{ofLeBytes}
-use Rattle.radius.specs.Chunks.{chunks}
+use Rattle.lists.specs.Chunks.{chunks}
 use Rattle.radius.specs.Radii.{zeroFloat, badRadius}
 use Rattle.radius.specs.Codec.{widthOf, compressChecks, payloadFor, compressBytesOf, decompressChecks, radiiFor, decompressOf}
 use Rattle.radius.proofs.Radii.{radius-finite, radius-not-nan, radius-not-below}

@@ -9,7 +9,7 @@ use Rattle.error.specs.Answer.{value, refused, place}
 use Rattle.digits.specs.Digits.{number, digits}
 use Rattle.float.specs.Bytes.{ofLeBytes, toLeBytes}
 use Rattle.float.specs.Rounding.{clamped, roundUnsigned}
-use Rattle.radius.specs.Chunks.{chunks}
+use Rattle.lists.specs.Chunks.{chunks}
 use Rattle.radius.specs.Radii.{least, greatest, rangeOf}
 use Rattle.radius.specs.Linear.{spanOf, quantized, linearBytes, restored, linearRadius}
 use Rattle.radius.specs.Codec.{compressRangeOf, compressBytesOf, decompressOf, encodedBytesOf}

@@ -8,12 +8,12 @@ use native.Mathlib.Numerals.{add-one}
 use native.Mathlib.Omega.{arith}
 use lib.ListN.{length, getD, take, drop, set, length-set}
 use lib.Seq.{take-all}
-use Rattle.radius.specs.Chunks.{chunks}
-use Rattle.radius.proofs.Chunks.{chunks-more, chunks-none, joined-more, joined-none}
+use Rattle.lists.specs.Chunks.{chunks}
+use Rattle.lists.proofs.Chunks.{chunks-more, chunks-none, joined-more, joined-none}
 use Rattle.digits.proofs.Runs.{length-store, take-store, take-set-next}
 
 -- the next place is w further
-next-place : (w i at : ℕ) → at ≡ w * i → at + w ≡ w * (i + 1)
+pub next-place : (w i at : ℕ) → at ≡ w * i → at + w ≡ w * (i + 1)
 next-place w i at e = rw (add-one, mul-suc) (ap (λ (k : ℕ). k + w) e)
 
 -- the w bytes at the i-th place are within the n places

@@ -1,7 +1,8 @@
 pub mod Radii
-pub mod Chunks
 pub mod Fill
 pub mod Refusals
+pub mod Lengths
 pub mod Accepted
 pub mod RoundTrip
+pub mod Scan
 pub mod Examples

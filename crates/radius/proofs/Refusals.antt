@@ -9,11 +9,11 @@ use lib.ListN.{length}
 use lib.Ieee.{Float}
 use Rattle.error.specs.Answer.{value, refused, place, first}
 use Rattle.float.specs.Bytes.{ofLeBytes}
-use Rattle.radius.specs.Chunks.{chunks}
+use Rattle.lists.specs.Chunks.{chunks}
 use Rattle.radius.specs.Radii.{badRadius, badRange}
 use Rattle.error.specs.Checks.{differs}
 use Rattle.radius.specs.Codec.{badProfile, widthOf, compressChecks, radiiFor, decompressOf}
-use Rattle.radius.proofs.Chunks.{chunks-length}
+use Rattle.lists.proofs.Chunks.{chunks-length}
 use Rattle.radius.specs.declared.Range.{Range}
 use Rattle.radius.specs.declared.RadiusCodecProfileV1.{RadiusCodecProfileV1}
 use Rattle.radius.specs.declared.RadiusCodecProfileV1.the-variants.{F32, BlockLinearU16, BlockLogU8}

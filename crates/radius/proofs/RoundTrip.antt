@@ -15,11 +15,11 @@ use Rattle.error.specs.Answer.{value, place}
 use Rattle.digits.proofs.Laws.{Below}
 use Rattle.float.specs.Bytes.{ofLeBytes, toLeBytes}
 use Rattle.float.proofs.Bytes.{length-toLeBytes, ofLeBytes-toLeBytes, toLeBytes-ofLeBytes}
-use Rattle.radius.specs.Chunks.{chunks}
+use Rattle.lists.specs.Chunks.{chunks}
 use Rattle.radius.specs.Radii.{badRadius}
 use Rattle.radius.specs.Codec.{compressBytesOf, decompressOf}
 use Rattle.radius.proofs.Radii.{radius-not-nan}
-use Rattle.radius.proofs.Chunks.{chunks-getD, chunks-length, chunks-joined, joined-length, joined-chunks, map-same}
+use Rattle.lists.proofs.Chunks.{chunks-getD, chunks-length, chunks-joined, joined-length, joined-chunks, map-same}
 use Rattle.radius.proofs.Refusals.{compress-value, decompress-floats}
 use Rattle.radius.proofs.Accepted.{compressed-place, compressed-is, decompressed-length, decompressed-is, decompressed-place, decompressed-radius}
 use Rattle.radius.specs.declared.Range.{Range}
@@ -30,7 +30,7 @@ pub record Floats (radii : List Float) : Type 0 where
   pub at : (i : ℕ) → i < length radii → T (fits binary32 (getD radii i nan))
 
 -- the floats of their own bytes
-floats-back : (radii : List Float) → Floats radii → map ofLeBytes (chunks 4 (length radii) (flatMap toLeBytes radii)) ≡ radii
+pub floats-back : (radii : List Float) → Floats radii → map ofLeBytes (chunks 4 (length radii) (flatMap toLeBytes radii)) ≡ radii
 floats-back radii f =
     chunks-joined toLeBytes 4 length-toLeBytes ofLeBytes radii
     ∙ map-same (λ r. ofLeBytes (toLeBytes r)) radii nan (λ i h. ofLeBytes-toLeBytes (getD radii i nan) (f .at i h))

@@ -7,7 +7,7 @@ use lib.Ieee.{Float}
 use Rattle.error.specs.Answer.{Answer, value, Check, check, first, each}
 use Rattle.error.specs.Checks.{differs, wrongRoom}
 use Rattle.float.specs.Bytes.{ofLeBytes, toLeBytes}
-use Rattle.radius.specs.Chunks.{chunks}
+use Rattle.lists.specs.Chunks.{chunks}
 use Rattle.radius.specs.Radii.{zeroFloat, badRadius, badRange, rangeOf}
 use Rattle.radius.specs.Linear.{linearBytes, linearRadius}
 use Rattle.radius.specs.declared.Range.{Range}
@@ -84,6 +84,12 @@ decompressChecks profile count range payload room =
 
 unfoldable pub decompressOf : RadiusCodecProfileV1 → ℕ → Range → List ℕ → ℕ → Answer (List Float)
 decompressOf profile count range payload room = first (decompressChecks profile count range payload room) (value (radiiFor profile count range payload))
+
+-- ---- restore: decompress for radii that were judged before
+
+-- 18, 13 and 6 as in decompress, and neither 17 nor 16
+unfoldable pub restoreOf : RadiusCodecProfileV1 → ℕ → Range → List ℕ → ℕ → Answer (List Float)
+restoreOf profile count range payload room = first (check (badProfile profile) 18 0 ∷ wrongPayload profile count payload ∷ wrongRoom room count ∷ []) (value (radiiFor profile count range payload))
 
 -- ---- the bytes of a payload with what has to go with it: BlockLinearU16 has two floats more
 

@@ -1,5 +1,6 @@
-pub mod Chunks
 pub mod Radii
 pub mod Linear
 pub mod Codec
 pub mod Says
+pub mod Firsts
+pub mod Inner

@@ -1,4 +1,5 @@
 // Radius compression profiles. Ported from turbo-quant/src/radius.rs and changed: payloads are lent, the range travels by value, refusals are numbers.
+use error::Length;
 use error::MALFORMED_LENGTH;
 use error::MALFORMED_RADIUS;
 use error::MALFORMED_RANGE;
@@ -7,19 +8,22 @@ use error::Outcome;
 use error::UNDEFINED_PROFILE;
 ghost use Prim.Native.Nat.{_+_, _*_, _≤_, _<_};
 ghost use mathlib.Core.Path.{_≡_};
-ghost use mathlib.Core.List.{_++_, map, flatMap};
+ghost use mathlib.Core.List.{[], _∷_, _++_, map, flatMap};
 ghost use lib.ListN.{length, take, drop};
 ghost use lib.Ieee.{binary32, sub};
-ghost use Rattle.error.specs.Answer.{place, done, after};
+ghost use Rattle.error.specs.Answer.{check, place, first, accepted, done, after};
+ghost use Rattle.error.specs.Lengths.{saysLength};
 ghost use Rattle.error.specs.Outcomes.{says};
 ghost use Rattle.digits.specs.Digits.{digits, number};
 ghost use Rattle.float.specs.Bytes.{ofLeBytes, toLeBytes};
-ghost use Rattle.radius.specs.Chunks.{chunks};
+ghost use Rattle.lists.specs.Chunks.{chunks};
 ghost use Rattle.radius.specs.Radii.{badRadius, badRange, rangeOf};
-ghost use Rattle.radius.specs.Linear.{spanOf, quantized, linearBytes, linearRadius};
-ghost use Rattle.error.specs.Checks.{differs};
-ghost use Rattle.radius.specs.Codec.{compressRangeOf, compressBytesOf, decompressOf, encodedBytesOf};
-ghost use Rattle.radius.specs.Says.{saysRange, saysEncoded};
+ghost use Rattle.radius.specs.Linear.{spanOf, quantized, linearBytes, restored, linearRadius};
+ghost use Rattle.error.specs.Checks.{differs, wrongRoom};
+ghost use Rattle.radius.specs.Codec.{widthOf, compressRangeOf, compressBytesOf, decompressOf, restoreOf, encodedBytesOf};
+ghost use Rattle.radius.specs.Firsts.{firstBadRadiusOf, firstBadPayloadOf, firstBadReadBackOf};
+ghost use Rattle.radius.specs.Inner.{badKept};
+ghost use Rattle.radius.specs.Says.{saysRange};
 
 // How radii are stored. BlockLogU8 is known and refused.
 pub enum RadiusCodecProfileV1 {
@@ -40,12 +44,6 @@ pub enum Compressed {
     Refused { number: u32, place: usize },
 }
 
-// A number of bytes, or a refusal.
-pub enum EncodedLength {
-    Bytes(usize),
-    Refused { number: u32, place: usize },
-}
-
 // Rust's `f32::EPSILON`, 2^-23.
 const EPSILON: f32 = 0.00000011920929;
 // Rust's `u16::MAX as f32`.
@@ -56,7 +54,7 @@ pub fn compress(radii: &[f32], profile: RadiusCodecProfileV1, out: &mut [u8]) ->
     ensures said { λ r. ⌜ saysRange r ≡ compressRangeOf (now (radii .entry)) profile (length (now (out .entry))) ⌝ }
     ensures left { λ r. ⌜ now (out .exit) ≡ after (compressBytesOf (now (radii .entry)) profile (length (now (out .entry)))) (now (out .entry)) ⌝ }
 {
-    let bad = first_bad(radii);
+    let bad = first_bad_radius(radii);
     if bad < radii.len() {
         return Compressed::Refused {
             number: MALFORMED_RADIUS,
@@ -113,7 +111,7 @@ pub fn decompress(
                     place: payload.len(),
                 };
             }
-            let bad = first_bad_bytes(payload, count);
+            let bad = first_bad_floats(payload, count);
             if bad < count {
                 return Outcome::Refused {
                     number: MALFORMED_RADIUS,
@@ -158,31 +156,84 @@ pub fn decompress(
     }
 }
 
-// How many bytes a payload takes, with its range where the profile has one.
-pub fn encoded_bytes(profile: RadiusCodecProfileV1, payload: &[u8]) -> EncodedLength
-    ensures { λ r. ⌜ saysEncoded r ≡ encodedBytesOf profile (now (payload .entry)) ⌝ }
+// Reads `count` radii from a payload and, for BlockLinearU16, its range, without judging them: for radii that were judged before.
+pub fn restore(
+    profile: RadiusCodecProfileV1,
+    count: usize,
+    range: Range,
+    payload: &[u8],
+    out: &mut [f32],
+) -> Outcome
+    ensures said { λ r. ⌜ says r ≡ done (restoreOf profile count range (now (payload .entry)) (length (now (out .entry)))) ⌝ }
+    ensures left { λ r. ⌜ now (out .exit) ≡ after (restoreOf profile count range (now (payload .entry)) (length (now (out .entry)))) (now (out .entry)) ⌝ }
 {
-    let length = payload.len();
     match profile {
-        RadiusCodecProfileV1::F32 => EncodedLength::Bytes(length),
-        RadiusCodecProfileV1::BlockLinearU16 => {
-            let total = length + 8;
-            EncodedLength::Bytes(total)
+        RadiusCodecProfileV1::F32 => {
+            let fit = check_lengths(payload.len(), 4, count, out.len());
+            if let Outcome::Refused { number, place } = fit {
+                return Outcome::Refused { number, place };
+            }
+            read_floats(payload, out);
+            Outcome::Done
         }
-        RadiusCodecProfileV1::BlockLogU8 => EncodedLength::Refused {
+        RadiusCodecProfileV1::BlockLinearU16 => {
+            let fit = check_lengths(payload.len(), 2, count, out.len());
+            if let Outcome::Refused { number, place } = fit {
+                return Outcome::Refused { number, place };
+            }
+            read_linear(payload, range, out);
+            Outcome::Done
+        }
+        RadiusCodecProfileV1::BlockLogU8 => Outcome::Refused {
             number: UNDEFINED_PROFILE,
             place: 0,
         },
     }
 }
 
+// How many bytes a payload takes, with its range where the profile has one.
+pub fn encoded_bytes(profile: RadiusCodecProfileV1, payload: &[u8]) -> Length
+    ensures { λ r. ⌜ saysLength r ≡ encodedBytesOf profile (now (payload .entry)) ⌝ }
+{
+    let length = payload.len();
+    match profile {
+        RadiusCodecProfileV1::F32 => Length::Bytes(length),
+        RadiusCodecProfileV1::BlockLinearU16 => {
+            let total = length + 8;
+            Length::Bytes(total)
+        }
+        RadiusCodecProfileV1::BlockLogU8 => Length::Refused {
+            number: UNDEFINED_PROFILE,
+            place: 0,
+        },
+    }
+}
+
+// How many bytes a radius takes.
+pub fn width_of(profile: RadiusCodecProfileV1) -> usize
+    ensures { λ r. ⌜ r ≡ widthOf profile ⌝ }
+{
+    match profile {
+        RadiusCodecProfileV1::F32 => 4,
+        RadiusCodecProfileV1::BlockLinearU16 => 2,
+        RadiusCodecProfileV1::BlockLogU8 => 1,
+    }
+}
+
+// Whether a radius is NaN, infinite or below zero.
+pub fn is_bad_radius(radius: f32) -> bool
+    ensures { λ r. ⌜ r ≡ badRadius radius ⌝ }
+{
+    !float::is_finite(radius) || radius < 0.0
+}
+
 // The place of the first radius that is NaN, infinite or below zero, or how many there are.
-fn first_bad(radii: &[f32]) -> usize
-    ensures { λ r. ⌜ r ≡ place badRadius (now (radii .entry)) ⌝ }
+pub fn first_bad_radius(radii: &[f32]) -> usize
+    ensures { λ r. ⌜ r ≡ firstBadRadiusOf (now (radii .entry)) ⌝ }
 {
     let mut i = 0;
     while i < radii.len() {
-        if is_bad(radii[i]) {
+        if is_bad_radius(radii[i]) {
             return i;
         }
         i += 1;
@@ -190,11 +241,26 @@ fn first_bad(radii: &[f32]) -> usize
     i
 }
 
-// Whether a radius is NaN, infinite or below zero.
-fn is_bad(radius: f32) -> bool
-    ensures { λ r. ⌜ r ≡ badRadius radius ⌝ }
+// The place of the first radius of a payload that is refused as it is read, or how many whole ones there are; 0 for BlockLogU8, which has none.
+pub fn first_bad_payload(payload: &[u8], profile: RadiusCodecProfileV1, range: Range) -> usize
+    ensures { λ r. ⌜ r ≡ firstBadPayloadOf (now (payload .entry)) profile range ⌝ }
 {
-    !float::is_finite(radius) || radius < 0.0
+    match profile {
+        RadiusCodecProfileV1::F32 => first_bad_floats(payload, payload.len() / 4),
+        RadiusCodecProfileV1::BlockLinearU16 => first_bad_linear(payload, range, payload.len() / 2),
+        RadiusCodecProfileV1::BlockLogU8 => 0,
+    }
+}
+
+// The place of the first radius that would be refused when it is read back, or how many there are; 0 for BlockLogU8, which keeps none.
+pub fn first_bad_read_back(radii: &[f32], profile: RadiusCodecProfileV1) -> usize
+    ensures { λ r. ⌜ r ≡ firstBadReadBackOf (now (radii .entry)) profile ⌝ }
+{
+    match profile {
+        RadiusCodecProfileV1::F32 => first_bad_radius(radii),
+        RadiusCodecProfileV1::BlockLinearU16 => first_bad_kept(radii, min_max(radii)),
+        RadiusCodecProfileV1::BlockLogU8 => 0,
+    }
 }
 
 // The least and the greatest radius; an equal one doesn't replace an earlier one.
@@ -228,7 +294,7 @@ fn write_floats(radii: &[f32], out: &mut [u8])
     let mut i = 0;
     let mut at = 0;
     while i < radii.len() {
-        put_float(out, at, radii[i]);
+        float::put_f32(out, at, radii[i]);
         i += 1;
         at += 4;
     }
@@ -248,18 +314,6 @@ fn write_linear(radii: &[f32], range: Range, out: &mut [u8])
         i += 1;
         at += 2;
     }
-}
-
-// The four bytes of a float at `at`, the least significant first.
-fn put_float(out: &mut [u8], at: usize, x: f32)
-    requires { ⌜ at + 4 ≤ length (now out) ⌝ }
-    ensures { λ r. ⌜ now (out .exit) ≡ take at (now (out .entry)) ++ toLeBytes x ++ drop (at + 4) (now (out .entry)) ⌝ }
-{
-    let bytes = float::to_le_bytes(x);
-    out[at] = bytes[0];
-    out[at + 1] = bytes[1];
-    out[at + 2] = bytes[2];
-    out[at + 3] = bytes[3];
 }
 
 // The two bytes of a number at `at`, the least significant first.
@@ -295,6 +349,26 @@ fn wrong_length(found: usize, width: usize, count: usize) -> bool
     found / width != count || found % width != 0
 }
 
+// 13 where a number of bytes is other than `count` times `width`, then 6 where the room is other than `count`.
+fn check_lengths(found: usize, width: usize, count: usize, room: usize) -> Outcome
+    requires { ⌜ 0 < width ⌝ }
+    ensures { λ r. ⌜ says r ≡ first (check (differs found (width * count)) 13 found ∷ wrongRoom room count ∷ []) accepted ⌝ }
+{
+    if wrong_length(found, width, count) {
+        return Outcome::Refused {
+            number: MALFORMED_LENGTH,
+            place: found,
+        };
+    }
+    if room != count {
+        return Outcome::Refused {
+            number: OUTPUT_LENGTH,
+            place: count,
+        };
+    }
+    Outcome::Done
+}
+
 // Whether a bound is not finite, or min is above max.
 fn is_bad_range(range: Range) -> bool
     ensures { λ r. ⌜ r ≡ badRange range ⌝ }
@@ -302,19 +376,55 @@ fn is_bad_range(range: Range) -> bool
     !float::is_finite(range.min) || !float::is_finite(range.max) || range.max < range.min
 }
 
-// The place of the first four bytes that are no radius, or how many there are.
-fn first_bad_bytes(payload: &[u8], count: usize) -> usize
-    requires { ⌜ length (now payload) ≡ 4 * count ⌝ }
+// The place of the first four bytes that are no radius, of `count`, or their count.
+fn first_bad_floats(payload: &[u8], count: usize) -> usize
+    requires { ⌜ 4 * count ≤ length (now payload) ⌝ }
     ensures { λ r. ⌜ r ≡ place badRadius (map ofLeBytes (chunks 4 count (now (payload .entry)))) ⌝ }
 {
     let mut i = 0;
     let mut at = 0;
     while i < count {
-        if is_bad(get_float(payload, at)) {
+        if is_bad_radius(get_float(payload, at)) {
             return i;
         }
         i += 1;
         at += 4;
+    }
+    i
+}
+
+// The place of the first two bytes, of `count`, that read as no radius within a range, or their count.
+fn first_bad_linear(payload: &[u8], range: Range, count: usize) -> usize
+    requires { ⌜ 2 * count ≤ length (now payload) ⌝ }
+    ensures { λ r. ⌜ r ≡ place badRadius (map (linearRadius range) (chunks 2 count (now (payload .entry)))) ⌝ }
+{
+    let min = range.min;
+    let width = breadth(range);
+    let mut i = 0;
+    let mut at = 0;
+    while i < count {
+        if is_bad_radius(radius_of(min, width, get_number(payload, at))) {
+            return i;
+        }
+        i += 1;
+        at += 2;
+    }
+    i
+}
+
+// The place of the first radius whose number within a range reads as no radius, or how many there are.
+fn first_bad_kept(radii: &[f32], range: Range) -> usize
+    ensures { λ r. ⌜ r ≡ place (badKept range) (now (radii .entry)) ⌝ }
+{
+    let min = range.min;
+    let span = span_of(range);
+    let width = breadth(range);
+    let mut i = 0;
+    while i < radii.len() {
+        if is_bad_radius(radius_of(min, width, quantize(min, span, radii[i]))) {
+            return i;
+        }
+        i += 1;
     }
     i
 }
@@ -339,18 +449,25 @@ fn read_linear(payload: &[u8], range: Range, out: &mut [f32])
     ensures { λ r. ⌜ now (out .exit) ≡ map (linearRadius range) (chunks 2 (length (now (out .entry))) (now (payload .entry))) ⌝ }
 {
     let min = range.min;
-    let span = width_of(range);
+    let width = breadth(range);
     let mut i = 0;
     let mut at = 0;
     while i < out.len() {
-        out[i] = min + span * (get_number(payload, at) as f32 / MOST);
+        out[i] = radius_of(min, width, get_number(payload, at));
         i += 1;
         at += 2;
     }
 }
 
+// The radius of a number, from `min` at 0 to a `width` above it at 65,535.
+fn radius_of(min: f32, width: f32, n: u16) -> f32
+    ensures { λ r. ⌜ r ≡ restored min width n ⌝ }
+{
+    min + width * (n as f32 / MOST)
+}
+
 // The width of a range, however small.
-fn width_of(range: Range) -> f32
+fn breadth(range: Range) -> f32
     ensures { λ r. ⌜ r ≡ sub binary32 (range .max) (range .min) ⌝ }
 {
     range.max - range.min

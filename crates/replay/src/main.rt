@@ -1,13 +1,16 @@
 // Replays a fixed list of answers: each case is put to the library, and what it answers and writes is held against what the list says. The list comes on
-// standard input: for each call two bytes with the number of its cases, and each case behind two bytes with its length.
-mod codecs;
+// standard input: for each call its name in 24 bytes and the number of its cases in two, and each case behind two bytes with its length.
 mod frame;
 mod outputs;
 mod same;
-mod scores;
+mod single;
+mod under;
 
 use std::num::wrapping_add_u64;
 ghost use Prim.Native.Nat.{_<_};
+
+// How many calls the list has.
+const CALLS: u8 = 34;
 
 // How many cases were replayed, and how many of them differ.
 struct Tally {
@@ -16,54 +19,29 @@ struct Tally {
 }
 
 fn main() {
-    let packing = packed_cases();
-    let single = single_cases();
-    let setups = setup_cases();
-    let records = record_cases();
-    report(b"", plus(plus(packing, single), plus(setups, records)));
+    let told = every_call();
+    name();
+    report(told);
 }
 
-fn packed_cases() -> Tally {
-    let a = group(0, b"packed_len: ");
-    let b = plus(a, group(1, b"pack_indices: "));
-    let c = plus(b, group(2, b"unpack_indices: "));
-    let d = plus(c, group(3, b"pack_signs: "));
-    let e = plus(d, group(4, b"unpack_signs: "));
-    plus(e, group(5, b"validate_padding_zero: "))
+// Replays the cases of every call.
+fn every_call() -> Tally {
+    let mut cases: u64 = 0;
+    let mut differ: u64 = 0;
+    let mut call: u8 = 0;
+    while call < CALLS {
+        let told = one_call(call);
+        report(told);
+        cases = wrapping_add_u64(cases, told.cases);
+        differ = wrapping_add_u64(differ, told.differ);
+        call += 1;
+    }
+    Tally { cases, differ }
 }
 
-fn single_cases() -> Tally {
-    let a = group(6, b"codebook_uniform: ");
-    let b = plus(a, group(7, b"codebook_levels: "));
-    let c = plus(b, group(8, b"codebook_quantize: "));
-    let d = plus(c, group(9, b"codebook_midpoint: "));
-    let e = plus(d, group(10, b"compress: "));
-    let f = plus(e, group(11, b"decompress: "));
-    let g = plus(f, group(12, b"root: "));
-    let h = plus(g, group(13, b"dequantize_angle: "));
-    plus(h, group(14, b"seeds: "))
-}
-
-fn setup_cases() -> Tally {
-    let a = group(15, b"apply: ");
-    let b = plus(a, group(16, b"apply_inverse: "));
-    let c = plus(b, group(scores::SETUP, b"setup: "));
-    let d = plus(c, group(scores::SKETCH, b"sketch: "));
-    let e = plus(d, group(scores::PREPARE_QUERY, b"prepare_query: "));
-    plus(e, group(scores::SKETCH_SCORE, b"sketch_score: "))
-}
-
-fn record_cases() -> Tally {
-    let a = group(21, b"write_record: ");
-    let b = plus(a, group(22, b"read_record: "));
-    let c = plus(b, group(scores::SCORE, b"score: "));
-    let d = plus(c, group(scores::DISTANCE, b"distance: "));
-    let e = plus(d, group(scores::DECODE, b"decode: "));
-    plus(e, group(26, b"score_prepared: "))
-}
-
-// Replays the cases of a call and prints how many there are and how many differ.
-fn group(call: u8, name: &[u8]) -> Tally {
+// Replays the cases of a call, behind its name.
+fn one_call(call: u8) -> Tally {
+    name();
     let cases = next_number();
     let mut differ: u64 = 0;
     let mut i = 0;
@@ -73,56 +51,52 @@ fn group(call: u8, name: &[u8]) -> Tally {
         }
         i += 1;
     }
-    let tally = Tally {
+    Tally {
         cases: cases as u64,
         differ,
-    };
-    report(name, tally);
-    tally
+    }
 }
 
-// Reads the next case and answers whether the library does what it says.
+// Reads the next case and answers whether the library does what it says; a case that is cut short differs.
 fn replayed(call: u8) -> bool {
-    let mut case = no_case();
+    let mut case = frame::no_case();
     let length = next_number();
-    if 1024 < length {
+    if 512 < length {
         return false;
     }
     if io::read_full(0, &mut case[0..length]) != length {
         return false;
     }
-    if call < 15 {
-        return of_codecs(call, &case);
-    }
-    of_scores(call, &case)
+    answered(call, &case)
 }
 
-fn of_codecs(call: u8, case: &[u8; 1024]) -> bool {
-    match call {
-        0 => codecs::packed_len(case),
-        1 | 3 | 10 => outputs::bytes(call, case),
-        2 => outputs::indices(call, case),
-        4 => outputs::signs(call, case),
-        5 => codecs::validate_padding_zero(case),
-        6 => codecs::codebook_uniform(case),
-        7 => codecs::codebook_levels(case),
-        8 => codecs::codebook_quantize(case),
-        9 => codecs::codebook_midpoint(case),
-        11 => outputs::floats(call, case),
-        12 => codecs::root(case),
-        13 => codecs::dequantize_angle(case),
-        _ => codecs::seeds(case),
+fn answered(call: u8, case: &[u8; 512]) -> bool {
+    if call < 11 {
+        return single::answered(call, case);
     }
+    if call < 14 {
+        return single::part(call, case);
+    }
+    if call < 18 {
+        return outputs::bytes(call, case);
+    }
+    if call < 20 {
+        return outputs::indices(call, case);
+    }
+    if call < 22 {
+        return outputs::signs(call, case);
+    }
+    if call < 24 {
+        return outputs::floats(call, case);
+    }
+    under::answered(call, case)
 }
 
-fn of_scores(call: u8, case: &[u8; 1024]) -> bool {
-    match call {
-        15 | 16 => outputs::floats(call, case),
-        21 => outputs::bytes(call, case),
-        22 => outputs::record(call, case),
-        26 => scores::score_prepared(case),
-        _ => scores::under_setup(call, case),
-    }
+// Copies the next name.
+fn name() {
+    let mut text = [0u8; 24];
+    io::read_full(0, &mut text);
+    io::write_all(1, &text);
 }
 
 // The next two bytes as a number; what is not there counts as 0.
@@ -138,19 +112,7 @@ fn wide(b: u8) -> usize
     b as usize
 }
 
-fn no_case() -> [u8; 1024] {
-    [0u8; 1024]
-}
-
-fn plus(a: Tally, b: Tally) -> Tally {
-    Tally {
-        cases: wrapping_add_u64(a.cases, b.cases),
-        differ: wrapping_add_u64(a.differ, b.differ),
-    }
-}
-
-fn report(name: &[u8], tally: Tally) {
-    io::write_all(1, name);
+fn report(tally: Tally) {
     io::print_decimal(1, tally.cases);
     io::write_all(1, b" cases, ");
     io::print_decimal(1, tally.differ);

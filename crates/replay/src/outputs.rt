@@ -1,67 +1,142 @@
-// The calls that write one list, by what they write: the output is lent full of marks, and afterwards it is compared whole.
+// The calls that need no setup and write a list, by what they write: the output is lent full of marks, as long as the list must be afterwards, and then
+// compared with it. For a refusal the list says marks.
 
-use super::codecs;
 use super::frame;
 use super::same;
-use super::scores;
+use error::Outcome;
+use packed::Code;
+use radius::Compressed;
 
-pub(crate) fn bytes(call: u8, case: &[u8; 1024]) -> bool {
-    let room = frame::room(case);
-    let mut out = frame::blank_bytes();
-    bytes_written(call, case, &mut out[0..room]) && same::bytes(case, frame::BYTES, &out)
+// Outputs as they are lent: each element is a mark that no call writes.
+pub(crate) fn marked_floats() -> [f32; 64] {
+    [-7.25f32; 64]
 }
 
-fn bytes_written(call: u8, case: &[u8; 1024], out: &mut [u8]) -> bool {
+fn marked_indices() -> [u16; 64] {
+    [0xA5A5; 64]
+}
+
+pub(crate) fn marked_signs() -> [i8; 64] {
+    [0x5A; 64]
+}
+
+fn marked_bytes() -> [u8; 64] {
+    [0xA5; 64]
+}
+
+pub(crate) fn bytes(call: u8, case: &[u8; 512]) -> bool {
+    let wanted = frame::bytes(case, frame::BYTES);
+    let count = wanted.len();
+    let mut out = marked_bytes();
+    bytes_written(call, case, &mut out[0..count]) && same::bytes(&out, wanted)
+}
+
+fn bytes_written(call: u8, case: &[u8; 512], out: &mut [u8]) -> bool {
     match call {
-        1 => codecs::pack_indices(case, out),
-        3 => codecs::pack_signs(case, out),
-        10 => codecs::compress(case, out),
-        _ => scores::write_record(case, out),
+        14 => pack_indices(case, out),
+        15 => pack_signs(case, out),
+        16 => compress(case, out),
+        _ => write_record(case, out),
     }
 }
 
-pub(crate) fn indices(call: u8, case: &[u8; 1024]) -> bool {
-    let room = frame::room(case);
-    let mut out = frame::blank_indices();
-    indices_written(call, case, &mut out[0..room]) && same::indices(case, frame::INDICES, &out)
+fn pack_indices(case: &[u8; 512], out: &mut [u8]) -> bool {
+    let view = frame::index_view(case);
+    let indices = frame::indices(case, &view);
+    same::outcome(case, bitpack::pack_indices(indices, frame::bits(case), out))
 }
 
-fn indices_written(call: u8, case: &[u8; 1024], out: &mut [u16]) -> bool {
-    match call {
-        2 => codecs::unpack_indices(case, out),
-        _ => scores::read_indices(case, out),
+fn pack_signs(case: &[u8; 512], out: &mut [u8]) -> bool {
+    let view = frame::sign_view(case);
+    same::outcome(
+        case,
+        bitpack_signs::pack_signs(frame::signs(case, &view), out),
+    )
+}
+
+fn compress(case: &[u8; 512], out: &mut [u8]) -> bool {
+    let view = frame::float_view(case);
+    match radius::compress(
+        frame::floats(case, &view, frame::VECTOR),
+        frame::profile(case),
+        out,
+    ) {
+        Compressed::Made(range) => same::bounds(case, range.min, range.max),
+        Compressed::Refused { number, place } => same::refused(case, number, place),
     }
 }
 
-pub(crate) fn signs(call: u8, case: &[u8; 1024]) -> bool {
-    let room = frame::second_room(case);
-    let mut out = frame::blank_signs();
-    signs_written(call, case, &mut out[0..room]) && same::signs(case, frame::SKETCH, &out)
+fn write_record(case: &[u8; 512], out: &mut [u8]) -> bool {
+    let radii = frame::float_view(case);
+    let indices = frame::index_view(case);
+    let signs = frame::sign_view(case);
+    let profile = frame::profile(case);
+    let mode = frame::mode(case);
+    let code = Code {
+        profile,
+        mode,
+        dim: frame::count(case),
+        bits: frame::bits(case),
+        projections: frame::projections(case),
+    };
+    let given = packed_writing::write_record(
+        code,
+        frame::floats(case, &radii, frame::VECTOR),
+        frame::indices(case, &indices),
+        frame::signs(case, &signs),
+        out,
+    );
+    same::outcome(case, given)
 }
 
-fn signs_written(call: u8, case: &[u8; 1024], out: &mut [i8]) -> bool {
-    match call {
-        4 => codecs::unpack_signs(case, out),
-        _ => scores::read_signs(case, out),
+pub(crate) fn indices(call: u8, case: &[u8; 512]) -> bool {
+    let view = frame::index_view(case);
+    let wanted = frame::indices(case, &view);
+    let count = wanted.len();
+    let mut out = marked_indices();
+    let given = indices_written(call, case, &mut out[0..count]);
+    same::outcome(case, given) && same::indices(&out, wanted)
+}
+
+fn indices_written(call: u8, case: &[u8; 512], out: &mut [u16]) -> Outcome {
+    let bytes = frame::bytes(case, frame::BYTES);
+    if call == 18 {
+        return bitpack::unpack_indices(bytes, frame::count(case), frame::bits(case), out);
     }
+    packed_parts::read_indices(bytes, out)
 }
 
-pub(crate) fn floats(call: u8, case: &[u8; 1024]) -> bool {
-    let room = frame::room(case);
-    let mut out = frame::blank_floats();
-    floats_written(call, case, &mut out[0..room]) && same::floats(case, frame::FLOATS, &out)
+pub(crate) fn signs(call: u8, case: &[u8; 512]) -> bool {
+    let view = frame::sign_view(case);
+    let wanted = frame::signs(case, &view);
+    let count = wanted.len();
+    let mut out = marked_signs();
+    let given = signs_written(call, case, &mut out[0..count]);
+    same::outcome(case, given) && same::signs(&out, wanted)
 }
 
-fn floats_written(call: u8, case: &[u8; 1024], out: &mut [f32]) -> bool {
-    match call {
-        11 => codecs::decompress(case, out),
-        15 => scores::apply(case, out),
-        16 => scores::apply_inverse(case, out),
-        _ => scores::read_radii(case, out),
+fn signs_written(call: u8, case: &[u8; 512], out: &mut [i8]) -> Outcome {
+    let bytes = frame::bytes(case, frame::BYTES);
+    if call == 20 {
+        return bitpack_signs::unpack_signs(bytes, frame::count(case), out);
     }
+    packed_parts::read_signs(bytes, out)
 }
 
-// A record is read: its header, and the values of its three parts.
-pub(crate) fn record(call: u8, case: &[u8; 1024]) -> bool {
-    scores::read_record(case) && floats(call, case) && indices(call, case) && signs(call, case)
+pub(crate) fn floats(call: u8, case: &[u8; 512]) -> bool {
+    let view = frame::float_view(case);
+    let wanted = frame::floats(case, &view, frame::FLOATS);
+    let count = wanted.len();
+    let mut out = marked_floats();
+    let given = floats_written(call, case, &mut out[0..count]);
+    same::outcome(case, given) && same::floats(&out, wanted)
+}
+
+fn floats_written(call: u8, case: &[u8; 512], out: &mut [f32]) -> Outcome {
+    let bytes = frame::bytes(case, frame::BYTES);
+    if call == 22 {
+        let count = frame::count(case);
+        return radius::decompress(frame::profile(case), count, frame::range(case), bytes, out);
+    }
+    packed_parts::read_radii(bytes, out)
 }

@@ -2,19 +2,22 @@
 
 use super::frame;
 use error::Outcome;
-use qjl::Scored;
+use error::Scored;
+ghost use Prim.Native.Nat.{_≤_};
+ghost use lib.ListN.{length};
 
 // Whether the list says this number and place.
-pub(crate) fn refused(case: &[u8; 1024], number: u32, place: usize) -> bool {
-    number as u64 == frame::number(case) && place as u64 == frame::place(case)
+pub(crate) fn refused(case: &[u8; 512], number: u32, place: usize) -> bool {
+    number as u64 == frame::byte(case, frame::NUMBER)
+        && place as u64 == frame::long(case, frame::PLACE)
 }
 
 // Whether the list says that there is a value.
-pub(crate) fn accepted(case: &[u8; 1024]) -> bool {
+pub(crate) fn accepted(case: &[u8; 512]) -> bool {
     refused(case, 0, 0)
 }
 
-pub(crate) fn outcome(case: &[u8; 1024], given: Outcome) -> bool {
+pub(crate) fn outcome(case: &[u8; 512], given: Outcome) -> bool {
     match given {
         Outcome::Done => accepted(case),
         Outcome::Refused { number, place } => refused(case, number, place),
@@ -22,29 +25,33 @@ pub(crate) fn outcome(case: &[u8; 1024], given: Outcome) -> bool {
 }
 
 // Whether the list says this float.
-pub(crate) fn value(case: &[u8; 1024], given: f32) -> bool {
-    let mut items = frame::blank_floats();
-    items[0] = given;
-    accepted(case) && floats(case, frame::FLOATS, &items)
+pub(crate) fn value(case: &[u8; 512], given: f32) -> bool {
+    accepted(case) && same_float(given, frame::float_at(case, frame::ANSWER))
+}
+
+// Whether the list says these two floats.
+pub(crate) fn bounds(case: &[u8; 512], min: f32, max: f32) -> bool {
+    value(case, min) && same_float(max, frame::float_at(case, frame::SECOND_ANSWER))
 }
 
 // Whether the list says this number.
-pub(crate) fn number(case: &[u8; 1024], given: u64) -> bool {
-    accepted(case) && given == frame::third_number(case)
+pub(crate) fn number(case: &[u8; 512], given: u64) -> bool {
+    accepted(case) && given == frame::long(case, frame::THIRD)
 }
 
-pub(crate) fn score(case: &[u8; 1024], given: Scored) -> bool {
+pub(crate) fn score(case: &[u8; 512], given: Scored) -> bool {
     match given {
         Scored::Score(x) => value(case, x),
         Scored::Refused { number, place } => refused(case, number, place),
     }
 }
 
-// Whether an output holds the floats of a list and is as it was behind them. Zeros of either sign are equal, and NaNs are one.
-pub(crate) fn floats(case: &[u8; 1024], list: u8, found: &[f32; 64]) -> bool {
-    let wanted = frame::floats(case, list);
+// Whether an output begins with these floats, indices, signs or bytes.
+pub(crate) fn floats(found: &[f32; 64], wanted: &[f32]) -> bool
+    requires { ⌜ length (now wanted) ≤ 64 ⌝ }
+{
     let mut i = 0;
-    while i < 64 {
+    while i < wanted.len() {
         if !same_float(found[i], wanted[i]) {
             return false;
         }
@@ -53,48 +60,44 @@ pub(crate) fn floats(case: &[u8; 1024], list: u8, found: &[f32; 64]) -> bool {
     true
 }
 
+pub(crate) fn indices(found: &[u16; 64], wanted: &[u16]) -> bool
+    requires { ⌜ length (now wanted) ≤ 64 ⌝ }
+{
+    let mut i = 0;
+    while i < wanted.len() {
+        if found[i] != wanted[i] {
+            return false;
+        }
+        i += 1;
+    }
+    true
+}
+
+pub(crate) fn signs(found: &[i8; 64], wanted: &[i8]) -> bool
+    requires { ⌜ length (now wanted) ≤ 64 ⌝ }
+{
+    let mut i = 0;
+    while i < wanted.len() {
+        if found[i] != wanted[i] {
+            return false;
+        }
+        i += 1;
+    }
+    true
+}
+
+pub(crate) fn bytes(found: &[u8; 64], wanted: &[u8]) -> bool
+    requires { ⌜ length (now wanted) ≤ 64 ⌝ }
+{
+    let count = wanted.len();
+    let whole = &found[..];
+    check::same(&whole[0..count], wanted)
+}
+
+// Zeros of either sign are equal, and NaNs are one.
 fn same_float(a: f32, b: f32) -> bool {
     if a == b {
         return true;
     }
     a != a && b != b
-}
-
-// Whether an output holds the indices of a list and is as it was behind them.
-pub(crate) fn indices(case: &[u8; 1024], list: u8, found: &[u16; 64]) -> bool {
-    let wanted = frame::indices(case, list);
-    let mut i = 0;
-    while i < 64 {
-        if found[i] != wanted[i] {
-            return false;
-        }
-        i += 1;
-    }
-    true
-}
-
-// Whether an output holds the signs of a list and is as it was behind them.
-pub(crate) fn signs(case: &[u8; 1024], list: u8, found: &[i8; 64]) -> bool {
-    let wanted = frame::signs(case, list);
-    let mut i = 0;
-    while i < 64 {
-        if found[i] != wanted[i] {
-            return false;
-        }
-        i += 1;
-    }
-    true
-}
-
-// Whether an output holds the bytes of a list and is as it was behind them.
-pub(crate) fn bytes(case: &[u8; 1024], list: u8, found: &[u8; 64]) -> bool {
-    let wanted = frame::bytes(case, list);
-    let mut i = 0;
-    while i < 64 {
-        if found[i] != wanted[i] {
-            return false;
-        }
-        i += 1;
-    }
-    true
 }

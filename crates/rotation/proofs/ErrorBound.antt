@@ -10,19 +10,21 @@ use lib.ListN.{length, replicate, length-map}
 use lib.Ieee.{Float, binary32, add, sub, fits}
 use lib.Ieee.Fits.{div-fits}
 use Rattle.rounding.specs.Signed.{Diff}
-use Rattle.rounding.specs.Value.{unit, val, mag, one, posZero}
-use Rattle.rounding.specs.Sums.{products, sum, turnedEach, AllFit, AllClose}
+use Rattle.rounding.specs.Value.{val}
+use Rattle.float.specs.Constants.{one, posZero}
+use Rattle.float.specs.Units.{unit, mag}
+use Rattle.rounding.specs.Sums.{products, sum, turnedEach, AllFit, AllClose, absoluteSum}
 use Rattle.rounding.specs.Butterfly.{stages}
 use Rattle.rounding.proofs.Folds.{all-close-self, close-signs, close-scaled}
 use Rattle.rounding.proofs.Totals.{sum-none}
 use Rattle.rounding.proofs.Blocks.{close-transform}
 use Rattle.rotation.specs.Rotation.{inverseRoot, scaled, hadamardOf, rotated}
-use Rattle.rotation.specs.Exact.{negative, exactRotated, absoluteSum}
+use Rattle.rotation.specs.Exact.{negative, exactRotated}
 use Rattle.rotation.proofs.Accepted.{Rotatable, power-steps, power-few}
 use Rattle.rounding.proofs.Lists.{length-products}
 use Rattle.rotation.proofs.SignValues.{signs-are-ones}
 
-pub inverse-root-fits : (n : ℕ) → T (fits binary32 (inverseRoot n))
+inverse-root-fits : (n : ℕ) → T (fits binary32 (inverseRoot n))
 unfolding inverseRoot
 inverse-root-fits n = div-fits binary32 _ _
 

@@ -6,8 +6,8 @@ use native.Mathlib.Nat.{pow-suc, mul-le-mul-right, one-le-pow}
 use native.Mathlib.Omega.{arith}
 use lib.ListN.{length}
 use lib.Ieee.{Float, binary32, add, sub}
-use Rattle.rotation.specs.Block.{Stepped}
-use Rattle.rounding.specs.Value.{posZero}
+use Rattle.rotation.specs.Inner.{Stepped}
+use Rattle.float.specs.Constants.{posZero}
 use Rattle.rounding.specs.Butterfly.{stage, stages}
 use Rattle.rounding.proofs.Butterflies.{stage-length}
 

@@ -39,3 +39,15 @@ one-bit (suc k) n h e = split (n % 2) refl (λ o. one-bit k (n / 2) (half-lt k n
         let step = ones-step n in
         let half = no-ones k (n / 2) (half-lt k n h) (omega (arith, step, odd)) in
         rw (trailing-step k n (suc d) odd, pow-zero) (omega (arith, half, step, odd))
+
+-- and the other way round: a power of two has one set bit
+pub power-bit : (k : ℕ) → ones (2 ^ k) ≡ 1
+unfolding ones onesIn
+power-bit zero = refl
+power-bit (suc k) =
+    let p = pow-suc 2 k in
+    let step = ones-step (2 ^ suc k) in
+    let half : 2 ^ suc k / 2 ≡ 2 ^ k = omega (arith, p) in
+    let even : 2 ^ suc k % 2 ≡ 0 = omega (arith, p) in
+    let rest = ap ones half ∙ power-bit k in
+    omega (arith, step, even, rest)

@@ -11,7 +11,7 @@ use lib.Ieee.{Float, nan, inf, fin, binary32, up, down, fits, eq, ne, lt}
 use lib.Ieee.Back.{whole-unique}
 use lib.Ieee.Exact.{HasValue}
 use lib.Ieee.Fits.{down-pos}
-use Rattle.rounding.specs.Value.{one}
+use Rattle.float.specs.Constants.{one}
 use Rattle.rounding.specs.Sums.{AllFit}
 use Rattle.rotation.specs.Checks.{badSign}
 use Rattle.rotation.specs.Exact.{negative}
@@ -55,7 +55,7 @@ unfolding lt
 negative-one true = refl
 negative-one false = refl
 
-pub sign-is-one : (s : Float) → T (fits binary32 s) → badSign s ≡ false → s ≡ one (negative s)
+sign-is-one : (s : Float) → T (fits binary32 s) → badSign s ≡ false → s ≡ one (negative s)
 unfolding ne
 sign-is-one s fit good = split (eq s (one true)) (eq s (one false)) refl refl good
   where

@@ -9,8 +9,8 @@ use lib.Arith.{digits-div}
 use lib.ListN.{length, getD}
 use lib.Seq.{ext-getD}
 use lib.Ieee.{Float, nan, binary32, add, sub}
-use Rattle.rotation.specs.Block.{entryAt, Partly, Stepped}
-use Rattle.rounding.specs.Value.{posZero}
+use Rattle.rotation.specs.Inner.{entryAt, Partly, Stepped}
+use Rattle.float.specs.Constants.{posZero}
 use Rattle.rounding.specs.Butterfly.{entry, stage}
 use Rattle.rounding.proofs.Butterflies.{stage-length, stage-at}
 use Rattle.rounding.proofs.Lists.{getD-any}
@@ -28,11 +28,11 @@ second-half b h o l =
     rw (regroup, digits-div (b * 2 + 1) l) (omega arith)
 
 module _ {A : Type 0} (plus minus : A → A → A) (none : A) (b h o : ℕ) (xs : List A) (inside : o < h) where
-  pub entry-low : entry plus minus none h xs (b * (2 * h) + o) ≡ plus (getD xs (b * (2 * h) + o) none) (getD xs (b * (2 * h) + o + h) none)
+  entry-low : entry plus minus none h xs (b * (2 * h) + o) ≡ plus (getD xs (b * (2 * h) + o) none) (getD xs (b * (2 * h) + o + h) none)
   unfolding entry
   entry-low = rw (first-half b h o inside)
 
-  pub entry-high : entry plus minus none h xs (b * (2 * h) + o + h) ≡ minus (getD xs (b * (2 * h) + o) none) (getD xs (b * (2 * h) + o + h) none)
+  entry-high : entry plus minus none h xs (b * (2 * h) + o + h) ≡ minus (getD xs (b * (2 * h) + o) none) (getD xs (b * (2 * h) + o + h) none)
   unfolding entry
   entry-high = rw (second-half b h o inside, add-sub-cancel)
 

@@ -6,8 +6,9 @@ use mathlib.Core.List.{List, map}
 use lib.Count.{trailingZeros}
 use lib.Ieee.{Float, lt}
 use Rattle.rounding.specs.Signed.{Diff, nought, _⊞_, _⊟_, _⊠_}
-use Rattle.rounding.specs.Value.{val, mag, posZero}
-use Rattle.rounding.specs.Sums.{sum, turnedEach}
+use Rattle.rounding.specs.Value.{val}
+use Rattle.float.specs.Constants.{posZero}
+use Rattle.rounding.specs.Sums.{turnedEach}
 use Rattle.rounding.specs.Butterfly.{stages}
 use Rattle.rotation.specs.Rotation.{inverseRoot}
 
@@ -19,7 +20,3 @@ negative s = lt s posZero
 unfoldable pub exactRotated : ℕ → List Float → List Float → List Diff
 exactRotated n signs xs =
     map (λ x. x ⊠ val (inverseRoot n)) (stages _⊞_ _⊟_ nought (trailingZeros 64 n) 1 (turnedEach (map negative signs) (map val xs)))
-
--- 'X the sum of the query's absolute values', in units of 2 ^ -149
-unfoldable pub absoluteSum : List Float → ℕ
-absoluteSum xs = sum (map mag xs)

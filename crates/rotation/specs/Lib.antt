@@ -1,4 +1,4 @@
-pub mod Block
+pub mod Inner
 pub mod Checks
 pub mod Rotation
 pub mod Exact

@@ -10,7 +10,7 @@ use Rattle.error.specs.Answer.{Answer, value, first}
 use Rattle.float.specs.SquareRoot.{squareRoot}
 use Rattle.rounding.specs.Butterfly.{stages}
 use Rattle.rounding.specs.Sums.{products}
-use Rattle.rounding.specs.Value.{posZero}
+use Rattle.float.specs.Constants.{posZero}
 use Rattle.rotation.specs.Checks.{rotationChecks}
 
 -- '`1 / sqrt(n)`, root and quotient each rounded once'

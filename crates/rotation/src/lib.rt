@@ -17,10 +17,10 @@ ghost use Rattle.error.specs.Answer.{first, place, accepted, done, after};
 ghost use Rattle.error.specs.Outcomes.{says};
 ghost use Rattle.rounding.specs.Butterfly.{stage, stages};
 ghost use Rattle.rounding.specs.Sums.{products};
-ghost use Rattle.rounding.specs.Value.{posZero};
+ghost use Rattle.float.specs.Constants.{posZero};
 ghost use Rattle.rotation.specs.Checks.{badSign, badPower, rotationChecks};
 ghost use Rattle.rotation.specs.Rotation.{inverseRoot, scaled, hadamardOf, applyOf, applyInverseOf};
-ghost use Rattle.rotation.specs.Block.{BlockDone, Stepped, Transformable};
+ghost use Rattle.rotation.specs.Inner.{BlockDone, Stepped, Transformable};
 
 // Whether a dimension is no power of two, or above 4,096.
 pub fn outside_powers(dim: usize) -> bool
@@ -76,7 +76,7 @@ pub fn apply_inverse(dim: usize, signs: &[f32], input: &[f32], output: &mut [f32
     if let Outcome::Refused { number, place } = checked {
         return Outcome::Refused { number, place };
     }
-    copy_into(input, output);
+    float::copy_into(input, output);
     hadamard(output, dim);
     flip(output, signs);
     Outcome::Done
@@ -206,18 +206,6 @@ fn flip_into(input: &[f32], signs: &[f32], output: &mut [f32])
     let mut i = 0;
     while i < output.len() {
         output[i] = input[i] * signs[i];
-        i += 1;
-    }
-}
-
-// The input, into the output.
-fn copy_into(input: &[f32], output: &mut [f32])
-    requires { ⌜ length (now output) ≡ length (now input) ⌝ }
-    ensures { λ _. ⌜ now (output .exit) ≡ now (input .entry) ⌝ }
-{
-    let mut i = 0;
-    while i < output.len() {
-        output[i] = input[i];
         i += 1;
     }
 }

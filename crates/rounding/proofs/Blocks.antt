@@ -13,7 +13,7 @@ use lib.Ieee.{Float, binary32, add, sub}
 use lib.Ieee.Fits.{eq→eqb}
 use lib.Seq.{take-add, take-all, drop-drop, take-nil, drop-nil, ext-getD}
 use Rattle.rounding.specs.Signed.{Diff, nought, _⊞_, _⊟_}
-use Rattle.rounding.specs.Value.{posZero}
+use Rattle.float.specs.Constants.{posZero}
 use Rattle.rounding.specs.Sums.{sum, AllClose}
 use Rattle.rounding.specs.Butterfly.{entry, stage, stages}
 use Rattle.rounding.proofs.Butterflies.{stage-length, stage-at, stages-length, close-stages}
@@ -119,7 +119,7 @@ blocks-start : (bs : List ℕ) → Blocks 1 bs bs
 blocks-start bs i = single bs i ∙ ap (λ (z : ℕ). sum (take 1 (drop z bs))) (sym (mul-one (i / 1) ∙ div-one i))
 
 -- all the stages of a list of 2 ^ n entries
-pub plus-stages : (n : ℕ) (bs : List ℕ) → length bs ≡ 2 ^ n → stages _+_ _+_ 0 n 1 bs ≡ replicate (2 ^ n) (sum bs)
+plus-stages : (n : ℕ) (bs : List ℕ) → length bs ≡ 2 ^ n → stages _+_ _+_ 0 n 1 bs ≡ replicate (2 ^ n) (sum bs)
 plus-stages n bs e =
     let len : length (stages _+_ _+_ 0 n 1 bs) ≡ 2 ^ n = stages-length _+_ _+_ 0 n 1 bs ∙ e in
     ext-getD 0 (stages _+_ _+_ 0 n 1 bs) (replicate (2 ^ n) (sum bs)) (len ∙ sym (length-replicate (2 ^ n) (sum bs)))

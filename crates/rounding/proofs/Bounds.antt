@@ -15,7 +15,7 @@ bound-add {s} {k} {r} {a} {q} {b} {v} {x} {u} {y} h g = record {
   near = record { above = omega (arith, h .near .above, g .near .above); below = omega (arith, h .near .below, g .near .below) };
 }
 
-pub bound-opposite : {s k r a : ℕ} {v x : Diff} → Bound s k r a v x → Bound s k r a (opposite v) (opposite x)
+bound-opposite : {s k r a : ℕ} {v x : Diff} → Bound s k r a v x → Bound s k r a (opposite v) (opposite x)
 bound-opposite h = record {
   sized = record { above = h .sized .below; below = h .sized .above };
   near = record { above = h .near .below; below = h .near .above };
@@ -37,13 +37,6 @@ bound-times false c {s} {k} {r} {a} {v} {x} h = record {
 bound-times true c {s} {k} {r} {a} {v} {x} h = record {
   sized = record { above = omega (arith, mul-le-mul-right c (h .sized .below)); below = omega (arith, mul-le-mul-right c (h .sized .above)) };
   near = record { above = omega (arith, mul-le-mul-right c (h .near .below)); below = omega (arith, mul-le-mul-right c (h .near .above)) };
-}
-
--- both numbers taken c times
-pub bound-scale : (c : ℕ) {s k r a : ℕ} {v x : Diff} → Bound s k r a v x → Bound s k (c * r) (c * a) (c ⊙ v) (c ⊙ x)
-bound-scale c {s} {k} {r} {a} {v} {x} h = record {
-  sized = record { above = omega (arith, mul-le-mul-left c (h .sized .above)); below = omega (arith, mul-le-mul-left c (h .sized .below)) };
-  near = record { above = omega (arith, mul-le-mul-left c (h .near .above)); below = omega (arith, mul-le-mul-left c (h .near .below)) };
 }
 
 -- in a unit of which t make the former one
@@ -115,7 +108,7 @@ bound-rounded t w g {s} {k} {r} {a} {d} {x} z K l n h =
     (scaled-side s (t * z .minus) (t * z .plus) (d .minus) (d .plus) (size d) w (n .below)) j l (h .near .below) in
     record { sized = h .sized; near = record { above = rw (mul-assoc s t (z .plus), mul-assoc s t (z .minus)) above; below = rw (mul-assoc s t (z .plus), mul-assoc s t (z .minus)) below } }
 
--- the same with no absolute part
+-- a rounding that adds nothing to the absolute part
 pub bound-rounded-relative : {s k r a : ℕ} {d x : Diff} (z : Diff) → k ≤ 2 ^ 23 → Near (2 ^ 24 ⊙ z) (2 ^ 24 ⊙ d) (size d) → Bound s k r a d x → Bound s (k + 1) r a z x
 bound-rounded-relative {s} {k} {r} {a} {d} {x} z K n h =
     let m : Near (2 ^ 24 ⊙ (1 ⊙ z)) (2 ^ 24 ⊙ d) (size d + 0) = simp (one-mul, add-zero) n in

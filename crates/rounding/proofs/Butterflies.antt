@@ -1,22 +1,19 @@
--- Butterflies on lists of any length: a stage of floats keeps close to the stage of exact numbers, at one rounding more, with the r's and the a's under the same butterflies with +.
--- And a stage all of whose entries are finite comes from finite entries. Assumes nothing.
-use mathlib.Core.Path.{_≡_, refl, sym, ap, _∙_, subst}
+-- Butterflies on lists of any length: a stage of floats keeps close to the stage of exact numbers, at one rounding more, with the r's and the a's under the same butterflies with +. Assumes nothing.
+use mathlib.Core.Path.{_≡_, refl, sym, ap, _∙_}
 use Prim.Native.Nat.{ℕ, zero, suc, _+_, _-_, _/_, _%_, _^_, _≤_, _<_}
 use native.Mathlib.Nat.{add-zero, zero-add, add-suc, suc-add, le-of-suc-le-suc, not-suc-le-zero}
 use native.Mathlib.Omega.{arith}
 use mathlib.Core.Bool.{Bool, true, false, cond}
-use mathlib.Core.List.{List, [], _∷_, map}
-use lib.Dec.{T, eqb}
+use mathlib.Core.List.{List, map}
+use lib.Dec.{eqb}
 use lib.ListN.{length, getD}
 use lib.Ieee.{Float, binary32, add, sub}
-use lib.Ieee.Scale.{finite}
 use Rattle.rounding.specs.Signed.{Diff, nought, _⊞_, _⊟_}
-use Rattle.rounding.specs.Value.{posZero}
+use Rattle.float.specs.Constants.{posZero}
 use Rattle.rounding.specs.Close.{Close}
-use Rattle.rounding.specs.Sums.{AllClose, none, next, AllFinite}
+use Rattle.rounding.specs.Sums.{AllClose, none, next}
 use Rattle.rounding.specs.Butterfly.{from, entry, stage, stages}
 use Rattle.rounding.proofs.Calculus.{close-zero, close-add, close-sub}
-use Rattle.rounding.proofs.Finite.{add-finite, sub-finite}
 use Rattle.rounding.proofs.Folds.{all-close-at, all-close-errors, all-close-sizes, all-close-numbers, all-close-weaken}
 
 -- ---- a list made by its indices
@@ -67,7 +64,7 @@ unfolding from
 tabled-close f g v x each n zero = none
 tabled-close f g v x each n (suc count) = next (each n) (tabled-close f g v x each (suc n) count)
 
-pub close-stage : {s k : ℕ} {rs bs : List ℕ} {vs : List Float} {xs : List Diff} (h : ℕ) → k ≤ 2 ^ 23 → AllClose s k rs bs vs xs
+close-stage : {s k : ℕ} {rs bs : List ℕ} {vs : List Float} {xs : List Diff} (h : ℕ) → k ≤ 2 ^ 23 → AllClose s k rs bs vs xs
     → AllClose s (k + 1) (stage _+_ _+_ 0 h rs) (stage _+_ _+_ 0 h bs) (stage (add binary32) (sub binary32) posZero h vs) (stage _⊞_ _⊟_ nought h xs)
 unfolding stage
 close-stage {s} {k} {rs} {bs} {vs} {xs} h K all =
@@ -80,31 +77,3 @@ pub close-stages : {s k : ℕ} {rs bs : List ℕ} {vs : List Float} {xs : List D
 unfolding stages
 close-stages zero h K all = all-close-weaken (omega arith) all
 close-stages (suc n) h K all = all-close-weaken (omega arith) (close-stages n (h + h) (omega arith) (close-stage h (omega arith) all))
-
--- ---- no hidden infinity: the entry at i has x[i] as an operand
-tabled-finite : (f : ℕ → Float) (n : ℕ) (vs : List Float) → ((i : ℕ) → T (finite (f (n + i))) → T (finite (getD vs i posZero))) → AllFinite (map f (from n (length vs))) → AllFinite vs
-unfolding from
-tabled-finite f n [] each all = tt
-tabled-finite f n (v ∷ vs) each all = (
-  each 0 (subst (λ (i : ℕ). T (finite (f i))) (sym (add-zero n)) (all .0)),
-  tabled-finite f (suc n) vs (λ i t. each (suc i) (subst (λ (j : ℕ). T (finite (f j))) (suc-add n i ∙ sym (add-suc n i)) t)) (all .1),
-)
-
-entry-finite : (h : ℕ) (vs : List Float) (i : ℕ) → T (finite (entry (add binary32) (sub binary32) posZero h vs i)) → T (finite (getD vs i posZero))
-unfolding entry
-entry-finite h vs i = go (eqb (i / h % 2) 0)
-  where
-    go : (b : Bool) → T (finite (cond b (add binary32 (getD vs i posZero) (getD vs (i + h) posZero)) (sub binary32 (getD vs (i - h) posZero) (getD vs i posZero)))) → T (finite (getD vs i posZero))
-    go true t = add-finite binary32 (getD vs i posZero) (getD vs (i + h) posZero) t .0
-    go false t = sub-finite binary32 (getD vs (i - h) posZero) (getD vs i posZero) t .1
-
-pub stage-finite : (h : ℕ) (vs : List Float) → AllFinite (stage (add binary32) (sub binary32) posZero h vs) → AllFinite vs
-unfolding stage
-stage-finite h vs all =
-    tabled-finite (λ (i : ℕ). entry (add binary32) (sub binary32) posZero h vs i) 0 vs
-    (λ i t. entry-finite h vs i (subst (λ (j : ℕ). T (finite (entry (add binary32) (sub binary32) posZero h vs j))) (zero-add i) t)) all
-
-pub stages-finite : (n h : ℕ) (vs : List Float) → AllFinite (stages (add binary32) (sub binary32) posZero n h vs) → AllFinite vs
-unfolding stages
-stages-finite zero h vs all = all
-stages-finite (suc n) h vs all = stage-finite h vs (stages-finite n (h + h) (stage (add binary32) (sub binary32) posZero h vs) all)

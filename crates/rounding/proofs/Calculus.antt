@@ -1,35 +1,31 @@
 -- The error calculus on floats: what each step of f32 arithmetic does to `Close`. A rounded sum or difference takes k to k + 1 and adds the r's and the a's;
--- a rounded product with a float c takes k to k + 1, a to |c| * a, and r to |c| * r and a unit more; a product with 1 or -1 and a negation change nothing.
+-- a rounded product with a float c takes k to k + 1, a to |c| * a, and r to |c| * r and a unit more; a product with 1 or -1 changes nothing.
 -- A result that is not finite is close to anything, so no step asks whether its operands are finite. Assumes nothing.
 use mathlib.Core.Path.{_≡_, sym, ap, _∙_, subst}
 use Prim.Native.Nat.{ℕ, _+_, _*_, _^_, _≤_}
-use native.Mathlib.Nat.{le-refl, le-add-right, one-mul, add-comm}
+use native.Mathlib.Nat.{le-refl, one-mul, add-comm}
 use native.Mathlib.Omega.{arith}
 use mathlib.Core.Bool.{Bool, true, false}
 use lib.IntN.{pos}
 use lib.Dec.{T}
-use lib.Ieee.{Float, nan, inf, fin, binary32, neg, add, sub, mul, fits}
-use lib.Ieee.Fits.{nan-fits, inf-fits, neg-fits, add-fits, sub-fits, mul-fits}
+use lib.Ieee.{Float, binary32, add, sub, mul, fits}
+use lib.Ieee.Fits.{add-fits, sub-fits, mul-fits}
 use lib.Ieee.Scale.{finite}
-use Rattle.rounding.specs.Signed.{Diff, signed, opposite, turned, nought, _⊞_, _⊟_, _⊠_, _⊙_, size, Abs, Near, Same}
-use Rattle.rounding.specs.Value.{unit, mag, val, posZero, one}
+use Rattle.rounding.specs.Signed.{Diff, signed, turned, nought, _⊞_, _⊟_, _⊠_, _⊙_, size, Abs, Near, Same}
+use Rattle.rounding.specs.Value.{val}
+use Rattle.float.specs.Constants.{posZero, one}
+use Rattle.float.specs.Units.{unit, mag}
 use Rattle.rounding.specs.Close.{Bound, Close}
-use Rattle.rounding.proofs.Bounds.{bound-add, bound-sub, bound-opposite, bound-turned, bound-times, bound-lift, bound-same, bound-weaken, bound-exact, bound-rounded, bound-rounded-relative, bound-error}
-use Rattle.rounding.proofs.Exact.{mul-commutes, mul-sign-val, add-zero-val, zero-add-val}
-use Rattle.rounding.proofs.Finite.{neg-finite, add-finite, sub-finite, mul-finite}
+use Rattle.rounding.proofs.Bounds.{bound-add, bound-sub, bound-turned, bound-times, bound-lift, bound-same, bound-weaken, bound-exact, bound-rounded, bound-rounded-relative, bound-error}
+use Rattle.rounding.proofs.Exact.{mul-commutes, mul-sign-val}
+use Rattle.rounding.proofs.Finite.{add-finite, sub-finite, mul-finite}
 use Rattle.rounding.proofs.Product.{mul-near}
-use Rattle.rounding.proofs.Sum.{add-near, sub-near, neg-val}
+use Rattle.rounding.proofs.Sum.{add-near, sub-near}
 use Rattle.rounding.proofs.Values.{val-sized, val-signed, val-zero}
 
 -- ---- what is close from the start
-pub close-nan : (s k r a : ℕ) (x : Diff) → Close s k r a nan x
-close-nan s k r a x = record { fit = nan-fits binary32; bound = λ t. absurd t }
-
-pub close-inf : (s k r a : ℕ) (u : Bool) (x : Diff) → Close s k r a (inf u) x
-close-inf s k r a u x = record { fit = inf-fits binary32 u; bound = λ t. absurd t }
-
 -- a float that is the exact number, where it is finite
-pub close-exact : {s k a : ℕ} {v : Float} {x : Diff} → T (fits binary32 v) → (T (finite v) → Same (s ⊙ val v) x) → Abs x a → Close s k 0 a v x
+close-exact : {s k a : ℕ} {v : Float} {x : Diff} → T (fits binary32 v) → (T (finite v) → Same (s ⊙ val v) x) → Abs x a → Close s k 0 a v x
 close-exact h e w = record { fit = h; bound = λ t. bound-exact (e t) w }
 
 -- a float itself
@@ -69,36 +65,7 @@ close-sub {v} {u} K h g = record {
       bound-rounded-relative (val (sub binary32 v u)) K (sub-near v u (h .fit) (g .fit) t) (bound-sub (h .bound (f .0)) (g .bound (f .1)));
 }
 
--- one step of a running sum that has seen i terms
-pub close-step : (i : ℕ) {s k r a q b : ℕ} {v u : Float} {x y : Diff} → k + i ≤ 2 ^ 23 → Close s (k + i) r a v x → Close s k q b u y
-    → Close s (k + i + 1) (r + q) (a + b) (add binary32 v u) (x ⊞ y)
-close-step i {k} K h g = close-add K h (close-weaken (le-add-right k i) (le-refl _) (le-refl _) g)
-
--- a sum with a zero of either sign
-pub close-add-zero : (u : Bool) {s k r a : ℕ} {v : Float} {x : Diff} → Close s k r a v x → Close s k r a (add binary32 v (fin u 0 (pos 0))) x
-close-add-zero u {s} {k} {r} {a} {v} {x} h = record {
-  fit = add-fits binary32 v (fin u 0 (pos 0));
-  bound = λ t.
-      let f = add-finite binary32 v (fin u 0 (pos 0)) t .0 in
-      subst (λ (z : Diff). Bound s k r a z x) (sym (add-zero-val u v (h .fit) f)) (h .bound f);
-}
-
-pub close-zero-add : (u : Bool) {s k r a : ℕ} {v : Float} {x : Diff} → Close s k r a v x → Close s k r a (add binary32 (fin u 0 (pos 0)) v) x
-close-zero-add u {s} {k} {r} {a} {v} {x} h = record {
-  fit = add-fits binary32 (fin u 0 (pos 0)) v;
-  bound = λ t.
-      let f = add-finite binary32 (fin u 0 (pos 0)) v t .1 in
-      subst (λ (z : Diff). Bound s k r a z x) (sym (zero-add-val u v (h .fit) f)) (h .bound f);
-}
-
--- ---- the sign
-pub close-neg : {s k r a : ℕ} {v : Float} {x : Diff} → Close s k r a v x → Close s k r a (neg v) (opposite x)
-close-neg {s} {k} {r} {a} {v} {x} h = record {
-  fit = neg-fits binary32 v (h .fit);
-  bound = λ t. subst (λ (z : Diff). Bound s k r a z (opposite x)) (sym (neg-val v)) (bound-opposite (h .bound (neg-finite v t)));
-}
-
--- times 1, or -1 where the sign is true
+-- ---- a product with 1, or -1 where the sign is true
 pub close-sign : (c : Bool) {s k r a : ℕ} {v : Float} {x : Diff} → Close s k r a v x → Close s k r a (mul binary32 v (one c)) (turned c x)
 close-sign c {s} {k} {r} {a} {v} {x} h = record {
   fit = mul-fits binary32 v (one c);
@@ -106,9 +73,6 @@ close-sign c {s} {k} {r} {a} {v} {x} h = record {
       let f = mul-finite binary32 v (one c) t .0 in
       subst (λ (z : Diff). Bound s k r a z (turned c x)) (sym (mul-sign-val v c (h .fit) f)) (bound-turned c (h .bound f));
 }
-
-pub close-sign-left : (c : Bool) {s k r a : ℕ} {v : Float} {x : Diff} → Close s k r a v x → Close s k r a (mul binary32 (one c) v) (turned c x)
-close-sign-left c {s} {k} {r} {a} {v} {x} h = subst (λ (z : Float). Close s k r a z (turned c x)) (mul-commutes binary32 v (one c)) (close-sign c h)
 
 -- ---- products with a float
 size-signed-product : (s t : Bool) (m n : ℕ) → size (signed s m ⊠ signed t n) ≡ m * n
@@ -124,7 +88,7 @@ val-product-size v c =
     ap (λ (z : Diff). size (z ⊠ val c)) (p .1) ∙ ap (λ (z : Diff). size (signed (p .0) (mag v) ⊠ z)) (q .1) ∙ size-signed-product (p .0) (q .0) (mag v) (mag c)
 
 -- the absolute part is half a unit, which any g with s * unit ≤ 2 * g covers
-pub close-mul-half : (g : ℕ) (c : Float) {s k r a : ℕ} {v : Float} {x : Diff} → T (fits binary32 c) → k ≤ 2 ^ 23 → s * unit ≤ 2 * g → Close s k r a v x
+close-mul-half : (g : ℕ) (c : Float) {s k r a : ℕ} {v : Float} {x : Diff} → T (fits binary32 c) → k ≤ 2 ^ 23 → s * unit ≤ 2 * g → Close s k r a v x
     → Close (s * unit) (k + 1) (mag c * r + g) (mag c * a) (mul binary32 v c) (x ⊠ val c)
 close-mul-half g c {s} {k} {r} {a} {v} {x} e K G h = record {
   fit = mul-fits binary32 v c;

@@ -7,7 +7,8 @@ use mathlib.Core.List.{List, [], _∷_, map}
 use lib.IntN.{pos, negsuc}
 use lib.Ieee.{fin, inf}
 use Rattle.rounding.specs.Signed.{Diff, nought, signed, _⊞_, _⊟_, size}
-use Rattle.rounding.specs.Value.{unit, mag, val}
+use Rattle.rounding.specs.Value.{val}
+use Rattle.float.specs.Units.{unit, mag}
 use Rattle.rounding.specs.Sums.{running, total, products, dot}
 use Rattle.rounding.specs.Butterfly.{from, entry, stage, stages}
 

@@ -9,7 +9,7 @@ use lib.Ieee.{Float, nan, inf, fin, Format, unlike, neg, add, sub, mul, div}
 use lib.Ieee.Scale.{finite}
 use Rattle.rounding.specs.Value.{Divisor}
 
-pub neg-finite : (x : Float) → T (finite (neg x)) → T (finite x)
+neg-finite : (x : Float) → T (finite (neg x)) → T (finite x)
 unfolding neg
 neg-finite nan t = t
 neg-finite (inf s) t = t

@@ -10,14 +10,16 @@ use lib.Dec.{T}
 use lib.ListN.{length, getD}
 use lib.Ieee.{Float, binary32, mul, fits}
 use Rattle.rounding.specs.Signed.{Diff, nought, _⊞_, _⊠_}
-use Rattle.rounding.specs.Value.{unit, mag, val, one}
+use Rattle.rounding.specs.Value.{val}
+use Rattle.float.specs.Constants.{one}
+use Rattle.float.specs.Units.{unit, mag}
 use Rattle.rounding.specs.Close.{Close}
 use Rattle.rounding.specs.Sums.{running, total, products, dot, exactTotal, exactProducts, exactDot, turnedEach, sum, weighted, AllFit, AllClose, none, next}
 use Rattle.rounding.proofs.Totals.{weighted-length, sum-raised, weighted-none}
 use Rattle.rounding.proofs.Calculus.{close-zero, close-self, close-weaken, close-same, close-add, close-mul, close-sign}
 
 -- ---- running sums
-pub close-running : {s k j r a : ℕ} {acc : Float} {x : Diff} {rs bs : List ℕ} {vs : List Float} {xs : List Diff} → k ≤ j → j + length vs ≤ 2 ^ 23
+close-running : {s k j r a : ℕ} {acc : Float} {x : Diff} {rs bs : List ℕ} {vs : List Float} {xs : List Diff} → k ≤ j → j + length vs ≤ 2 ^ 23
     → Close s j r a acc x → AllClose s k rs bs vs xs → Close s (j + length vs) (r + sum rs) (a + sum bs) (running acc vs) (x ⊞ exactTotal xs)
 unfolding running exactTotal sum
 close-running {j} {r} {a} J L h none = close-same (omega arith) (close-weaken (omega arith) (omega arith) (omega arith) h)
@@ -35,7 +37,7 @@ close-total {s} {k} {rs} {bs} {vs} {xs} L all =
     (close-running (le-refl k) L (close-zero s k) all))
 
 -- ---- products, entry by entry
-pub close-products : {s k : ℕ} {rs bs : List ℕ} {vs : List Float} {xs : List Diff} (cs : List Float) → AllFit cs → k ≤ 2 ^ 23 → AllClose s k rs bs vs xs
+close-products : {s k : ℕ} {rs bs : List ℕ} {vs : List Float} {xs : List Diff} (cs : List Float) → AllFit cs → k ≤ 2 ^ 23 → AllClose s k rs bs vs xs
     → AllClose (s * unit) (k + 1) (map (λ (n : ℕ). n + s * unit) (weighted cs rs)) (weighted cs bs) (products vs cs) (exactProducts xs (map val cs))
 unfolding weighted products exactProducts
 close-products [] f K none = none
@@ -63,7 +65,7 @@ all-close-numbers none = refl
 all-close-numbers (next h all) = ap suc (all-close-numbers all)
 
 -- ---- dot products: each product is rounded, and then the running sum from +0.0
-pub close-dot : {s k : ℕ} {rs bs : List ℕ} {vs : List Float} {xs : List Diff} (cs : List Float) → AllFit cs → k + 1 + length vs ≤ 2 ^ 23 → AllClose s k rs bs vs xs
+close-dot : {s k : ℕ} {rs bs : List ℕ} {vs : List Float} {xs : List Diff} (cs : List Float) → AllFit cs → k + 1 + length vs ≤ 2 ^ 23 → AllClose s k rs bs vs xs
     → Close (s * unit) (k + 1 + length vs) (sum (weighted cs rs) + length vs * (s * unit)) (sum (weighted cs bs)) (dot vs cs) (exactDot xs (map val cs))
 close-dot {s} {k} {rs} {bs} {vs} {xs} cs f L all =
     let p = products-length vs cs in
@@ -90,18 +92,6 @@ pub all-close-at : {s k : ℕ} {rs bs : List ℕ} {vs : List Float} {xs : List D
 all-close-at d z none i = z
 all-close-at d z (next h all) zero = h
 all-close-at d z (next h all) (suc i) = all-close-at d z all i
-
-pub all-close-from : {s k : ℕ} (rs bs : List ℕ) (vs : List Float) (xs : List Diff) (d : Float) → length rs ≡ length vs → length bs ≡ length vs → length xs ≡ length vs
-    → ((i : ℕ) → i < length vs → Close s k (getD rs i 0) (getD bs i 0) (getD vs i d) (getD xs i nought)) → AllClose s k rs bs vs xs
-all-close-from [] [] [] [] d p q e h = none
-all-close-from [] [] [] (x ∷ xs) d p q e h = absurd (omega arith)
-all-close-from [] [] (v ∷ vs) xs d p q e h = absurd (omega arith)
-all-close-from [] (b ∷ bs) vs xs d p q e h = absurd (omega arith)
-all-close-from (r ∷ rs) [] vs xs d p q e h = absurd (omega arith)
-all-close-from (r ∷ rs) (b ∷ bs) [] xs d p q e h = absurd (omega arith)
-all-close-from (r ∷ rs) (b ∷ bs) (v ∷ vs) [] d p q e h = absurd (omega arith)
-all-close-from (r ∷ rs) (b ∷ bs) (v ∷ vs) (x ∷ xs) d p q e h =
-    next (h 0 (suc-le-suc zero-le)) (all-close-from rs bs vs xs d (omega arith) (omega arith) (omega arith) (λ i l. h (suc i) (suc-le-suc l)))
 
 pub all-fit-from : (vs : List Float) (d : Float) → ((i : ℕ) → i < length vs → T (fits binary32 (getD vs i d))) → AllFit vs
 all-fit-from [] d h = tt

@@ -10,9 +10,8 @@ pub mod Bounds
 pub mod Calculus
 pub mod Totals
 pub mod Folds
+pub mod Rows
 pub mod Partial
 pub mod Butterflies
 pub mod Blocks
-pub mod Times
-pub mod Compare
 pub mod Examples

@@ -42,10 +42,10 @@ whole-apart Ordering·lt q r c n e h x = omega arith
 whole-apart Ordering·eq q r c n e h x = tie-apart q (q % 2) r c n (omega arith) e x
 whole-apart Ordering·gt q r c n e h x = omega arith
 
-pub closest-apart : (n c : ℕ) → 0 < c → Apart 2 (closest n c * c) n c
+closest-apart : (n c : ℕ) → 0 < c → Apart 2 (closest n c * c) n c
 closest-apart n c C = whole-apart (compare (n % c * 2) c) (n / c) (n % c) c n (div-add-mod' n c) (mod-lt n C) (compared (n % c * 2) c)
 
--- ---- the same at a precision of p digits, of which `drop` are dropped
+-- ---- the nearest number at a precision of p digits, of which `drop` are dropped
 
 none-dropped : (g n c K : ℕ) → K ≡ 1 → Apart 2 (g * (c * K)) n (c * K) → Apart 2 (g * K * c) n c
 none-dropped g n c K e h = rw e (simp mul-one (simp (e, mul-one) at h))

@@ -12,7 +12,8 @@ use lib.Ieee.{Float, nan, inf, fin, binary32, unlike, up, down, mul, div, round,
 use lib.Ieee.Fits.{up-pos, down-pos}
 use lib.Ieee.Scale.{finite}
 use Rattle.rounding.specs.Signed.{Diff, signed, _⊠_, _⊙_, Apart, Near}
-use Rattle.rounding.specs.Value.{rounded, unit, mag, val}
+use Rattle.rounding.specs.Value.{rounded, val}
+use Rattle.float.specs.Units.{unit, mag}
 use Rattle.rounding.proofs.Finite.{mul-finite, div-finite}
 use Rattle.rounding.proofs.Nearest.{rounded-apart}
 use Rattle.rounding.proofs.Values.{mag-exact, round-val}
@@ -82,7 +83,7 @@ unfolding div
 div-is s m e t n d =
     ap (λ (b : Bool). cond b (cond (eqb m 0) nan (inf (unlike s t))) (round binary32 (unlike s t) (m * up e * down d) (suc n * up d * down e))) (eqb·suc-zero n)
 
--- the same for a quotient by a number other than 0
+-- a rounded quotient by a number other than 0
 round-quotient : (s : Bool) (m : ℕ) (e : ℤ) (t : Bool) (n : ℕ) (d : ℤ) → T (fits binary32 (fin s m e)) → T (fits binary32 (fin t (suc n) d))
     → T (finite (round binary32 (unlike s t) (m * up e * down d) (suc n * up d * down e)))
     → Near (2 ^ 24 ⊙ (val (round binary32 (unlike s t) (m * up e * down d) (suc n * up d * down e)) ⊠ val (fin t (suc n) d))) (2 ^ 24 ⊙ (unit ⊙ val (fin s m e)))

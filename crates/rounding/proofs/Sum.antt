@@ -10,7 +10,8 @@ use lib.Ieee.{Float, nan, inf, fin, binary32, up, down, neg, sum, add, sub, roun
 use lib.Ieee.Fits.{down-pos, neg-fits}
 use lib.Ieee.Scale.{finite}
 use Rattle.rounding.specs.Signed.{Diff, signed, opposite, _⊞_, _⊟_, _⊙_, size, Apart, Near, Same}
-use Rattle.rounding.specs.Value.{rounded, unit, mag, val}
+use Rattle.rounding.specs.Value.{rounded, val}
+use Rattle.float.specs.Units.{unit, mag}
 use Rattle.rounding.proofs.Finite.{add-finite}
 use Rattle.rounding.proofs.Nearest.{whole-rounded-apart}
 use Rattle.rounding.proofs.Values.{mag-exact, round-val}
@@ -20,7 +21,7 @@ apart-near : (σ : Bool) (g d : ℕ) (z : Diff) → Same z (signed σ d) → Apa
 apart-near false g d z e h = record { above = omega (arith, h .above); below = omega (arith, h .below) }
 apart-near true g d z e h = record { above = omega (arith, h .above); below = omega (arith, h .below) }
 
-pub round-near : (σ : Bool) (num c d : ℕ) (z : Diff) → 0 < c → num * unit ≡ d * c → Same z (signed σ d) → T (finite (round binary32 σ num c))
+round-near : (σ : Bool) (num c d : ℕ) (z : Diff) → 0 < c → num * unit ≡ d * c → Same z (signed σ d) → T (finite (round binary32 σ num c))
     → Near (2 ^ 24 ⊙ val (round binary32 σ num c)) (2 ^ 24 ⊙ z) (size z)
 round-near σ num c d z C e w t =
     let g = rounded 24 (num * unit) c in
@@ -94,7 +95,7 @@ module _ (a b c A B : ℕ) (C : 0 < c) (p : a * unit ≡ A * c) (q : b * unit �
   sum-near true true = sum-alike true
 
 -- the fractions that `add` hands to `sum` have the denominator of both
-pub crossed : (m e d M : ℕ) → M * e ≡ m * unit → m * d * unit ≡ M * (e * d)
+crossed : (m e d M : ℕ) → M * e ≡ m * unit → m * d * unit ≡ M * (e * d)
 crossed m e d M h = mul-right-comm m d unit ∙ ap (λ (x : ℕ). x * d) (sym h) ∙ mul-assoc M e d
 
 pub add-near : (x y : Float) → T (fits binary32 x) → T (fits binary32 y) → T (finite (add binary32 x y))
@@ -110,13 +111,7 @@ add-near (fin s m e) (fin u n d) h k t = unfold add val in
     s u t
 
 -- ---- a difference is the sum with the negative
-pub neg-mag : (x : Float) → mag (neg x) ≡ mag x
-unfolding mag neg
-neg-mag nan = refl
-neg-mag (inf s) = refl
-neg-mag (fin s m e) = refl
-
-pub neg-val : (x : Float) → val (neg x) ≡ opposite (val x)
+neg-val : (x : Float) → val (neg x) ≡ opposite (val x)
 unfolding val neg mag
 neg-val nan = refl
 neg-val (inf s) = refl

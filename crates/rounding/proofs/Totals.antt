@@ -1,4 +1,4 @@
--- Sums of naturals: of lists side by side, of multiples, of one number repeated, and of numbers weighted by the sizes of floats.
+-- Sums of naturals: of lists joined, of numbers each raised by one amount, of one number repeated, and of numbers weighted by the sizes of floats.
 -- Assumes nothing.
 use mathlib.Core.Path.{_≡_, refl}
 use Prim.Native.Nat.{ℕ, zero, suc, _+_, _*_, _≤_, zero-le, suc-le-suc}
@@ -7,18 +7,12 @@ use native.Mathlib.Omega.{arith}
 use mathlib.Core.List.{List, [], _∷_, _++_, map}
 use lib.ListN.{length, replicate}
 use lib.Ieee.{Float}
-use Rattle.rounding.specs.Value.{mag}
 use Rattle.rounding.specs.Sums.{sum, weighted}
 
 pub sum-append : (us vs : List ℕ) → sum (us ++ vs) ≡ sum us + sum vs
 unfolding sum
 sum-append [] vs = omega arith
 sum-append (u ∷ us) vs = omega (arith, sum-append us vs)
-
-pub sum-times : (c : ℕ) (ns : List ℕ) → sum (map (λ (n : ℕ). c * n) ns) ≡ c * sum ns
-unfolding sum
-sum-times c [] = omega arith
-sum-times c (n ∷ ns) = omega (arith, sum-times c ns)
 
 pub sum-raised : (u : ℕ) (ns : List ℕ) → sum (map (λ (n : ℕ). n + u) ns) ≡ sum ns + length ns * u
 unfolding sum
@@ -47,9 +41,3 @@ unfolding weighted sum
 weighted-none [] vs = refl
 weighted-none (c ∷ cs) [] = refl
 weighted-none (c ∷ cs) (v ∷ vs) = omega (arith, weighted-none cs vs)
-
--- one number everywhere
-pub weighted-replicate : (cs : List Float) (n : ℕ) → sum (weighted cs (replicate (length cs) n)) ≡ sum (map mag cs) * n
-unfolding weighted sum
-weighted-replicate [] n = omega arith
-weighted-replicate (c ∷ cs) n = omega (arith, weighted-replicate cs n)

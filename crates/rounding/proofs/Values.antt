@@ -14,11 +14,12 @@ use lib.Ieee.Exact.{HasValue, units-val, round-exact}
 use lib.Ieee.Fits.{down-pos, round-is, and-l, and-r}
 use lib.Ieee.Order.{drop, kept}
 use lib.Ieee.Scale.{finite}
-use Rattle.rounding.specs.Signed.{signed, nought, size, Abs}
-use Rattle.rounding.proofs.Signed.{size-signed}
-use Rattle.rounding.specs.Value.{rounded, unit, mag, val}
+use Rattle.rounding.specs.Signed.{signed, nought, Abs}
+use Rattle.rounding.specs.Value.{rounded, val}
+use Rattle.float.specs.Units.{unit, mag}
+use Rattle.float.proofs.Units.{mag-of-value, mag-zero}
 
-pub unit-is : 2 ^ low binary32 ≡ unit
+unit-is : 2 ^ low binary32 ≡ unit
 unfolding unit
 unit-is = refl
 
@@ -84,12 +85,6 @@ mag-exact s (suc m) e h =
     let x : suc m * up e * unit ≡ suc m * 2 ^ j * down e = in-units (suc m) e (down-fits s m e h) in
     ap (λ (y : ℕ). y / down e * down e) x ∙ ap (λ (y : ℕ). y * down e) (mul-div-cancel (suc m * 2 ^ j) (down-pos e)) ∙ sym x
 
-pub mag-of-value : (x : Float) (s : Bool) (a : ℕ) → HasValue x s a unit → mag x ≡ a
-unfolding mag
-mag-of-value nan s a h = absurd h
-mag-of-value (inf t) s a h = absurd h
-mag-of-value (fin t m e) s a h = ap (λ (y : ℕ). y / down e) (h .1) ∙ mul-div-cancel a (down-pos e)
-
 pub val-of-value : (x : Float) (s : Bool) (a : ℕ) → HasValue x s a unit → val x ≡ signed s a
 unfolding val
 val-of-value nan s a h = absurd h
@@ -100,9 +95,6 @@ pub finite-of-value : (x : Float) (s : Bool) (a c : ℕ) → HasValue x s a c �
 finite-of-value nan s a c h = h
 finite-of-value (inf t) s a c h = h
 finite-of-value (fin t m e) s a c h = tt
-
-pub value-of-mag : (s : Bool) (m : ℕ) (e : ℤ) → T (fits binary32 (fin s m e)) → HasValue (fin s m e) s (mag (fin s m e)) unit
-value-of-mag s m e h = (refl, sym (mag-exact s m e h))
 
 signed-sized : (s : Bool) (n : ℕ) → Abs (signed s n) n
 signed-sized false n = record { above = omega arith; below = omega arith }
@@ -121,13 +113,6 @@ val-signed nan = (false, refl)
 val-signed (inf s) = (false, refl)
 val-signed (fin s m e) = (s, refl)
 
-pub val-size : (x : Float) → size (val x) ≡ mag x
-val-size x = let p = val-signed x in ap size (p .1) ∙ size-signed (p .0) (mag x)
-
-pub mag-zero : (s : Bool) (e : ℤ) → mag (fin s 0 e) ≡ 0
-unfolding mag
-mag-zero s e = simp (zero-mul, zero-div)
-
 pub val-zero : (s : Bool) (e : ℤ) → val (fin s 0 e) ≡ nought
 unfolding val
 val-zero false e = ap (λ (n : ℕ). signed false n) (mag-zero false e)
@@ -145,7 +130,7 @@ units-under s q k = go (ltb (q * 2 ^ k) (2 ^ (low binary32 + suc (emax binary32)
     go false h t = absurd t
 
 -- a finite result is the rounded fraction, in units
-pub round-value : (s : Bool) (num den : ℕ) → T (finite (round binary32 s num den)) → HasValue (round binary32 s num den) s (rounded 24 (num * unit) den) unit
+round-value : (s : Bool) (num den : ℕ) → T (finite (round binary32 s num den)) → HasValue (round binary32 s num den) s (rounded 24 (num * unit) den) unit
 round-value s num den t =
     let z = round binary32 s num den in
     let n = num * 2 ^ low binary32 in
@@ -157,7 +142,7 @@ round-value s num den t =
 pub round-val : (s : Bool) (num den : ℕ) → T (finite (round binary32 s num den)) → val (round binary32 s num den) ≡ signed s (rounded 24 (num * unit) den)
 round-val s num den t = val-of-value (round binary32 s num den) s (rounded 24 (num * unit) den) (round-value s num den t)
 
--- the same size as another fraction
+-- a value as another fraction of the same size
 rescaled : (x : Float) (s : Bool) (num den a c : ℕ) → 0 < den → num * c ≡ a * den → HasValue x s num den → HasValue x s a c
 rescaled nan s num den a c D e h = h
 rescaled (inf t) s num den a c D e h = h

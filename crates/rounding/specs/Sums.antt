@@ -2,12 +2,12 @@
 -- Assumes nothing.
 use Prim.Native.Nat.{ℕ, _+_, _*_}
 use mathlib.Core.Bool.{Bool}
-use mathlib.Core.List.{List, [], _∷_}
+use mathlib.Core.List.{List, [], _∷_, map}
 use lib.Dec.{T}
 use lib.Ieee.{Float, binary32, add, mul, fits}
-use lib.Ieee.Scale.{finite}
 use Rattle.rounding.specs.Signed.{Diff, nought, turned, _⊞_, _⊠_}
-use Rattle.rounding.specs.Value.{mag, posZero}
+use Rattle.float.specs.Constants.{posZero}
+use Rattle.float.specs.Units.{mag}
 use Rattle.rounding.specs.Close.{Close}
 
 -- 'Sums run in index order from +0.0' (document 01): the running sum, from the one so far
@@ -27,7 +27,7 @@ products (v ∷ vs) (c ∷ cs) = mul binary32 v c ∷ products vs cs
 abbrev pub dot : List Float → List Float → Float
 dot vs cs = total (products vs cs)
 
--- the same, exact
+-- the sum and the dot product of exact numbers
 unfoldable pub exactTotal : List Diff → Diff
 exactTotal [] = nought
 exactTotal (x ∷ xs) = x ⊞ exactTotal xs
@@ -50,6 +50,10 @@ unfoldable pub sum : List ℕ → ℕ
 sum [] = 0
 sum (n ∷ ns) = n + sum ns
 
+-- the sum of the sizes of floats, in units
+unfoldable pub absoluteSum : List Float → ℕ
+absoluteSum vs = sum (map mag vs)
+
 -- each of the numbers times the size of its float, in units
 unfoldable pub weighted : List Float → List ℕ → List ℕ
 weighted [] ns = []
@@ -61,11 +65,6 @@ weighted (c ∷ cs) (n ∷ ns) = mag c * n ∷ weighted cs ns
 abbrev pub AllFit : List Float → Type 0
 AllFit [] = Unit {0}
 AllFit (v ∷ vs) = T (fits binary32 v) × AllFit vs
-
--- it is neither a NaN nor an infinity
-abbrev pub AllFinite : List Float → Type 0
-AllFinite [] = Unit {0}
-AllFinite (v ∷ vs) = T (finite v) × AllFinite vs
 
 -- it is close to its exact number, with its own r and its own a
 pub data AllClose (s k : ℕ) : List ℕ → List ℕ → List Float → List Diff → Type 0 where

@@ -13,10 +13,13 @@ use Rattle.error.proofs.Places.{each-clear}
 use Rattle.rotation.specs.Checks.{badSign}
 use Rattle.setup.specs.declared.Setup.{Setup}
 use Rattle.setup.specs.declared.TurboMode.the-variants.{PolarOnly}
+use Rattle.setup.specs.Lent.{Lent}
 use Rattle.setup.specs.Setups.{polarBitsOf, countedProjectionsOf, directionsNeeded, matrixNeeded}
-use Rattle.setup.specs.Checks.{badDirection, badValue, scalarChecks, tableChecks, tableChecksButEntries, entryChecks, setupChecks, setupChecksButEntries, directionChecks}
+use Rattle.setup.specs.Checks.{badDirection, scalarChecks, tableChecks, tableChecksButEntries, entryChecks, setupChecks, setupChecksButEntries, directionChecks}
+use Rattle.error.specs.Checks.{badValue}
 use Rattle.setup.specs.Accepted.{Usable, Directions, AcceptedSetup}
-use Rattle.setup.proofs.Rows.{passes-finite, entry-below}
+use Rattle.setup.proofs.Rows.{entry-below}
+use Rattle.error.proofs.Finite.{passes-finite}
 use Rattle.setup.proofs.Scalars.{scalars-usable}
 
 pub directions-accepted : (s : Setup) (directions : List Float) → first (directionChecks s directions) accepted ≡ accepted → Directions s directions
@@ -27,48 +30,48 @@ directions-accepted s directions e =
       good = each-clear badDirection directions nan (k .1 .0);
     }
 
-module _ (s : Setup) (signs directions matrix : List Float) where
-  pub tables-accepted : Usable s → first (tableChecks s signs directions matrix) accepted ≡ accepted → AcceptedSetup s signs directions matrix
+module _ (s : Setup) (l : Lent) where
+  pub tables-accepted : Usable s → first (tableChecks s l) accepted ≡ accepted → AcceptedSetup s l
   tables-accepted usable e =
-      let k = first-passes (tableChecks s signs directions matrix) tt e in
+      let k = first-passes (tableChecks s l) tt e in
       record {
         usable = usable;
-        signs-long = eqb-true (length signs) (s .dim) (not-false _ (k .0));
-        signs-good = each-clear badSign signs nan (k .1 .1 .1 .0);
+        signs-long = eqb-true (length (l .signs)) (s .dim) (not-false _ (k .0));
+        signs-good = each-clear badSign (l .signs) nan (k .1 .1 .1 .0);
         table = record {
-          long = eqb-true (length directions) (directionsNeeded s) (not-false _ (k .1 .0));
-          good = each-clear badDirection directions nan (k .1 .1 .1 .1 .0);
+          long = eqb-true (length (l .directions)) (directionsNeeded s) (not-false _ (k .1 .0));
+          good = each-clear badDirection (l .directions) nan (k .1 .1 .1 .1 .0);
         };
-        matrix-long = eqb-true (length matrix) (matrixNeeded s) (not-false _ (k .1 .1 .0));
-        matrix-finite = λ i h. passes-finite _ (each-clear badValue matrix nan (k .1 .1 .1 .1 .1 .0) i h);
+        matrix-long = eqb-true (length (l .matrix)) (matrixNeeded s) (not-false _ (k .1 .1 .0));
+        matrix-finite = λ i h. passes-finite _ (each-clear badValue (l .matrix) nan (k .1 .1 .1 .1 .1 .0) i h);
       }
 
   -- the checks of the scalars alone pass too
-  pub setup-scalars : first (setupChecks s signs directions matrix) accepted ≡ accepted → first (scalarChecks s) accepted ≡ accepted
-  setup-scalars e = append-left (scalarChecks s) (tableChecks s signs directions matrix) accepted e
+  pub setup-scalars : first (setupChecks s l) accepted ≡ accepted → first (scalarChecks s) accepted ≡ accepted
+  setup-scalars e = append-left (scalarChecks s) (tableChecks s l) accepted e
 
-  pub setup-accepted : first (setupChecks s signs directions matrix) accepted ≡ accepted → AcceptedSetup s signs directions matrix
-  setup-accepted e = tables-accepted (scalars-usable s (setup-scalars e)) (append-right (scalarChecks s) (tableChecks s signs directions matrix) accepted e)
+  pub setup-accepted : first (setupChecks s l) accepted ≡ accepted → AcceptedSetup s l
+  setup-accepted e = tables-accepted (scalars-usable s (setup-scalars e)) (append-right (scalarChecks s) (tableChecks s l) accepted e)
 
   -- and so do those of the directions alone
-  pub setup-directions : first (setupChecks s signs directions matrix) accepted ≡ accepted → first (directionChecks s directions) accepted ≡ accepted
+  pub setup-directions : first (setupChecks s l) accepted ≡ accepted → first (directionChecks s (l .directions)) accepted ≡ accepted
   setup-directions e =
-      let k = first-passes (tableChecks s signs directions matrix) tt (append-right (scalarChecks s) (tableChecks s signs directions matrix) accepted e) in
-      first-accepts (directionChecks s directions) accepted (k .1 .0, (k .1 .1 .1 .1 .0, tt))
+      let k = first-passes (tableChecks s l) tt (append-right (scalarChecks s) (tableChecks s l) accepted e) in
+      first-accepts (directionChecks s (l .directions)) accepted (k .1 .0, (k .1 .1 .1 .1 .0, tt))
 
 -- ---- where all pass but the matrix's entries, which are still to be checked
 
-module _ (s : Setup) (signs directions matrix : List Float) (passed : first (setupChecksButEntries s signs directions matrix) accepted ≡ accepted) where
+module _ (s : Setup) (l : Lent) (passed : first (setupChecksButEntries s l) accepted ≡ accepted) where
   pub but-entries-usable : Usable s
-  but-entries-usable = scalars-usable s (append-left (scalarChecks s) (tableChecksButEntries s signs directions matrix) accepted passed)
+  but-entries-usable = scalars-usable s (append-left (scalarChecks s) (tableChecksButEntries s l) accepted passed)
 
-  pub but-entries-long : length matrix ≡ matrixNeeded s
+  pub but-entries-long : length (l .matrix) ≡ matrixNeeded s
   but-entries-long =
-      let k = first-passes (tableChecksButEntries s signs directions matrix) tt (append-right (scalarChecks s) (tableChecksButEntries s signs directions matrix) accepted passed) in
-      eqb-true (length matrix) (matrixNeeded s) (not-false _ (k .1 .1 .0))
+      let k = first-passes (tableChecksButEntries s l) tt (append-right (scalarChecks s) (tableChecksButEntries s l) accepted passed) in
+      eqb-true (length (l .matrix)) (matrixNeeded s) (not-false _ (k .1 .1 .0))
 
-  pub but-entries-rest : first (setupChecks s signs directions matrix) accepted ≡ first (entryChecks matrix) accepted
-  but-entries-rest = append-passed (setupChecksButEntries s signs directions matrix) (entryChecks matrix) tt accepted passed
+  pub but-entries-rest : first (setupChecks s l) accepted ≡ first (entryChecks (l .matrix)) accepted
+  but-entries-rest = append-passed (setupChecksButEntries s l) (entryChecks (l .matrix)) tt accepted passed
 
 -- ---- what lies within the tables
 
@@ -81,5 +84,5 @@ pub pair-below : (s : Setup) (directions : List Float) → Directions s directio
 pair-below s directions d i h = let long = d .long in omega (arith, long, h)
 
 -- the entry at a row and a column
-pub cell-below : (s : Setup) (signs directions matrix : List Float) → AcceptedSetup s signs directions matrix → (row column : ℕ) → row < countedProjectionsOf s → column < s .dim → row * s .dim + column < length matrix
-cell-below s signs directions matrix a row column r c = entry-below (countedProjectionsOf s) (s .dim) row column (length matrix) (sym (a .matrix-long)) r c
+pub cell-below : (s : Setup) (l : Lent) → AcceptedSetup s l → (row column : ℕ) → row < countedProjectionsOf s → column < s .dim → row * s .dim + column < length (l .matrix)
+cell-below s l a row column r c = entry-below (countedProjectionsOf s) (s .dim) row column (length (l .matrix)) (sym (a .matrix-long)) r c

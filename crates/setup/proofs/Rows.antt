@@ -2,37 +2,13 @@
 -- column, and the search keeps its place from the end of a row to the start of the next. Assumes nothing.
 use Prim.Native.Nat.{ℕ, _+_, _*_, _<_}
 use mathlib.Core.Path.{_≡_, sym, ap, _∙_}
-use mathlib.Core.Bool.{Bool, true, false, not}
+use mathlib.Core.Bool.{Bool}
 use mathlib.Core.List.{List}
 use native.Mathlib.Nat.{zero-mul, one-mul, add-mul, zero-add, add-zero, add-assoc}
 use native.Mathlib.Omega.{arith}
 use lib.Arith.{digits-lt}
 use lib.ListN.{drop}
-use lib.Ieee.{Float}
-use lib.Ieee.Scale.{finite}
 use Rattle.error.specs.Answer.{place}
-use Rattle.setup.specs.Checks.{badValue}
-
--- ---- one value
-
-pub finite-passes : (x : Float) → finite x ≡ true → badValue x ≡ false
-unfolding badValue
-finite-passes x e = ap not e
-
-pub not-finite-offends : (x : Float) → finite x ≡ false → badValue x ≡ true
-unfolding badValue
-not-finite-offends x e = ap not e
-
--- and back
-pub passes-finite : (x : Float) → badValue x ≡ false → finite x ≡ true
-unfolding badValue
-passes-finite x e = split (finite x) e
-  where
-    split : (b : Bool) → not b ≡ false → b ≡ true
-    split true h = cc
-    split false h = cc
-
--- ---- rows and columns
 
 pub entry-below : (rows columns row column long : ℕ) → rows * columns ≡ long → row < rows → column < columns → row * columns + column < long
 entry-below rows columns row column long whole r c = let l = digits-lt r c in omega (arith, l, whole)

@@ -10,6 +10,7 @@ use lib.Ieee.Scale.{finite}
 use Rattle.rotation.specs.Checks.{badSign}
 use Rattle.setup.specs.declared.Setup.{Setup}
 use Rattle.setup.specs.declared.TurboMode.the-variants.{PolarWithQjl}
+use Rattle.setup.specs.Lent.{Lent}
 use Rattle.setup.specs.Setups.{polarBitsOf, countedProjectionsOf, directionsNeeded, matrixNeeded}
 use Rattle.setup.specs.Checks.{badDirection}
 
@@ -33,10 +34,10 @@ pub record Directions (s : Setup) (directions : List Float) : Type 0 where
   pub good : (i : ℕ) → i < length directions → badDirection (getD directions i nan) ≡ false
 
 -- the scalars and the three tables
-pub record AcceptedSetup (s : Setup) (signs directions matrix : List Float) : Type 0 where
+pub record AcceptedSetup (s : Setup) (l : Lent) : Type 0 where
   pub usable : Usable s
-  pub signs-long : length signs ≡ s .dim
-  pub signs-good : (i : ℕ) → i < length signs → badSign (getD signs i nan) ≡ false
-  pub table : Directions s directions
-  pub matrix-long : length matrix ≡ matrixNeeded s
-  pub matrix-finite : (i : ℕ) → i < length matrix → finite (getD matrix i nan) ≡ true
+  pub signs-long : length (l .signs) ≡ s .dim
+  pub signs-good : (i : ℕ) → i < length (l .signs) → badSign (getD (l .signs) i nan) ≡ false
+  pub table : Directions s (l .directions)
+  pub matrix-long : length (l .matrix) ≡ matrixNeeded s
+  pub matrix-finite : (i : ℕ) → i < length (l .matrix) → finite (getD (l .matrix) i nan) ≡ true

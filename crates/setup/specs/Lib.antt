@@ -1,4 +1,5 @@
 pub mod Setups
+pub mod Lent
 pub mod Checks
 pub mod Accepted
 pub mod Seeds

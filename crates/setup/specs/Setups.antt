@@ -15,8 +15,11 @@ abbrev pub polarBitsOf : Setup → ℕ
 polarBitsOf s = byMode (s .mode) (s .bits) (s .bits - 1)
 
 -- 'In `PolarOnly` m counts as 0 and the matrix is empty.'
+abbrev pub counted : TurboMode → ℕ → ℕ
+counted mode m = byMode mode 0 m
+
 abbrev pub countedProjectionsOf : Setup → ℕ
-countedProjectionsOf s = byMode (s .mode) 0 (s .projections)
+countedProjectionsOf s = counted (s .mode) (s .projections)
 
 -- 'the table has 2 × 2^polar bits entries'
 abbrev pub directionsNeeded : Setup → ℕ

@@ -16,9 +16,11 @@ ghost use mathlib.Core.Path.{_≡_};
 ghost use Prim.Native.Nat.{_*_, _^_, _≤_};
 ghost use lib.ListN.{length};
 ghost use Rattle.error.specs.Answer.{first, place, accepted};
+ghost use Rattle.error.specs.Checks.{badValue};
 ghost use Rattle.error.specs.Outcomes.{says};
+ghost use Rattle.setup.specs.Lent.{lent};
 ghost use Rattle.setup.specs.Setups.{polarBitsOf, countedProjectionsOf};
-ghost use Rattle.setup.specs.Checks.{badTotalBits, badProjections, badDirection, badValue, scalarChecks, tableChecksButEntries, entryChecks, setupChecks, setupChecksButEntries, directionChecks};
+ghost use Rattle.setup.specs.Checks.{badTotalBits, badProjections, badDirection, scalarChecks, tableChecksButEntries, entryChecks, setupChecks, setupChecksButEntries, directionChecks};
 ghost use Rattle.error.specs.Sweep.{clear};
 ghost use Rattle.setup.specs.Seeds.{hadamardSeedOf, matrixSeedOf};
 
@@ -61,6 +63,21 @@ pub fn counted_projections(setup: Setup) -> usize
     }
 }
 
+// Whether projections are 0 or above 4,096 in residual mode, of a setup and of a record.
+pub fn outside_projections(mode: TurboMode, projections: usize) -> bool
+    ensures { λ r. ⌜ r ≡ badProjections mode projections ⌝ }
+{
+    match mode {
+        TurboMode::PolarOnly => false,
+        TurboMode::PolarWithQjl => {
+            if projections == 0 {
+                return true;
+            }
+            4096 < projections
+        }
+    }
+}
+
 // The checks of a setup's scalars.
 pub fn check_scalars(setup: Setup) -> Outcome
     ensures { λ r. ⌜ says r ≡ first (scalarChecks setup) accepted ⌝ }
@@ -84,7 +101,8 @@ pub fn check_scalars(setup: Setup) -> Outcome
             place: setup.bits as usize,
         };
     }
-    if outside_projections(setup) {
+    let mode = setup.mode;
+    if outside_projections(mode, setup.projections) {
         return Outcome::Refused {
             number: ZERO_PROJECTION_COUNT,
             place: setup.projections,
@@ -129,7 +147,7 @@ pub fn check_directions(setup: Setup, directions: &[f32]) -> Outcome
 
 // The checks of a whole setup.
 pub fn check_setup(setup: Setup, signs: &[f32], directions: &[f32], matrix: &[f32]) -> Outcome
-    ensures { λ r. ⌜ says r ≡ first (setupChecks setup (now (signs .entry)) (now (directions .entry)) (now (matrix .entry))) accepted ⌝ }
+    ensures { λ r. ⌜ says r ≡ first (setupChecks setup (lent (now (signs .entry)) (now (directions .entry)) (now (matrix .entry)))) accepted ⌝ }
 {
     let checked = check_but_entries(setup, signs, directions, matrix);
     match checked {
@@ -140,7 +158,7 @@ pub fn check_setup(setup: Setup, signs: &[f32], directions: &[f32], matrix: &[f3
 
 // The checks of a whole setup but for the matrix's entries, which come last.
 pub fn check_but_entries(setup: Setup, signs: &[f32], directions: &[f32], matrix: &[f32]) -> Outcome
-    ensures { λ r. ⌜ says r ≡ first (setupChecksButEntries setup (now (signs .entry)) (now (directions .entry)) (now (matrix .entry))) accepted ⌝ }
+    ensures { λ r. ⌜ says r ≡ first (setupChecksButEntries setup (lent (now (signs .entry)) (now (directions .entry)) (now (matrix .entry)))) accepted ⌝ }
 {
     let scalars = check_scalars(setup);
     match scalars {
@@ -157,16 +175,6 @@ pub fn first_bad_direction(directions: &[f32]) -> usize
         return directions.len();
     }
     find_bad_direction(directions)
-}
-
-// The index of the first value that is not finite, or their number where there is none.
-pub fn first_non_finite(values: &[f32]) -> usize
-    ensures { λ r. ⌜ r ≡ place badValue (now (values .entry)) ⌝ }
-{
-    if all_finite(values) {
-        return values.len();
-    }
-    find_non_finite(values)
 }
 
 // The seed of the host's generator of rotation signs.
@@ -206,23 +214,6 @@ fn outside_bits(setup: Setup) -> bool
     }
 }
 
-// Whether, in residual mode, the projections are 0 or above 4,096.
-fn outside_projections(setup: Setup) -> bool
-    ensures { λ r. ⌜ r ≡ badProjections setup ⌝ }
-{
-    let mode = setup.mode;
-    let projections = setup.projections;
-    match mode {
-        TurboMode::PolarOnly => false,
-        TurboMode::PolarWithQjl => {
-            if projections == 0 {
-                return true;
-            }
-            4096 < projections
-        }
-    }
-}
-
 // How many entries the table of directions has at so many polar bits.
 fn direction_entries(bits: u8) -> usize
     requires { ⌜ bits ≤ 60 ⌝ }
@@ -234,7 +225,7 @@ fn direction_entries(bits: u8) -> usize
 // The checks of the lent tables but for the matrix's entries, under scalars that pass.
 fn check_tables(setup: Setup, signs: &[f32], directions: &[f32], matrix: &[f32]) -> Outcome
     requires { ⌜ first (scalarChecks setup) accepted ≡ accepted ⌝ }
-    ensures { λ r. ⌜ says r ≡ first (tableChecksButEntries setup (now (signs .entry)) (now (directions .entry)) (now (matrix .entry))) accepted ⌝ }
+    ensures { λ r. ⌜ says r ≡ first (tableChecksButEntries setup (lent (now (signs .entry)) (now (directions .entry)) (now (matrix .entry)))) accepted ⌝ }
 {
     let dim = setup.dim;
     let rows = counted_projections(setup);
@@ -278,7 +269,7 @@ fn check_entries(matrix: &[f32], rows: usize, columns: usize) -> Outcome
     requires { ⌜ rows * columns ≡ length (now matrix) ⌝ }
     ensures { λ r. ⌜ says r ≡ first (entryChecks (now (matrix .entry))) accepted ⌝ }
 {
-    if all_finite(matrix) {
+    if error::all_finite(matrix) {
         return Outcome::Done;
     }
     Outcome::Refused {
@@ -321,35 +312,6 @@ fn find_bad_direction(directions: &[f32]) -> usize
     let mut i = 0;
     while i < directions.len() {
         if is_bad_direction(directions[i]) {
-            return i;
-        }
-        i += 1;
-    }
-    i
-}
-
-// Whether every value is finite. The pass goes to the end, so that it is done for several values at a time.
-fn all_finite(values: &[f32]) -> bool
-    ensures { λ r. ⌜ r ≡ clear badValue (now (values .entry)) ⌝ }
-{
-    let mut ok = true;
-    let mut i = 0;
-    while i < values.len() {
-        if !float::is_finite(values[i]) {
-            ok = false;
-        }
-        i += 1;
-    }
-    ok
-}
-
-// The index of the first value that is not finite, one by one, or their number where there is none.
-fn find_non_finite(values: &[f32]) -> usize
-    ensures { λ r. ⌜ r ≡ place badValue (now (values .entry)) ⌝ }
-{
-    let mut i = 0;
-    while i < values.len() {
-        if !float::is_finite(values[i]) {
             return i;
         }
         i += 1;

@@ -1,167 +1,175 @@
 -- The answers of the three calls, case by case, from what their checks find. Assumes nothing.
-use Prim.Native.Nat.{ℕ, _/_, _≤_, _<_}
+use Prim.Native.Nat.{ℕ, _≤_, _<_}
 use mathlib.Core.Path.{_≡_, refl, sym, ap, _∙_}
+use mathlib.Core.Bool.{true, false}
 use mathlib.Core.List.{List, [], _∷_, _++_}
 use borrow.Author.Tests.{eq-eqb, ne-eqb}
 use lib.ListN.{length}
 use lib.Ieee.{Float, binary32, add}
-use Rattle.error.specs.Answer.{value, refused, Check, first, each, place, accepted, done}
-use Rattle.error.specs.Checks.{wrongInput, wrongRoom}
-use Rattle.error.proofs.Chains.{first-passed, first-done, first-append, append-left, append-passed, append-refused}
+use Rattle.error.specs.Answer.{Answer, value, refused, Check, check, first, each, place, accepted, done}
+use Rattle.error.specs.Checks.{wrongInput, wrongRoom, badValue, wrongScore}
+use Rattle.error.proofs.Chains.{first-passed, first-refused, first-done, first-append, append-left, append-passed, append-refused}
 use Rattle.error.proofs.Places.{each-offends, each-passes}
+use Rattle.rounding.specs.Rows.{projected as projectedOn}
+use Rattle.setup.specs.Lent.{Lent}
 use Rattle.setup.specs.declared.Setup.{Setup}
 use Rattle.setup.specs.declared.TurboMode.{TurboMode}
 use Rattle.setup.specs.declared.TurboMode.the-variants.{PolarOnly, PolarWithQjl}
 use Rattle.setup.specs.Setups.{byMode, countedProjectionsOf}
-use Rattle.setup.specs.Checks.{badValue, scalarChecks, tableChecks, setupChecks, directionChecks}
-use Rattle.qjl.specs.Projection.{projected}
-use Rattle.qjl.specs.Score.{wrongScore, unitResidual}
+use Rattle.setup.specs.Checks.{scalarChecks, tableChecks, setupChecks, directionChecks}
+use Rattle.qjl.specs.Score.{unitResidual}
 use Rattle.qjl.specs.Sketch.{vectorChecks}
-use Rattle.packed.specs.Layout.{pairsOf, headerOf}
-use Rattle.packed.specs.Reading.{readRecordOf, radiiOf, signsOf}
-use Rattle.turbo_order.specs.Scores.{Lent, polarPart, scoreFrom, scoreOf}
+use Rattle.packed.specs.Reading.{radiiOf, signsOf}
+use Rattle.turbo_order.specs.Scores.{accountOf, polarPart, scoreFrom, scoreOf}
 use Rattle.turbo_query.specs.Query.{rotatedQuery, projectedQuery, preparedChecks, queryChecks, prepareChecks, prepareRotatedOf, prepareProjectedOf}
-use Rattle.turbo_scoring.specs.Opening.{contentOf, openChecks}
-use Rattle.turbo_scoring.specs.Scoring.{recordScore, recordScoreChecks, recordScoreOf}
-use Rattle.turbo_scoring.proofs.Answers.{opened-read, opened-dim}
-use Rattle.turbo.specs.Estimates.{estimate, scoredChecks, estimateChecks, innerProductEstimateOf, readyChecks, innerProductEstimatePreparedOf}
+use Rattle.turbo_opening.specs.Opening.{contentOf, openChecks}
+use Rattle.turbo.specs.Scoring.{recordScore, recordScoreChecks}
+use Rattle.turbo.specs.Inner.{joined, recordScoreOf, lengthsAndValues}
+use Rattle.turbo.specs.Estimates.{readingChecks, innerProductEstimatePhasedOf, estimate, scoredChecks, estimateChecks, innerProductEstimateOf, readyChecks, innerProductEstimatePreparedOf}
 use Rattle.turbo.specs.Distance.{apart, cutAtZero, distance, l2DistanceEstimateOf}
-use Rattle.turbo.proofs.Demand.{scored-open, scored-estimate}
+use Rattle.turbo.proofs.Demand.{scored-estimate}
 
--- without residual the rows are not read, and with it every projection counts
+-- without residual the projected query is not read, and with it every projection counts
 either-rows : (mode : TurboMode) (alone : Float) (residual : ℕ → Float) (m : ℕ) → byMode mode alone (residual m) ≡ byMode mode alone (residual (byMode mode 0 m))
 either-rows PolarOnly alone residual m = refl
 either-rows PolarWithQjl alone residual m = refl
 
+-- an answer at the end of a chain, without the phase
+joined-first : {A : Type 0} (cs : List Check) (a : Answer A) → joined (first cs (value a)) ≡ first cs a
+joined-first [] a = refl
+joined-first (check true n p ∷ cs) a = refl
+joined-first (check false n p ∷ cs) a = joined-first cs a
+
 -- ---- by a query
 
-module _ (s : Setup) (l : Lent) (bytes : List ℕ) where
+module _ (s : Setup) (l : Lent) (query : List Float) (bytes : List ℕ) where
   -- the score is the one of the query rotated and projected
-  pub estimate-record : estimate s l bytes ≡ recordScore s (l .directions) (rotatedQuery s (l .signs) (l .query)) (projectedQuery s (l .matrix) (l .query)) bytes
+  pub estimate-record : estimate s l query bytes ≡ recordScore s (l .directions) (rotatedQuery s l query) (projectedQuery s l query) bytes
   unfolding scoreOf scoreFrom
   estimate-record =
-      either-rows (s .mode) (polarPart s l (contentOf bytes))
-      (λ k. add binary32 (polarPart s l (contentOf bytes)) (unitResidual (s .projections) (projected (s .dim) k (l .matrix) (l .query)) (signsOf bytes)))
+      either-rows (s .mode) (polarPart (accountOf s l query) l (contentOf bytes))
+      (λ k. add binary32 (polarPart (accountOf s l query) l (contentOf bytes)) (unitResidual (s .projections) (projectedOn (s .dim) k (l .matrix) query) (signsOf bytes)))
       (s .projections)
 
-  pub estimate-refused : {n p : ℕ} → first (queryChecks s (l .signs) (l .directions) (l .matrix) (l .query)) accepted ≡ refused n p → innerProductEstimateOf s l bytes ≡ refused n p
-  unfolding innerProductEstimateOf
-  estimate-refused e =
-      append-refused (scoredChecks s l bytes) (wrongScore (estimate s l bytes) ∷ []) tt (value (estimate s l bytes))
-      (append-refused (queryChecks s (l .signs) (l .directions) (l .matrix) (l .query)) (openChecks s bytes) tt accepted e)
+  pub phased-refused : {n p : ℕ} → first (queryChecks s l query) accepted ≡ refused n p → innerProductEstimatePhasedOf s l query bytes ≡ refused n p
+  unfolding innerProductEstimatePhasedOf
+  phased-refused e = first-refused (queryChecks s l query) _ e
 
-  pub estimate-passed : first (queryChecks s (l .signs) (l .directions) (l .matrix) (l .query)) accepted ≡ accepted
-      → innerProductEstimateOf s l bytes ≡ recordScoreOf s (l .directions) (rotatedQuery s (l .signs) (l .query)) (projectedQuery s (l .matrix) (l .query)) bytes
-  unfolding innerProductEstimateOf recordScoreOf
-  estimate-passed e =
-      let last = first (wrongScore (estimate s l bytes) ∷ []) (value (estimate s l bytes)) in
-      first-append (scoredChecks s l bytes) (wrongScore (estimate s l bytes) ∷ []) (value (estimate s l bytes))
-      ∙ append-passed (queryChecks s (l .signs) (l .directions) (l .matrix) (l .query)) (openChecks s bytes) tt last e
-      ∙ sym (first-append (openChecks s bytes) (wrongScore (estimate s l bytes) ∷ []) (value (estimate s l bytes)))
-      ∙ ap (λ (x : Float). first (openChecks s bytes ++ (wrongScore x ∷ [])) (value x)) estimate-record
+  pub phased-passed : first (queryChecks s l query) accepted ≡ accepted
+      → innerProductEstimatePhasedOf s l query bytes ≡ value (recordScoreOf s (l .directions) (rotatedQuery s l query) (projectedQuery s l query) bytes)
+  unfolding innerProductEstimatePhasedOf recordScoreOf
+  phased-passed e =
+      first-passed (queryChecks s l query) _ e
+      ∙ ap (λ (x : Float). value (first (openChecks s bytes ++ (wrongScore x ∷ [])) (value x))) estimate-record
+
+  -- without the phase it is the estimate
+  pub phased-joined : joined (innerProductEstimatePhasedOf s l query bytes) ≡ innerProductEstimateOf s l query bytes
+  unfolding innerProductEstimatePhasedOf innerProductEstimateOf
+  phased-joined =
+      let last = first (wrongScore (estimate s l query bytes) ∷ []) (value (estimate s l query bytes)) in
+      joined-first (queryChecks s l query) (first (readingChecks s l query bytes) (value (estimate s l query bytes)))
+      ∙ ap (first (queryChecks s l query)) (first-append (openChecks s bytes) (wrongScore (estimate s l query bytes) ∷ []) (value (estimate s l query bytes)))
+      ∙ sym (first-append (queryChecks s l query) (openChecks s bytes) last)
+      ∙ sym (first-append (scoredChecks s l query bytes) (wrongScore (estimate s l query bytes) ∷ []) (value (estimate s l query bytes)))
+
+  pub estimate-passed : first (queryChecks s l query) accepted ≡ accepted
+      → innerProductEstimateOf s l query bytes ≡ recordScoreOf s (l .directions) (rotatedQuery s l query) (projectedQuery s l query) bytes
+  estimate-passed e = sym phased-joined ∙ ap joined (phased-passed e)
 
 -- the scalars are judged first
-pub query-scalars : (s : Setup) (signs directions matrix query : List Float) {n p : ℕ} → first (scalarChecks s) accepted ≡ refused n p → first (queryChecks s signs directions matrix query) accepted ≡ refused n p
-query-scalars s signs directions matrix query e =
-    append-refused (vectorChecks s signs directions matrix query) (preparedChecks s signs matrix query) tt accepted
-    (append-refused (setupChecks s signs directions matrix) (wrongInput (length query) (s .dim) ∷ each badValue 11 query ∷ []) tt accepted
-    (append-refused (scalarChecks s) (tableChecks s signs directions matrix) tt accepted e))
+pub query-scalars : (s : Setup) (l : Lent) (query : List Float) {n p : ℕ} → first (scalarChecks s) accepted ≡ refused n p → first (queryChecks s l query) accepted ≡ refused n p
+query-scalars s l query e =
+    append-refused (vectorChecks s l query) (preparedChecks s l query) tt accepted
+    (append-refused (setupChecks s l) (wrongInput (length query) (s .dim) ∷ each badValue 11 query ∷ []) tt accepted
+    (append-refused (scalarChecks s) (tableChecks s l) tt accepted e))
 
 -- ---- what preparing a query has answered
 
-module _ (s : Setup) (signs directions matrix query : List Float) (room space : ℕ) where
-  prepared-done : done (prepareRotatedOf s signs directions matrix query room space) ≡ first (prepareChecks s signs directions matrix query room space) accepted
+module _ (s : Setup) (l : Lent) (query : List Float) (room space : ℕ) where
+  prepared-done : done (prepareRotatedOf s l query room space) ≡ first (prepareChecks s l query room space) accepted
   unfolding prepareRotatedOf
-  prepared-done = first-done (prepareChecks s signs directions matrix query room space) (rotatedQuery s signs query)
+  prepared-done = first-done (prepareChecks s l query room space) (rotatedQuery s l query)
 
-  module _ (e : done (prepareRotatedOf s signs directions matrix query room space) ≡ accepted) where
-    pub prepare-passed : first (queryChecks s signs directions matrix query) accepted ≡ accepted
-    prepare-passed = append-left (queryChecks s signs directions matrix query) (wrongRoom room (s .dim) ∷ wrongRoom space (countedProjectionsOf s) ∷ []) accepted (sym prepared-done ∙ e)
+  module _ (e : done (prepareRotatedOf s l query room space) ≡ accepted) where
+    pub prepare-passed : first (queryChecks s l query) accepted ≡ accepted
+    prepare-passed = append-left (queryChecks s l query) (wrongRoom room (s .dim) ∷ wrongRoom space (countedProjectionsOf s) ∷ []) accepted (sym prepared-done ∙ e)
 
-    pub prepare-turned : prepareRotatedOf s signs directions matrix query room space ≡ value (rotatedQuery s signs query)
+    pub prepare-rotated : prepareRotatedOf s l query room space ≡ value (rotatedQuery s l query)
     unfolding prepareRotatedOf
-    prepare-turned = first-passed (prepareChecks s signs directions matrix query room space) (value (rotatedQuery s signs query)) (sym prepared-done ∙ e)
+    prepare-rotated = first-passed (prepareChecks s l query room space) (value (rotatedQuery s l query)) (sym prepared-done ∙ e)
 
-    pub prepare-rows : prepareProjectedOf s signs directions matrix query room space ≡ value (projectedQuery s matrix query)
+    pub prepare-projected : prepareProjectedOf s l query room space ≡ value (projectedQuery s l query)
     unfolding prepareProjectedOf
-    prepare-rows = first-passed (prepareChecks s signs directions matrix query room space) (value (projectedQuery s matrix query)) (sym prepared-done ∙ e)
+    prepare-projected = first-passed (prepareChecks s l query room space) (value (projectedQuery s l query)) (sym prepared-done ∙ e)
 
   -- into room of the right length only the query is refused
-  pub prepare-refused : {n p : ℕ} → room ≡ s .dim → space ≡ countedProjectionsOf s → done (prepareRotatedOf s signs directions matrix query room space) ≡ refused n p
-      → first (queryChecks s signs directions matrix query) accepted ≡ refused n p
+  pub prepare-refused : {n p : ℕ} → room ≡ s .dim → space ≡ countedProjectionsOf s → done (prepareRotatedOf s l query room space) ≡ refused n p
+      → first (queryChecks s l query) accepted ≡ refused n p
   prepare-refused r t e =
       let fits : first (wrongRoom room (s .dim) ∷ wrongRoom space (countedProjectionsOf s) ∷ []) accepted ≡ accepted = simp (eq-eqb room (s .dim) r, eq-eqb space (countedProjectionsOf s) t) in
-      sym (ap (first (queryChecks s signs directions matrix query)) fits)
-      ∙ sym (first-append (queryChecks s signs directions matrix query) (wrongRoom room (s .dim) ∷ wrongRoom space (countedProjectionsOf s) ∷ []) accepted)
+      sym (ap (first (queryChecks s l query)) fits)
+      ∙ sym (first-append (queryChecks s l query) (wrongRoom room (s .dim) ∷ wrongRoom space (countedProjectionsOf s) ∷ []) accepted)
       ∙ sym prepared-done
       ∙ e
 
 -- ---- by a prepared query
 
-module _ (s : Setup) (directions turned rows : List Float) where
-  abbrev pub lengthsAndValues : List Check
-  lengthsAndValues = wrongInput (length turned) (s .dim) ∷ wrongInput (length rows) (countedProjectionsOf s) ∷ each badValue 11 turned ∷ each badValue 11 rows ∷ []
+module _ (s : Setup) (rotated projected : List Float) where
+  pub lengths-rotated : (length rotated ≡ s .dim → ⊥) → first (lengthsAndValues s rotated projected) accepted ≡ refused 5 (length rotated)
+  lengths-rotated h = simp (ne-eqb (length rotated) (s .dim) h)
 
-  pub ready-scalars : {n p : ℕ} → first (scalarChecks s) accepted ≡ refused n p → first (readyChecks s directions turned rows) accepted ≡ refused n p
-  ready-scalars e = append-refused (scalarChecks s) (directionChecks s directions ++ lengthsAndValues) tt accepted e
+  module _ (long : length rotated ≡ s .dim) where
+    pub lengths-projected : {m : ℕ} → m ≡ countedProjectionsOf s → (length projected ≡ m → ⊥) → first (lengthsAndValues s rotated projected) accepted ≡ refused 5 (length projected)
+    lengths-projected c h = simp (eq-eqb (length rotated) (s .dim) long, ne-eqb (length projected) (countedProjectionsOf s) (λ f. h (f ∙ sym c)))
+
+    module _ {m : ℕ} (counted : m ≡ countedProjectionsOf s) (many : length projected ≡ m) where
+      pub values-rotated : {i : ℕ} → i ≡ place badValue rotated → i < length rotated → first (lengthsAndValues s rotated projected) accepted ≡ refused 11 i
+      values-rotated p h = simp (eq-eqb (length rotated) (s .dim) long, eq-eqb (length projected) (countedProjectionsOf s) (many ∙ counted), each-offends badValue rotated p h, p)
+
+      module _ {i : ℕ} (p : i ≡ place badValue rotated) (h : length rotated ≤ i) where
+        pub values-projected : {j : ℕ} → j ≡ place badValue projected → j < length projected → first (lengthsAndValues s rotated projected) accepted ≡ refused 11 j
+        values-projected q k = simp (eq-eqb (length rotated) (s .dim) long, eq-eqb (length projected) (countedProjectionsOf s) (many ∙ counted), each-passes badValue rotated p h, each-offends badValue projected q k, q)
+
+        pub values-passed : {j : ℕ} → j ≡ place badValue projected → length projected ≤ j → first (lengthsAndValues s rotated projected) accepted ≡ accepted
+        values-passed q k = simp (eq-eqb (length rotated) (s .dim) long, eq-eqb (length projected) (countedProjectionsOf s) (many ∙ counted), each-passes badValue rotated p h, each-passes badValue projected q k)
+
+module _ (s : Setup) (directions rotated projected : List Float) where
+  pub ready-scalars : {n p : ℕ} → first (scalarChecks s) accepted ≡ refused n p → first (readyChecks s directions rotated projected) accepted ≡ refused n p
+  ready-scalars e = append-refused (scalarChecks s) (directionChecks s directions ++ lengthsAndValues s rotated projected) tt accepted e
+
+  pub ready-usable : first (readyChecks s directions rotated projected) accepted ≡ accepted → first (scalarChecks s) accepted ≡ accepted
+  ready-usable e = append-left (scalarChecks s) (directionChecks s directions ++ lengthsAndValues s rotated projected) accepted e
 
   module _ (scalars : first (scalarChecks s) accepted ≡ accepted) where
-    ready-after : first (readyChecks s directions turned rows) accepted ≡ first (directionChecks s directions ++ lengthsAndValues) accepted
-    ready-after = append-passed (scalarChecks s) (directionChecks s directions ++ lengthsAndValues) tt accepted scalars
+    ready-after : first (readyChecks s directions rotated projected) accepted ≡ first (directionChecks s directions ++ lengthsAndValues s rotated projected) accepted
+    ready-after = append-passed (scalarChecks s) (directionChecks s directions ++ lengthsAndValues s rotated projected) tt accepted scalars
 
-    pub ready-directions : {n p : ℕ} → first (directionChecks s directions) accepted ≡ refused n p → first (readyChecks s directions turned rows) accepted ≡ refused n p
-    ready-directions e = ready-after ∙ append-refused (directionChecks s directions) lengthsAndValues tt accepted e
+    pub ready-directions : {n p : ℕ} → first (directionChecks s directions) accepted ≡ refused n p → first (readyChecks s directions rotated projected) accepted ≡ refused n p
+    ready-directions e = ready-after ∙ append-refused (directionChecks s directions) (lengthsAndValues s rotated projected) tt accepted e
 
-    module _ (table : first (directionChecks s directions) accepted ≡ accepted) where
-      pub ready-rest : first (readyChecks s directions turned rows) accepted ≡ first lengthsAndValues accepted
-      ready-rest = ready-after ∙ append-passed (directionChecks s directions) lengthsAndValues tt accepted table
-
-      pub ready-turned : (length turned ≡ s .dim → ⊥) → first (readyChecks s directions turned rows) accepted ≡ refused 5 (length turned)
-      ready-turned h = ready-rest ∙ simp (ne-eqb (length turned) (s .dim) h)
-
-      module _ (long : length turned ≡ s .dim) where
-        pub ready-rows : {m : ℕ} → m ≡ countedProjectionsOf s → (length rows ≡ m → ⊥) → first (readyChecks s directions turned rows) accepted ≡ refused 5 (length rows)
-        ready-rows c h = ready-rest ∙ simp (eq-eqb (length turned) (s .dim) long, ne-eqb (length rows) (countedProjectionsOf s) (λ f. h (f ∙ sym c)))
-
-        module _ {m : ℕ} (counted : m ≡ countedProjectionsOf s) (many : length rows ≡ m) where
-          pub ready-turned-entry : {i : ℕ} → i ≡ place badValue turned → i < length turned → first (readyChecks s directions turned rows) accepted ≡ refused 11 i
-          ready-turned-entry p h = ready-rest ∙ simp (eq-eqb (length turned) (s .dim) long, eq-eqb (length rows) (countedProjectionsOf s) (many ∙ counted), each-offends badValue turned p h, p)
-
-          module _ {i : ℕ} (p : i ≡ place badValue turned) (h : length turned ≤ i) where
-            pub ready-rows-entry : {j : ℕ} → j ≡ place badValue rows → j < length rows → first (readyChecks s directions turned rows) accepted ≡ refused 11 j
-            ready-rows-entry q k = ready-rest ∙ simp (eq-eqb (length turned) (s .dim) long, eq-eqb (length rows) (countedProjectionsOf s) (many ∙ counted), each-passes badValue turned p h, each-offends badValue rows q k, q)
-
-            pub ready-passed : {j : ℕ} → j ≡ place badValue rows → length rows ≤ j → first (readyChecks s directions turned rows) accepted ≡ accepted
-            ready-passed q k = ready-rest ∙ simp (eq-eqb (length turned) (s .dim) long, eq-eqb (length rows) (countedProjectionsOf s) (many ∙ counted), each-passes badValue turned p h, each-passes badValue rows q k)
+    pub ready-rest : first (directionChecks s directions) accepted ≡ accepted → first (readyChecks s directions rotated projected) accepted ≡ first (lengthsAndValues s rotated projected) accepted
+    ready-rest table = ready-after ∙ append-passed (directionChecks s directions) (lengthsAndValues s rotated projected) tt accepted table
 
   module _ (bytes : List ℕ) where
-    pub prepared-refused : {n p : ℕ} → first (readyChecks s directions turned rows) accepted ≡ refused n p → innerProductEstimatePreparedOf s directions turned rows bytes ≡ refused n p
+    pub prepared-refused : {n p : ℕ} → first (readyChecks s directions rotated projected) accepted ≡ refused n p → innerProductEstimatePreparedOf s directions rotated projected bytes ≡ refused n p
     unfolding innerProductEstimatePreparedOf
-    prepared-refused e = append-refused (readyChecks s directions turned rows) (recordScoreChecks s directions turned rows bytes) tt (value (recordScore s directions turned rows bytes)) e
+    prepared-refused e = append-refused (readyChecks s directions rotated projected) (recordScoreChecks s directions rotated projected bytes) tt (value (recordScore s directions rotated projected bytes)) e
 
-    pub prepared-passed : first (readyChecks s directions turned rows) accepted ≡ accepted → innerProductEstimatePreparedOf s directions turned rows bytes ≡ recordScoreOf s directions turned rows bytes
+    pub prepared-passed : first (readyChecks s directions rotated projected) accepted ≡ accepted → innerProductEstimatePreparedOf s directions rotated projected bytes ≡ recordScoreOf s directions rotated projected bytes
     unfolding innerProductEstimatePreparedOf recordScoreOf
-    prepared-passed e = append-passed (readyChecks s directions turned rows) (recordScoreChecks s directions turned rows bytes) tt (value (recordScore s directions turned rows bytes)) e
+    prepared-passed e = append-passed (readyChecks s directions rotated projected) (recordScoreChecks s directions rotated projected bytes) tt (value (recordScore s directions rotated projected bytes)) e
 
 -- ---- the distance
 
-module _ (s : Setup) (l : Lent) (bytes : List ℕ) where
-  pub distance-refused : {n p : ℕ} → innerProductEstimateOf s l bytes ≡ refused n p → l2DistanceEstimateOf s l bytes ≡ refused n p
+module _ (s : Setup) (l : Lent) (query : List Float) (bytes : List ℕ) where
+  pub distance-refused : {n p : ℕ} → innerProductEstimateOf s l query bytes ≡ refused n p → l2DistanceEstimateOf s l query bytes ≡ refused n p
   unfolding innerProductEstimateOf l2DistanceEstimateOf
-  distance-refused e = append-refused (estimateChecks s l bytes) (wrongScore (distance s l bytes) ∷ []) (estimate s l bytes) (value (distance s l bytes)) e
+  distance-refused e = append-refused (estimateChecks s l query bytes) (wrongScore (distance s l query bytes) ∷ []) (estimate s l query bytes) (value (distance s l query bytes)) e
 
   -- the score is known: the cut distance by it, or 12
-  pub distance-scored : {x : Float} → innerProductEstimateOf s l bytes ≡ value x
-      → l2DistanceEstimateOf s l bytes ≡ first (wrongScore (cutAtZero (apart (l .query) (radiiOf bytes) x)) ∷ []) (value (cutAtZero (apart (l .query) (radiiOf bytes) x)))
+  pub distance-scored : {x : Float} → innerProductEstimateOf s l query bytes ≡ value x
+      → l2DistanceEstimateOf s l query bytes ≡ first (wrongScore (cutAtZero (apart query (radiiOf bytes) x)) ∷ []) (value (cutAtZero (apart query (radiiOf bytes) x)))
   unfolding innerProductEstimateOf l2DistanceEstimateOf
   distance-scored e =
-      append-passed (estimateChecks s l bytes) (wrongScore (distance s l bytes) ∷ []) (estimate s l bytes) (value (distance s l bytes)) e
-      ∙ ap (λ (y : Float). first (wrongScore (cutAtZero (apart (l .query) (radiiOf bytes) y)) ∷ []) (value (cutAtZero (apart (l .query) (radiiOf bytes) y)))) (scored-estimate s l bytes e)
-
-  -- the radii are read again, as many as the setup has pairs
-  module _ {x : Float} (scored : innerProductEstimateOf s l bytes ≡ value x) where
-    pub scored-read : readRecordOf bytes ≡ value (headerOf bytes)
-    scored-read = opened-read s bytes (scored-open s l bytes scored)
-
-    pub scored-half : s .dim / 2 ≡ pairsOf bytes
-    scored-half = ap (λ (n : ℕ). n / 2) (sym (opened-dim s bytes (scored-open s l bytes scored)))
+      append-passed (estimateChecks s l query bytes) (wrongScore (distance s l query bytes) ∷ []) (estimate s l query bytes) (value (distance s l query bytes)) e
+      ∙ ap (λ (y : Float). first (wrongScore (cutAtZero (apart query (radiiOf bytes) y)) ∷ []) (value (cutAtZero (apart query (radiiOf bytes) y)))) (scored-estimate s l query bytes e)

@@ -14,43 +14,47 @@ use Rattle.error.proofs.Chains.{first-passed, first-passes, first-value, append
 use Rattle.rounding.specs.Signed.{Near, Under}
 use Rattle.rounding.specs.Sums.{AllFit}
 use Rattle.rounding.proofs.Folds.{all-fit-from}
+use Rattle.setup.specs.Lent.{Lent}
 use Rattle.setup.specs.declared.Setup.{Setup}
-use Rattle.qjl.specs.Score.{wrongScore}
+use Rattle.error.specs.Checks.{wrongScore}
 use Rattle.qjl.specs.Sketch.{vectorChecks}
 use Rattle.qjl.proofs.Answers.{vector-setup, vector-rowed}
 use Rattle.packed.specs.Layout.{headerOf}
 use Rattle.packed.specs.Reading.{radiiOf}
 use Rattle.packed.proofs.Payloads.{length-radiiOf}
 use Rattle.packed.proofs.Radii.{radii-fit, length-signsOf, signs-good}
-use Rattle.turbo_order.specs.Scores.{Lent}
+use Rattle.turbo_order.specs.Account.{Sound}
+use Rattle.turbo_order.specs.Scores.{accountOf, scoreOf}
 use Rattle.turbo_order.proofs.Within.{Scorable, score-within, scores-ordered}
+use Rattle.turbo_order.proofs.Hadamard.{hadamard-sound}
 use Rattle.turbo_query.specs.Query.{preparedChecks, queryChecks}
-use Rattle.turbo_scoring.specs.Opening.{contentOf, openChecks, openRecordOf}
-use Rattle.turbo_scoring.proofs.Answers.{opened-accepted, opened-dim, opened-projections}
+use Rattle.turbo_opening.specs.Opening.{contentOf, openChecks}
+use Rattle.turbo_opening.specs.Inner.{openedOf}
+use Rattle.turbo_opening.proofs.Answers.{opened-accepted, opened-dim, opened-projections}
 use Rattle.turbo.specs.Estimates.{estimate, scoredChecks, innerProductEstimateOf}
 use Rattle.turbo.specs.Order.{IsScored, atScale, exactOf, boundFor, Demand}
 
 -- ---- a record that is scored
 
-module _ (s : Setup) (l : Lent) (bytes : List ℕ) {x : Float} (scored : IsScored s l bytes x) where
-  scored-clear : first (scoredChecks s l bytes) accepted ≡ accepted
+module _ (s : Setup) (l : Lent) (query : List Float) (bytes : List ℕ) {x : Float} (scored : IsScored s l query bytes x) where
+  scored-clear : first (scoredChecks s l query bytes) accepted ≡ accepted
   unfolding innerProductEstimateOf
-  scored-clear = append-left (scoredChecks s l bytes) (wrongScore (estimate s l bytes) ∷ []) (value (estimate s l bytes)) scored
+  scored-clear = append-left (scoredChecks s l query bytes) (wrongScore (estimate s l query bytes) ∷ []) (value (estimate s l query bytes)) scored
 
   -- the checks of the setup and the query pass
-  pub scored-query : first (queryChecks s (l .signs) (l .directions) (l .matrix) (l .query)) accepted ≡ accepted
-  scored-query = append-left (queryChecks s (l .signs) (l .directions) (l .matrix) (l .query)) (openChecks s bytes) accepted scored-clear
+  pub scored-query : first (queryChecks s l query) accepted ≡ accepted
+  scored-query = append-left (queryChecks s l query) (openChecks s bytes) accepted scored-clear
 
-  scored-vector : first (vectorChecks s (l .signs) (l .directions) (l .matrix) (l .query)) accepted ≡ accepted
-  scored-vector = append-left (vectorChecks s (l .signs) (l .directions) (l .matrix) (l .query)) (preparedChecks s (l .signs) (l .matrix) (l .query)) accepted scored-query
+  scored-vector : first (vectorChecks s l query) accepted ≡ accepted
+  scored-vector = append-left (vectorChecks s l query) (preparedChecks s l query) accepted scored-query
 
   -- and those of the record
   scored-opened : first (openChecks s bytes) accepted ≡ accepted
-  scored-opened = append-right (queryChecks s (l .signs) (l .directions) (l .matrix) (l .query)) (openChecks s bytes) accepted scored-clear
+  scored-opened = append-right (queryChecks s l query) (openChecks s bytes) accepted scored-clear
 
   -- the record is opened, which needs every check of the reader
-  pub scored-open : openRecordOf s bytes ≡ value (headerOf bytes)
-  unfolding openRecordOf
+  pub scored-open : openedOf s bytes ≡ value (headerOf bytes)
+  unfolding openedOf
   scored-open = first-passed (openChecks s bytes) (value (headerOf bytes)) scored-opened
 
   -- two coordinates for each radius
@@ -58,28 +62,33 @@ module _ (s : Setup) (l : Lent) (bytes : List ℕ) {x : Float} (scored : IsScore
   scored-pairs = omega (arith, length-radiiOf bytes, opened-accepted s bytes scored-open .even, opened-dim s bytes scored-open)
 
   -- what is answered is the record's score
-  pub scored-estimate : estimate s l bytes ≡ x
+  pub scored-estimate : estimate s l query bytes ≡ x
   unfolding innerProductEstimateOf
-  scored-estimate = first-value (scoredChecks s l bytes ++ (wrongScore (estimate s l bytes) ∷ [])) (estimate s l bytes) scored
+  scored-estimate = first-value (scoredChecks s l query bytes ++ (wrongScore (estimate s l query bytes) ∷ [])) (estimate s l query bytes) scored
 
   -- '12: a score .. is not finite' is not answered
-  pub scored-finite : T (finite (estimate s l bytes))
+  pub scored-finite : T (finite (estimate s l query bytes))
   unfolding innerProductEstimateOf
   scored-finite =
-      let last = append-right (scoredChecks s l bytes) (wrongScore (estimate s l bytes) ∷ []) (value (estimate s l bytes)) scored in
-      let known = not-false (finite (estimate s l bytes)) (first-passes (wrongScore (estimate s l bytes) ∷ []) (estimate s l bytes) last .0) in
+      let last = append-right (scoredChecks s l query bytes) (wrongScore (estimate s l query bytes) ∷ []) (value (estimate s l query bytes)) scored in
+      let known = not-false (finite (estimate s l query bytes)) (first-passes (wrongScore (estimate s l query bytes) ∷ []) (estimate s l query bytes) last .0) in
       rw known tt
 
-  module _ (signs-fit : AllFit (l .signs)) (directions-fit : AllFit (l .directions)) (matrix-fit : AllFit (l .matrix)) (query-fit : AllFit (l .query)) where
-    pub scored-scorable : Scorable s l (contentOf bytes)
+  module _ (signs-fit : AllFit (l .signs)) (directions-fit : AllFit (l .directions)) (matrix-fit : AllFit (l .matrix)) (query-fit : AllFit query) where
+    scored-sound : Sound (s .dim) (accountOf s l query)
+    scored-sound =
+        hadamard-sound s l query (vector-setup s l query scored-vector)
+        (vector-rowed s l query scored-vector .query-long) signs-fit query-fit
+
+    scored-scorable : Scorable s l query (contentOf bytes)
     scored-scorable =
+        let setup = vector-setup s l query scored-vector in
         record {
-          accepted = vector-setup s (l .signs) (l .directions) (l .matrix) (l .query) scored-vector;
-          signs-fit = signs-fit;
+          usable = setup .usable;
+          table = setup .table;
           directions-fit = directions-fit;
           matrix-fit = matrix-fit;
           query-fit = query-fit;
-          query-long = vector-rowed s (l .signs) (l .directions) (l .matrix) (l .query) scored-vector .query-long;
           radii-fit = all-fit-from (radiiOf bytes) nan (radii-fit bytes);
           radii-long = scored-pairs;
           marks-long = length-signsOf bytes ∙ opened-projections s bytes scored-open;
@@ -88,16 +97,20 @@ module _ (s : Setup) (l : Lent) (bytes : List ℕ) {x : Float} (scored : IsScore
 
 -- ---- demand 3
 
-module _ (s : Setup) (l : Lent) (signs-fit : AllFit (l .signs)) (directions-fit : AllFit (l .directions)) (matrix-fit : AllFit (l .matrix)) (query-fit : AllFit (l .query)) where
-  demand-within : (bytes : List ℕ) (x : Float) → IsScored s l bytes x → Near (atScale x) (exactOf s l bytes) (boundFor s l bytes)
+module _ (s : Setup) (l : Lent) (query : List Float) (signs-fit : AllFit (l .signs)) (directions-fit : AllFit (l .directions)) (matrix-fit : AllFit (l .matrix)) (query-fit : AllFit query) where
+  demand-within : (bytes : List ℕ) (x : Float) → IsScored s l query bytes x → Near (atScale x) (exactOf s l query bytes) (boundFor s l query bytes)
+  unfolding scoreOf
   demand-within bytes x scored =
-      subst (λ (y : Float). Near (atScale y) (exactOf s l bytes) (boundFor s l bytes)) (scored-estimate s l bytes scored)
-      (score-within s l (contentOf bytes) (scored-scorable s l bytes scored signs-fit directions-fit matrix-fit query-fit) (scored-finite s l bytes scored))
+      subst (λ (y : Float). Near (atScale y) (exactOf s l query bytes) (boundFor s l query bytes)) (scored-estimate s l query bytes scored)
+      (score-within (accountOf s l query) s l query (contentOf bytes) (scored-sound s l query bytes scored signs-fit directions-fit matrix-fit query-fit)
+      (scored-scorable s l query bytes scored signs-fit directions-fit matrix-fit query-fit) (scored-finite s l query bytes scored))
 
-  demand-ordered : (low high : List ℕ) (x y : Float) → IsScored s l low x → IsScored s l high y → Under (boundFor s l low + boundFor s l high) (atScale x) (atScale y) → Under 0 (exactOf s l low) (exactOf s l high)
+  demand-ordered : (low high : List ℕ) (x y : Float) → IsScored s l query low x → IsScored s l query high y → Under (boundFor s l query low + boundFor s l query high) (atScale x) (atScale y) → Under 0 (exactOf s l query low) (exactOf s l query high)
+  unfolding scoreOf
   demand-ordered low high x y below above apart =
-      scores-ordered s l (contentOf low) (contentOf high) (scored-scorable s l low below signs-fit directions-fit matrix-fit query-fit) (scored-scorable s l high above signs-fit directions-fit matrix-fit query-fit) (scored-finite s l low below) (scored-finite s l high above)
-      (rw (scored-estimate s l low below, scored-estimate s l high above) apart)
+      scores-ordered (accountOf s l query) s l query (contentOf low) (contentOf high) (scored-sound s l query low below signs-fit directions-fit matrix-fit query-fit)
+      (scored-scorable s l query low below signs-fit directions-fit matrix-fit query-fit) (scored-scorable s l query high above signs-fit directions-fit matrix-fit query-fit) (scored-finite s l query low below) (scored-finite s l query high above)
+      (rw (scored-estimate s l query low below, scored-estimate s l query high above) apart)
 
-  pub demand : Demand s l
+  pub demand : Demand s l query
   demand = record { within = demand-within; ordered = demand-ordered }

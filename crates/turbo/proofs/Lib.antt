@@ -1,3 +1,4 @@
+pub mod Scoring
 pub mod Demand
 pub mod Answers
 pub mod Prepared

@@ -7,11 +7,11 @@ use lib.IntN.{pos}
 use lib.Ieee.{Float, fin, binary32, add, sub, mul, lt}
 use Rattle.error.specs.Answer.{Answer, value, first}
 use Rattle.rounding.specs.Sums.{dot}
-use Rattle.rounding.specs.Value.{posZero}
+use Rattle.float.specs.Constants.{posZero}
+use Rattle.setup.specs.Lent.{Lent}
 use Rattle.setup.specs.declared.Setup.{Setup}
-use Rattle.qjl.specs.Score.{wrongScore}
+use Rattle.error.specs.Checks.{wrongScore}
 use Rattle.packed.specs.Reading.{radiiOf}
-use Rattle.turbo_order.specs.Scores.{Lent}
 use Rattle.turbo.specs.Estimates.{estimate, estimateChecks}
 
 -- a squared norm: 'Sums run in index order from +0.0.'
@@ -26,8 +26,8 @@ apart query radii score = sub binary32 (add binary32 (squaredNorm query) (square
 unfoldable pub cutAtZero : Float → Float
 cutAtZero x = cond (lt posZero x) x posZero
 
-abbrev pub distance : Setup → Lent → List ℕ → Float
-distance s l bytes = cutAtZero (apart (l .query) (radiiOf bytes) (estimate s l bytes))
+abbrev pub distance : Setup → Lent → List Float → List ℕ → Float
+distance s l query bytes = cutAtZero (apart query (radiiOf bytes) (estimate s l query bytes))
 
-unfoldable pub l2DistanceEstimateOf : Setup → Lent → List ℕ → Answer Float
-l2DistanceEstimateOf s l bytes = first (estimateChecks s l bytes ++ (wrongScore (distance s l bytes) ∷ [])) (value (distance s l bytes))
+unfoldable pub l2DistanceEstimateOf : Setup → Lent → List Float → List ℕ → Answer Float
+l2DistanceEstimateOf s l query bytes = first (estimateChecks s l query bytes ++ (wrongScore (distance s l query bytes) ∷ [])) (value (distance s l query bytes))

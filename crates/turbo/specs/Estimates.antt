@@ -4,47 +4,64 @@ use Prim.Native.Nat.{ℕ}
 use mathlib.Core.List.{List, [], _∷_, _++_}
 use lib.ListN.{length}
 use lib.Ieee.{Float}
-use Rattle.error.specs.Answer.{Answer, value, Check, first, each}
-use Rattle.error.specs.Checks.{wrongInput}
+use Rattle.error.specs.Answer.{Answer, value, refused, Check, first, each}
+use Rattle.error.specs.Checks.{wrongInput, badValue, wrongScore}
+use Rattle.setup.specs.Lent.{Lent}
 use Rattle.setup.specs.declared.Setup.{Setup}
 use Rattle.setup.specs.Setups.{countedProjectionsOf}
-use Rattle.setup.specs.Checks.{badValue, scalarChecks, directionChecks}
-use Rattle.qjl.specs.Score.{wrongScore}
-use Rattle.turbo_order.specs.Scores.{Lent, scoreOf}
+use Rattle.setup.specs.Checks.{scalarChecks, directionChecks}
+use Rattle.turbo_order.specs.Scores.{scoreOf}
 use Rattle.turbo_query.specs.Query.{queryChecks}
-use Rattle.turbo_scoring.specs.Opening.{contentOf, openChecks}
-use Rattle.turbo_scoring.specs.Scoring.{recordScore, recordScoreChecks}
+use Rattle.turbo_opening.specs.Opening.{contentOf, openChecks}
+use Rattle.turbo.specs.declared.Phased.{Phased}
+use Rattle.turbo.specs.declared.Phased.the-variants.{Score, BeforeReading, FromReading}
+use Rattle.turbo.specs.Scoring.{recordScore, recordScoreChecks}
 
 -- ---- by a query
 
 -- the score of a record's bytes
-abbrev pub estimate : Setup → Lent → List ℕ → Float
-estimate s l bytes = scoreOf s l (contentOf bytes)
+abbrev pub estimate : Setup → Lent → List Float → List ℕ → Float
+estimate s l query bytes = scoreOf s l query (contentOf bytes)
 
 -- 'setup, query length 5, query 11, rotated 11, projected 11, record reading, 5, 20'
-abbrev pub scoredChecks : Setup → Lent → List ℕ → List Check
-scoredChecks s l bytes = queryChecks s (l .signs) (l .directions) (l .matrix) (l .query) ++ openChecks s bytes
+abbrev pub scoredChecks : Setup → Lent → List Float → List ℕ → List Check
+scoredChecks s l query bytes = queryChecks s l query ++ openChecks s bytes
 
 -- '.. then 12'
-abbrev pub estimateChecks : Setup → Lent → List ℕ → List Check
-estimateChecks s l bytes = scoredChecks s l bytes ++ (wrongScore (estimate s l bytes) ∷ [])
+abbrev pub estimateChecks : Setup → Lent → List Float → List ℕ → List Check
+estimateChecks s l query bytes = scoredChecks s l query bytes ++ (wrongScore (estimate s l query bytes) ∷ [])
 
-unfoldable pub innerProductEstimateOf : Setup → Lent → List ℕ → Answer Float
-innerProductEstimateOf s l bytes = first (estimateChecks s l bytes) (value (estimate s l bytes))
+unfoldable pub innerProductEstimateOf : Setup → Lent → List Float → List ℕ → Answer Float
+innerProductEstimateOf s l query bytes = first (estimateChecks s l query bytes) (value (estimate s l query bytes))
+
+-- ---- with the phase of a refusal
+
+-- The outer answer refuses before the record is read; the inner one is the answer from its reading on.
+abbrev pub saysPhased : Phased → Answer (Answer Float)
+saysPhased (Score x) = value (value x)
+saysPhased (BeforeReading n p) = refused n p
+saysPhased (FromReading n p) = value (refused n p)
+
+-- 'record reading, 5, 20, then 12'
+abbrev pub readingChecks : Setup → Lent → List Float → List ℕ → List Check
+readingChecks s l query bytes = openChecks s bytes ++ (wrongScore (estimate s l query bytes) ∷ [])
+
+unfoldable pub innerProductEstimatePhasedOf : Setup → Lent → List Float → List ℕ → Answer (Answer Float)
+innerProductEstimatePhasedOf s l query bytes = first (queryChecks s l query) (value (first (readingChecks s l query bytes) (value (estimate s l query bytes))))
 
 -- ---- by a prepared query, which needs neither signs nor matrix
 
 -- of the setup the scalars and the directions; then the two lengths, and 11 for either
 abbrev pub readyChecks : Setup → List Float → List Float → List Float → List Check
-readyChecks s directions turned rows =
+readyChecks s directions rotated projected =
     scalarChecks s
     ++ directionChecks s directions
-    ++ (wrongInput (length turned) (s .dim)
-    ∷ wrongInput (length rows) (countedProjectionsOf s)
-    ∷ each badValue 11 turned
-    ∷ each badValue 11 rows
+    ++ (wrongInput (length rotated) (s .dim)
+    ∷ wrongInput (length projected) (countedProjectionsOf s)
+    ∷ each badValue 11 rotated
+    ∷ each badValue 11 projected
     ∷ [])
 
 unfoldable pub innerProductEstimatePreparedOf : Setup → List Float → List Float → List Float → List ℕ → Answer Float
-innerProductEstimatePreparedOf s directions turned rows bytes =
-    first (readyChecks s directions turned rows ++ recordScoreChecks s directions turned rows bytes) (value (recordScore s directions turned rows bytes))
+innerProductEstimatePreparedOf s directions rotated projected bytes =
+    first (readyChecks s directions rotated projected ++ recordScoreChecks s directions rotated projected bytes) (value (recordScore s directions rotated projected bytes))

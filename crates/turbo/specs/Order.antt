@@ -8,29 +8,30 @@ use lib.Ieee.{Float}
 use Rattle.error.specs.Answer.{value}
 use Rattle.rounding.specs.Signed.{Diff, Near, Under, _⊙_}
 use Rattle.rounding.specs.Value.{val}
+use Rattle.setup.specs.Lent.{Lent}
 use Rattle.setup.specs.declared.Setup.{Setup}
-use Rattle.turbo_order.specs.Scores.{Lent, perUnit, scaledExact, boundOf}
-use Rattle.turbo_scoring.specs.Opening.{contentOf}
+use Rattle.turbo_order.specs.Scores.{perUnit, scaledExact, boundOf}
+use Rattle.turbo_opening.specs.Opening.{contentOf}
 use Rattle.turbo.specs.Estimates.{innerProductEstimateOf}
 
 -- 'A record counts as scored under a setup and a query where scoring it under them answers a number with its value.'
-abbrev pub IsScored : Setup → Lent → List ℕ → Float → Type 0
-IsScored s l bytes x = innerProductEstimateOf s l bytes ≡ value x
+abbrev pub IsScored : Setup → Lent → List Float → List ℕ → Float → Type 0
+IsScored s l query bytes x = innerProductEstimateOf s l query bytes ≡ value x
 
 -- at the scale: a score, the exact score of a record, and its bound
 abbrev pub atScale : Float → Diff
 atScale x = perUnit ⊙ val x
 
-abbrev pub exactOf : Setup → Lent → List ℕ → Diff
-exactOf s l bytes = scaledExact s l (contentOf bytes)
+abbrev pub exactOf : Setup → Lent → List Float → List ℕ → Diff
+exactOf s l query bytes = scaledExact s l query (contentOf bytes)
 
-abbrev pub boundFor : Setup → Lent → List ℕ → ℕ
-boundFor s l bytes = boundOf s l (contentOf bytes)
+abbrev pub boundFor : Setup → Lent → List Float → List ℕ → ℕ
+boundFor s l query bytes = boundOf s l query (contentOf bytes)
 
-pub record Demand (s : Setup) (l : Lent) : Type 0 where
+pub record Demand (s : Setup) (l : Lent) (query : List Float) : Type 0 where
   -- 'That score lies within its bound where it differs from its exact score by at most the bound.'
-  pub within : (bytes : List ℕ) (x : Float) → IsScored s l bytes x → Near (atScale x) (exactOf s l bytes) (boundFor s l bytes)
+  pub within : (bytes : List ℕ) (x : Float) → IsScored s l query bytes x → Near (atScale x) (exactOf s l query bytes) (boundFor s l query bytes)
   -- x below y by more than the sum of the bounds
-  pub ordered : (low high : List ℕ) (x y : Float) → IsScored s l low x → IsScored s l high y
-      → Under (boundFor s l low + boundFor s l high) (atScale x) (atScale y)
-      → Under 0 (exactOf s l low) (exactOf s l high)
+  pub ordered : (low high : List ℕ) (x y : Float) → IsScored s l query low x → IsScored s l query high y
+      → Under (boundFor s l query low + boundFor s l query high) (atScale x) (atScale y)
+      → Under 0 (exactOf s l query low) (exactOf s l query high)

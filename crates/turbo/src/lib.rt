@@ -1,24 +1,46 @@
 // Scores of a record, by a query or by a prepared one, and the distance of a record from a query.
 // Ported from turbo-quant/src/turbo.rs and changed: the setup is lent and checked at each call, the code is a record's bytes, and an error is a number
 // and a place.
+// A header holds a `radius::Range`, so that crate is named beside those whose calls are made.
 
 use error::DIMENSION_MISMATCH;
 use error::NON_FINITE_INPUT;
 use error::NON_FINITE_SCORE;
 use error::Outcome;
-use qjl::Scored;
+use error::Scored;
+use packed::Header;
+use packed::Reading;
 use setup::Setup;
+use setup::TurboMode;
 ghost use mathlib.Core.Path.{_≡_};
-ghost use mathlib.Core.List.{[], _∷_};
 ghost use Rattle.error.specs.Answer.{value, first, accepted};
-ghost use Rattle.error.specs.Outcomes.{says};
+ghost use Rattle.error.specs.Outcomes.{says, saysScore};
+ghost use Rattle.setup.specs.Lent.{lent};
 ghost use Rattle.setup.specs.Checks.{scalarChecks};
-ghost use Rattle.qjl.specs.Score.{saysScore, wrongScore};
-ghost use Rattle.packed.specs.Layout.{pairsOf, headerOf};
-ghost use Rattle.packed.specs.Reading.{readRecordOf, radiiOf};
-ghost use Rattle.turbo.specs.Estimates.{innerProductEstimateOf, readyChecks, innerProductEstimatePreparedOf};
+ghost use Rattle.polar.specs.Polar.{polarSumOf};
+ghost use Rattle.qjl.specs.Score.{unitResidual};
+ghost use Rattle.packed.specs.Fields.{projectionsOf};
+ghost use Rattle.packed.specs.Reading.{readRecordOf, radiiOf, indicesOf, signsOf};
+ghost use Rattle.turbo_opening.specs.Inner.{openedOf};
+ghost use Rattle.turbo.specs.Scoring.{recordScore};
+ghost use Rattle.turbo.specs.Estimates.{innerProductEstimateOf, saysPhased, innerProductEstimatePhasedOf, readyChecks, innerProductEstimatePreparedOf};
 ghost use Rattle.turbo.specs.Distance.{squaredNorm, cutAtZero, l2DistanceEstimateOf};
+ghost use Rattle.turbo.specs.Inner.{saysMeasured, HeaderRead, joined, recordScoreOf, lengthsAndValues};
 ghost use Rattle.turbo.specs.Order.{Demand};
+
+// A score with its value, or a refusal with its phase: before the record is read, or from its reading on.
+pub enum Phased {
+    Score(f32),
+    BeforeReading { number: u32, place: usize },
+    FromReading { number: u32, place: usize },
+}
+
+// A score with its value and the header of its record, or a refusal with its phase.
+enum Measured {
+    Score { score: f32, header: Header },
+    BeforeReading { number: u32, place: usize },
+    FromReading { number: u32, place: usize },
+}
 
 // The estimated inner product of a query and the vector that a record stands for.
 pub fn inner_product_estimate(
@@ -29,14 +51,24 @@ pub fn inner_product_estimate(
     query: &[f32],
     bytes: &[u8],
 ) -> Scored
-    ensures said { λ r. ⌜ saysScore r ≡ innerProductEstimateOf setup (record { signs = now (signs .entry); directions = now (directions .entry); matrix = now (matrix .entry); query = now (query .entry) }) (now (bytes .entry)) ⌝ }
-    ensures ordered { λ r. ⌜ Demand setup (record { signs = now (signs .entry); directions = now (directions .entry); matrix = now (matrix .entry); query = now (query .entry) }) ⌝ }
+    ensures said { λ r. ⌜ saysScore r ≡ innerProductEstimateOf setup (lent (now (signs .entry)) (now (directions .entry)) (now (matrix .entry))) (now (query .entry)) (now (bytes .entry)) ⌝ }
+    ensures ordered { λ r. ⌜ Demand setup (lent (now (signs .entry)) (now (directions .entry)) (now (matrix .entry))) (now (query .entry)) ⌝ }
 {
-    let checked = setup::check_scalars(setup);
-    if let Outcome::Refused { number, place } = checked {
-        return Scored::Refused { number, place };
-    }
-    score_query(setup, signs, directions, matrix, query, bytes)
+    without_phase(inner_product_estimate_phased(setup, signs, directions, matrix, query, bytes))
+}
+
+// The same, and a refusal tells whether it came before the record was read.
+pub fn inner_product_estimate_phased(
+    setup: Setup,
+    signs: &[f32],
+    directions: &[f32],
+    matrix: &[f32],
+    query: &[f32],
+    bytes: &[u8],
+) -> Phased
+    ensures { λ r. ⌜ saysPhased r ≡ innerProductEstimatePhasedOf setup (lent (now (signs .entry)) (now (directions .entry)) (now (matrix .entry))) (now (query .entry)) (now (bytes .entry)) ⌝ }
+{
+    without_header(measure(setup, signs, directions, matrix, query, bytes))
 }
 
 // The same by a query that is prepared, which needs neither signs nor matrix.
@@ -53,7 +85,7 @@ pub fn inner_product_estimate_prepared(
     if let Outcome::Refused { number, place } = checked {
         return Scored::Refused { number, place };
     }
-    turbo_scoring::record_score(setup, directions, rotated, projected, bytes)
+    without_phase(without_header(record_score(setup, directions, rotated, projected, bytes)))
 }
 
 // The estimated squared distance of a query from the vector that a record stands for.
@@ -65,28 +97,49 @@ pub fn l2_distance_estimate(
     query: &[f32],
     bytes: &[u8],
 ) -> Scored
-    ensures { λ r. ⌜ saysScore r ≡ l2DistanceEstimateOf setup (record { signs = now (signs .entry); directions = now (directions .entry); matrix = now (matrix .entry); query = now (query .entry) }) (now (bytes .entry)) ⌝ }
+    ensures { λ r. ⌜ saysScore r ≡ l2DistanceEstimateOf setup (lent (now (signs .entry)) (now (directions .entry)) (now (matrix .entry))) (now (query .entry)) (now (bytes .entry)) ⌝ }
 {
-    match inner_product_estimate(setup, signs, directions, matrix, query, bytes) {
-        Scored::Score(score) => {
-            let norms = squared_norm(query) + radii_norm(bytes, setup.dim / 2);
-            finite_distance(cut_at_zero(norms - 2.0 * score))
+    match measure(setup, signs, directions, matrix, query, bytes) {
+        Measured::Score { score, header } => {
+            let norms = squared_norm(query) + radii_norm(bytes, header);
+            error::finite_score(cut_at_zero(norms - 2.0 * score))
         }
-        Scored::Refused { number, place } => Scored::Refused { number, place },
+        Measured::BeforeReading { number, place } => Scored::Refused { number, place },
+        Measured::FromReading { number, place } => Scored::Refused { number, place },
     }
 }
 
-// The score by a query under a setup whose scalars have passed.
-fn score_query(
+// The score by a query, with the header that was read for it.
+fn measure(
     setup: Setup,
     signs: &[f32],
     directions: &[f32],
     matrix: &[f32],
     query: &[f32],
     bytes: &[u8],
-) -> Scored
+) -> Measured
+    ensures said { λ r. ⌜ saysMeasured r ≡ innerProductEstimatePhasedOf setup (lent (now (signs .entry)) (now (directions .entry)) (now (matrix .entry))) (now (query .entry)) (now (bytes .entry)) ⌝ }
+    ensures read { λ r. ⌜ HeaderRead r (now (bytes .entry)) ⌝ }
+{
+    let checked = setup::check_scalars(setup);
+    if let Outcome::Refused { number, place } = checked {
+        return Measured::BeforeReading { number, place };
+    }
+    measure_query(setup, signs, directions, matrix, query, bytes)
+}
+
+// The same under a setup whose scalars have passed.
+fn measure_query(
+    setup: Setup,
+    signs: &[f32],
+    directions: &[f32],
+    matrix: &[f32],
+    query: &[f32],
+    bytes: &[u8],
+) -> Measured
     requires { ⌜ first (scalarChecks setup) accepted ≡ accepted ⌝ }
-    ensures { λ r. ⌜ saysScore r ≡ innerProductEstimateOf setup (record { signs = now (signs .entry); directions = now (directions .entry); matrix = now (matrix .entry); query = now (query .entry) }) (now (bytes .entry)) ⌝ }
+    ensures said { λ r. ⌜ saysMeasured r ≡ innerProductEstimatePhasedOf setup (lent (now (signs .entry)) (now (directions .entry)) (now (matrix .entry))) (now (query .entry)) (now (bytes .entry)) ⌝ }
+    ensures read { λ r. ⌜ HeaderRead r (now (bytes .entry)) ⌝ }
 {
     let dim = setup.dim;
     let rows = setup::counted_projections(setup);
@@ -102,15 +155,86 @@ fn score_query(
         &mut projected[0..rows],
     );
     if let Outcome::Refused { number, place } = prepared {
-        return Scored::Refused { number, place };
+        return Measured::BeforeReading { number, place };
     }
-    turbo_scoring::record_score(
+    record_score(
         setup,
         directions,
         &rotated[0..dim],
         &projected[0..rows],
         bytes,
     )
+}
+
+// The score of a record under a setup whose scalars have passed, by a query that is rotated and projected.
+fn record_score(
+    setup: Setup,
+    directions: &[f32],
+    rotated: &[f32],
+    projected: &[f32],
+    bytes: &[u8],
+) -> Measured
+    requires { ⌜ first (scalarChecks setup) accepted ≡ accepted ⌝ }
+    ensures said { λ r. ⌜ saysMeasured r ≡ value (recordScoreOf setup (now (directions .entry)) (now (rotated .entry)) (now (projected .entry)) (now (bytes .entry))) ⌝ }
+    ensures read { λ r. ⌜ HeaderRead r (now (bytes .entry)) ⌝ }
+{
+    match turbo_opening::open_record(setup, bytes) {
+        Reading::Read(header) => {
+            let score = opened_score(setup, directions, rotated, projected, bytes, header);
+            if float::is_finite(score) {
+                return Measured::Score { score, header };
+            }
+            Measured::FromReading {
+                number: NON_FINITE_SCORE,
+                place: 0,
+            }
+        }
+        Reading::Refused { number, place } => Measured::FromReading { number, place },
+    }
+}
+
+// The score of a record that is opened, by the header that was read from it: the polar sum, and with a residual the sum of both.
+fn opened_score(
+    setup: Setup,
+    directions: &[f32],
+    rotated: &[f32],
+    projected: &[f32],
+    bytes: &[u8],
+    header: Header,
+) -> f32
+    requires { ⌜ openedOf setup (now bytes) ≡ value header ⌝ }
+    ensures { λ r. ⌜ r ≡ recordScore setup (now (directions .entry)) (now (rotated .entry)) (now (projected .entry)) (now (bytes .entry)) ⌝ }
+{
+    let polar = polar_part(directions, rotated, bytes, header);
+    let mode = setup.mode;
+    match mode {
+        TurboMode::PolarOnly => polar,
+        TurboMode::PolarWithQjl => polar + residual_part(projected, bytes, header),
+    }
+}
+
+// The polar sum of a record, by the header that was read from it.
+fn polar_part(directions: &[f32], rotated: &[f32], bytes: &[u8], header: Header) -> f32
+    requires { ⌜ readRecordOf (now bytes) ≡ value header ⌝ }
+    ensures { λ r. ⌜ r ≡ polarSumOf (now (rotated .entry)) (now (directions .entry)) (indicesOf (now (bytes .entry))) (radiiOf (now (bytes .entry))) ⌝ }
+{
+    let pairs = header.dim / 2;
+    let mut radii = no_radii();
+    let mut indices = no_indices();
+    packed_parts::radii_at(bytes, header, &mut radii[0..pairs]);
+    packed_parts::indices_at(bytes, header, &mut indices[0..pairs]);
+    polar::polar_sum(rotated, directions, &indices[0..pairs], &radii[0..pairs])
+}
+
+// The residual of a record, by the header that was read from it, with the source norm 1.0.
+fn residual_part(projected: &[f32], bytes: &[u8], header: Header) -> f32
+    requires { ⌜ readRecordOf (now bytes) ≡ value header ⌝ }
+    ensures { λ r. ⌜ r ≡ unitResidual (projectionsOf (now (bytes .entry))) (now (projected .entry)) (signsOf (now (bytes .entry))) ⌝ }
+{
+    let projections = header.projections;
+    let mut signs = no_signs();
+    packed_parts::signs_at(bytes, header, &mut signs[0..projections]);
+    qjl::residual(projections as u16, 1.0, projected, &signs[0..projections])
 }
 
 // The checks of a prepared query: the scalars of the setup and its directions, both lengths, and that every value is finite.
@@ -125,6 +249,13 @@ fn check_prepared(setup: Setup, directions: &[f32], rotated: &[f32], projected: 
     if let Outcome::Refused { number, place } = table {
         return Outcome::Refused { number, place };
     }
+    check_lengths_and_values(setup, rotated, projected)
+}
+
+// The lengths of a prepared query, then its values.
+fn check_lengths_and_values(setup: Setup, rotated: &[f32], projected: &[f32]) -> Outcome
+    ensures { λ r. ⌜ says r ≡ first (lengthsAndValues setup (now (rotated .entry)) (now (projected .entry))) accepted ⌝ }
+{
     let dim = setup.dim;
     if rotated.len() != dim {
         return Outcome::Refused {
@@ -139,14 +270,14 @@ fn check_prepared(setup: Setup, directions: &[f32], rotated: &[f32], projected: 
             place: projected.len(),
         };
     }
-    let turned = setup::first_non_finite(rotated);
+    let turned = error::first_non_finite(rotated);
     if turned < rotated.len() {
         return Outcome::Refused {
             number: NON_FINITE_INPUT,
             place: turned,
         };
     }
-    let row = setup::first_non_finite(projected);
+    let row = error::first_non_finite(projected);
     if row < projected.len() {
         return Outcome::Refused {
             number: NON_FINITE_INPUT,
@@ -156,13 +287,14 @@ fn check_prepared(setup: Setup, directions: &[f32], rotated: &[f32], projected: 
     Outcome::Done
 }
 
-// The squared norm of the radii of a record that is read.
-fn radii_norm(bytes: &[u8], pairs: usize) -> f32
-    requires { ⌜ (readRecordOf (now bytes) ≡ value (headerOf (now bytes))) × (pairs ≡ pairsOf (now bytes)) ⌝ }
+// The squared norm of the radii of a record, by the header that was read from it.
+fn radii_norm(bytes: &[u8], header: Header) -> f32
+    requires { ⌜ readRecordOf (now bytes) ≡ value header ⌝ }
     ensures { λ r. ⌜ r ≡ squaredNorm (radiiOf (now (bytes .entry))) ⌝ }
 {
+    let pairs = header.dim / 2;
     let mut radii = no_radii();
-    packed_parts::read_radii(bytes, &mut radii[0..pairs]);
+    packed_parts::radii_at(bytes, header, &mut radii[0..pairs]);
     squared_norm(&radii[0..pairs])
 }
 
@@ -186,19 +318,6 @@ fn cut_at_zero(x: f32) -> f32
     if x > 0.0 { x } else { 0.0 }
 }
 
-// A distance, or 12 where it is not finite.
-fn finite_distance(distance: f32) -> Scored
-    ensures { λ r. ⌜ saysScore r ≡ first (wrongScore distance ∷ []) (value distance) ⌝ }
-{
-    if float::is_finite(distance) {
-        return Scored::Score(distance);
-    }
-    Scored::Refused {
-        number: NON_FINITE_SCORE,
-        place: 0,
-    }
-}
-
 // Room for a rotated or a projected query, of at most 4,096 values.
 fn zeros() -> [f32; 4096] {
     [0.0f32; 4096]
@@ -207,4 +326,36 @@ fn zeros() -> [f32; 4096] {
 // Room for the radii of a record, of which there are at most 2,048.
 fn no_radii() -> [f32; 2048] {
     [0.0f32; 2048]
+}
+
+// A score without the header of its record.
+fn without_header(measured: Measured) -> Phased
+    ensures { λ r. ⌜ saysPhased r ≡ saysMeasured measured ⌝ }
+{
+    match measured {
+        Measured::Score { score, header: _ } => Phased::Score(score),
+        Measured::BeforeReading { number, place } => Phased::BeforeReading { number, place },
+        Measured::FromReading { number, place } => Phased::FromReading { number, place },
+    }
+}
+
+// A score without the phase of a refusal.
+fn without_phase(phased: Phased) -> Scored
+    ensures { λ r. ⌜ saysScore r ≡ joined (saysPhased phased) ⌝ }
+{
+    match phased {
+        Phased::Score(score) => Scored::Score(score),
+        Phased::BeforeReading { number, place } => Scored::Refused { number, place },
+        Phased::FromReading { number, place } => Scored::Refused { number, place },
+    }
+}
+
+// Room for the indices of a record.
+fn no_indices() -> [u16; 2048] {
+    [0u16; 2048]
+}
+
+// Room for the signs of a record, of which there are at most 4,096.
+fn no_signs() -> [i8; 4096] {
+    [0i8; 4096]
 }

@@ -4,17 +4,19 @@
 
 use error::OUTPUT_LENGTH;
 use error::Outcome;
+use packed::Header;
 use packed::Reading;
 use setup::Setup;
 ghost use mathlib.Core.Path.{_≡_};
 ghost use lib.ListN.{length};
 ghost use Rattle.error.specs.Answer.{done, after};
 ghost use Rattle.error.specs.Outcomes.{says};
+ghost use Rattle.setup.specs.Lent.{lent};
 ghost use Rattle.rotation.specs.Rotation.{unrotated};
 ghost use Rattle.polar.specs.Polar.{decodedPairs};
 ghost use Rattle.packed.specs.Reading.{radiiOf, indicesOf};
 ghost use Rattle.turbo_decode.specs.Decode.{decodeApproximateOf};
-ghost use Rattle.turbo_decode.specs.Decodable.{Paired, Decodable};
+ghost use Rattle.turbo_decode.specs.Inner.{Paired, Decodable};
 
 // Decodes a record into the output. Infinities in the output pass.
 pub fn decode_approximate(
@@ -25,49 +27,50 @@ pub fn decode_approximate(
     bytes: &[u8],
     out: &mut [f32],
 ) -> Outcome
-    ensures said { λ r. ⌜ says r ≡ done (decodeApproximateOf setup (now (signs .entry)) (now (directions .entry)) (now (matrix .entry)) (now (bytes .entry)) (length (now (out .entry)))) ⌝ }
-    ensures left { λ _. ⌜ now (out .exit) ≡ after (decodeApproximateOf setup (now (signs .entry)) (now (directions .entry)) (now (matrix .entry)) (now (bytes .entry)) (length (now (out .entry)))) (now (out .entry)) ⌝ }
+    ensures said { λ r. ⌜ says r ≡ done (decodeApproximateOf setup (lent (now (signs .entry)) (now (directions .entry)) (now (matrix .entry))) (now (bytes .entry)) (length (now (out .entry)))) ⌝ }
+    ensures left { λ _. ⌜ now (out .exit) ≡ after (decodeApproximateOf setup (lent (now (signs .entry)) (now (directions .entry)) (now (matrix .entry))) (now (bytes .entry)) (length (now (out .entry)))) (now (out .entry)) ⌝ }
 {
     let checked = setup::check_setup(setup, signs, directions, matrix);
     if let Outcome::Refused { number, place } = checked {
         return Outcome::Refused { number, place };
     }
-    let opened = turbo_scoring::open_record(setup, bytes);
-    if let Reading::Refused { number, place } = opened {
-        return Outcome::Refused { number, place };
+    match turbo_opening::open_record(setup, bytes) {
+        Reading::Read(header) => {
+            let dim = setup.dim;
+            if out.len() != dim {
+                return Outcome::Refused {
+                    number: OUTPUT_LENGTH,
+                    place: dim,
+                };
+            }
+            decode(signs, directions, bytes, header, out);
+            Outcome::Done
+        }
+        Reading::Refused { number, place } => Outcome::Refused { number, place },
     }
-    let dim = setup.dim;
-    if out.len() != dim {
-        return Outcome::Refused {
-            number: OUTPUT_LENGTH,
-            place: dim,
-        };
-    }
-    decode(signs, directions, bytes, out);
-    Outcome::Done
 }
 
-// The pairs of an opened record, rotated back into an output of its dimension.
-fn decode(signs: &[f32], directions: &[f32], bytes: &[u8], out: &mut [f32])
-    requires { ⌜ Decodable (now signs) (now bytes) (length (now out)) ⌝ }
+// The pairs of an opened record, by the header that was read from it, rotated back into an output of its dimension.
+fn decode(signs: &[f32], directions: &[f32], bytes: &[u8], header: Header, out: &mut [f32])
+    requires { ⌜ Decodable (now signs) (now bytes) header (length (now out)) ⌝ }
     ensures { λ _. ⌜ now (out .exit) ≡ unrotated (length (now (out .entry))) (now (signs .entry)) (decodedPairs (now (directions .entry)) (indicesOf (now (bytes .entry))) (radiiOf (now (bytes .entry)))) ⌝ }
 {
     let dim = out.len();
     let mut values = no_values();
-    read_pairs(directions, bytes, &mut values[0..dim]);
+    read_pairs(directions, bytes, header, &mut values[0..dim]);
     rotation::apply_inverse(dim, signs, &values[0..dim], out);
 }
 
-// The pairs of an opened record, into values of its dimension.
-fn read_pairs(directions: &[f32], bytes: &[u8], values: &mut [f32])
-    requires { ⌜ Paired (now bytes) (length (now values)) ⌝ }
+// The pairs of an opened record, by the header that was read from it, into values of its dimension.
+fn read_pairs(directions: &[f32], bytes: &[u8], header: Header, values: &mut [f32])
+    requires { ⌜ Paired (now bytes) header (length (now values)) ⌝ }
     ensures { λ _. ⌜ now (values .exit) ≡ decodedPairs (now (directions .entry)) (indicesOf (now (bytes .entry))) (radiiOf (now (bytes .entry))) ⌝ }
 {
-    let pairs = values.len() / 2;
+    let pairs = header.dim / 2;
     let mut radii = no_radii();
     let mut indices = no_indices();
-    packed_parts::read_radii(bytes, &mut radii[0..pairs]);
-    packed_parts::read_indices(bytes, &mut indices[0..pairs]);
+    packed_parts::radii_at(bytes, header, &mut radii[0..pairs]);
+    packed_parts::indices_at(bytes, header, &mut indices[0..pairs]);
     polar::polar_pairs(directions, &indices[0..pairs], &radii[0..pairs], values);
 }
 

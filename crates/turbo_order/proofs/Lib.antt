@@ -1,2 +1,4 @@
 pub mod Scales
 pub mod Within
+pub mod Hadamard
+pub mod Examples

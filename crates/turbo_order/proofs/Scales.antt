@@ -4,10 +4,10 @@ use mathlib.Core.Path.{_≡_, refl, ap, _∙_}
 use native.Mathlib.Nat.{mul-assoc, mul-le-mul-right, mul-le-mul-left}
 use native.Mathlib.Omega.{arith}
 use Rattle.rounding.specs.Signed.{Diff, _⊙_}
-use Rattle.rounding.specs.Value.{unit}
+use Rattle.float.specs.Units.{unit}
 use Rattle.turbo_order.specs.Scores.{perUnit, perOne, perRadius}
 
-pub per-unit : perUnit ≡ 2 ^ 23 * (unit * unit * unit)
+per-unit : perUnit ≡ 2 ^ 23 * (unit * unit * unit)
 unfolding perUnit unit
 per-unit = refl
 
@@ -26,20 +26,20 @@ scaled-unit d =
     λ i. record { plus = p i; minus = q i }
 
 -- ---- the counts against the bound; two is unit × unit and three is unit × unit × unit
-module _ (steps pairs n size radii two three : ℕ) (few : steps ≤ 12) (half : 2 * pairs ≡ n) where
-  pub alone-within : (steps + 1 + 3 + pairs) * size + 2 ^ 24 * (4 * two * radii + pairs * three)
-      ≤ (n + 0 + 16) * size + (2 ^ 23 * (8 * two) * radii + 2 ^ 23 * (8 * three) * (n * 0 + n))
+module _ (steps count factor pairs n size radii two three : ℕ) (few : 2 * (steps + 4) + n ≤ 2 * (count + 16)) (half : 2 * pairs ≡ n) where
+  pub alone-within : (steps + 3 + pairs) * size + 2 ^ 24 * (4 * (factor * two) * radii + pairs * three)
+      ≤ (count + 0 + 16) * size + (2 ^ 23 * (8 * two) * (factor * radii) + 2 ^ 23 * (8 * three) * (n * 0 + n))
   alone-within =
-      let count = mul-le-mul-right size (let most : steps + 1 + 3 + pairs ≤ n + 0 + 16 = omega arith in most) in
+      let total = mul-le-mul-right size (let most : steps + 3 + pairs ≤ count + 0 + 16 = omega arith in most) in
       let twice = ap (λ (k : ℕ). k * three) half in
-      omega (arith, count, twice)
+      omega (arith, total, twice)
 
   pub residual-within : (m rest : ℕ) → 0 < m → 0 < pairs
-      → (n + m + 15 + 1) * (size + rest) + 2 ^ 24 * (4 * two * radii + pairs * three + (2 * n + 1) * three)
-      ≤ (n + m + 16) * (size + rest) + (2 ^ 23 * (8 * two) * radii + 2 ^ 23 * (8 * three) * (n * m + n))
+      → (count + m + 15 + 1) * (size + rest) + 2 ^ 24 * (4 * (factor * two) * radii + pairs * three + (2 * n + 1) * three)
+      ≤ (count + m + 16) * (size + rest) + (2 ^ 23 * (8 * two) * (factor * radii) + 2 ^ 23 * (8 * three) * (n * m + n))
   residual-within m rest some pair =
-      let count : n + m + 15 + 1 ≡ n + m + 16 = omega arith in
-      let same = ap (λ (k : ℕ). k * (size + rest)) count in
+      let total : count + m + 15 + 1 ≡ count + m + 16 = omega arith in
+      let same = ap (λ (k : ℕ). k * (size + rest)) total in
       let twice = ap (λ (k : ℕ). k * three) half in
       let rows = mul-le-mul-right three (mul-le-mul-left n some) in
       let one = mul-le-mul-right three pair in

@@ -1,12 +1,12 @@
--- Demand 3 over what a record holds: a finite score lies within its bound of its exact score, and two scores further apart than the sum of their bounds have
+-- Demand 3 over what a record holds, for every sound account of a rotation: a finite score lies within its bound of its exact score, and two scores further apart than the sum of their bounds have
 -- exact scores in the same strict order. Nothing is asked of the floats but that they are f32, and of the rest only what the checks of a setup, a query and a
 -- record leave. Assumes nothing.
 use Prim.Native.Nat.{ℕ, _+_, _*_, _^_, _≤_, _<_}
 use mathlib.Core.Path.{_≡_, refl, ap, _∙_, transport}
+use mathlib.Core.List.{List}
 use mathlib.Core.Bool.{true, false, not, _||_}
-use native.Mathlib.Nat.{le-refl}
+use native.Mathlib.Nat.{le-refl, le-of-eq}
 use native.Mathlib.Omega.{arith}
-use lib.Count.{trailingZeros}
 use lib.Dec.{T}
 use lib.IntN.{pos}
 use lib.ListN.{length, getD, getD-replicate}
@@ -15,37 +15,34 @@ use lib.Ieee.Scale.{finite}
 use Rattle.error.proofs.Chains.{or-false}
 use Rattle.bitpack.specs.Signs.{badSketchSign}
 use Rattle.rounding.specs.Signed.{Near, Under, _⊞_, _⊙_}
-use Rattle.rounding.specs.Value.{unit, val, mag}
+use Rattle.rounding.specs.Value.{val}
+use Rattle.float.specs.Units.{unit, mag}
 use Rattle.rounding.specs.Close.{Close}
-use Rattle.rounding.specs.Sums.{AllFit}
+use Rattle.rounding.specs.Sums.{AllFit, absoluteSum}
 use Rattle.rounding.proofs.Signed.{near-weaken, order-kept}
 use Rattle.rounding.proofs.Calculus.{close-add, close-weaken, close-lift, close-error}
-use Rattle.rotation.specs.Rotation.{inverseRoot}
-use Rattle.rotation.specs.Exact.{absoluteSum}
-use Rattle.rotation.proofs.Accepted.{Rotatable}
-use Rattle.rotation.proofs.ErrorBound.{rotated-close}
+use Rattle.setup.specs.Lent.{Lent}
 use Rattle.setup.specs.declared.Setup.{Setup}
 use Rattle.setup.specs.declared.TurboMode.{TurboMode}
 use Rattle.setup.specs.declared.TurboMode.the-variants.{PolarOnly, PolarWithQjl}
 use Rattle.setup.specs.Setups.{byMode, countedProjectionsOf}
 use Rattle.setup.specs.Checks.{badDirection}
-use Rattle.setup.specs.Accepted.{AcceptedSetup}
+use Rattle.setup.specs.Accepted.{Usable, Directions}
 use Rattle.polar.specs.Polar.{valueAt}
-use Rattle.polar.specs.Exact.{radiusSum}
 use Rattle.polar.proofs.Directions.{within-small, missing-small}
-use Rattle.polar.proofs.Counts.{close-polar-hadamard}
+use Rattle.polar.proofs.Counts.{close-polar-most}
 use Rattle.qjl.proofs.ScaleBound.{close-unit-residual}
-use Rattle.turbo_order.specs.Scores.{Content, Lent, polarPart, residualPart, scoreFrom, scoreOf, exactPolarPart, exactResidualPart, exactScore, polarPartSize, residualPartSize, sizeOf, perUnit, perOne, perRadius, scaledScore, scaledExact, boundOf}
+use Rattle.turbo_order.specs.Account.{Account, Sound}
+use Rattle.turbo_order.specs.Scores.{Content, polarPart, residualPart, scoreFrom, scoreBy, exactPolarPart, exactResidualPart, exactBy, polarPartSize, residualPartSize, sizeBy, perUnit, perOne, perRadius, boundBy}
 use Rattle.turbo_order.proofs.Scales.{per-one, per-radius, scaled-unit, alone-within, residual-within}
 
--- what the checks of setup, query and record leave
-pub record Scorable (s : Setup) (l : Lent) (c : Content) : Type 0 where
-  pub accepted : AcceptedSetup s (l .signs) (l .directions) (l .matrix)
-  pub signs-fit : AllFit (l .signs)
+-- what the checks of setup, query and record leave, whatever the rotation
+pub record Scorable (s : Setup) (l : Lent) (query : List Float) (c : Content) : Type 0 where
+  pub usable : Usable s
+  pub table : Directions s (l .directions)
   pub directions-fit : AllFit (l .directions)
   pub matrix-fit : AllFit (l .matrix)
-  pub query-fit : AllFit (l .query)
-  pub query-long : length (l .query) ≡ s .dim
+  pub query-fit : AllFit query
   pub radii-fit : AllFit (c .radii)
   pub radii-long : 2 * length (c .radii) ≡ s .dim
   pub marks-long : length (c .signs) ≡ countedProjectionsOf s
@@ -58,93 +55,82 @@ direction-small x good =
     let apart = or-false (not (finite x) || lt x (fin true 1 (pos 0))) (lt (fin false 1 (pos 0)) x) good in
     within-small x (or-false (not (finite x)) (lt x (fin true 1 (pos 0))) (apart .0) .1) (apart .1)
 
-module _ (s : Setup) (l : Lent) (c : Content) (h : Scorable s l c) where
-  rotatable : Rotatable (s .dim) (l .signs) (length (l .query)) (s .dim)
-  rotatable =
-      let usable = h .accepted .usable in
-      record {
-        power = record { bit = usable .one-bit; small = usable .most };
-        signs-long = h .accepted .signs-long;
-        signs-good = h .accepted .signs-good;
-        input-long = h .query-long;
-        output-long = refl;
-      }
-
+module _ (a : Account) (s : Setup) (l : Lent) (query : List Float) (c : Content) (sound : Sound (s .dim) a) (h : Scorable s l query c) where
   small : (j : ℕ) → mag (valueAt (l .directions) j) ≤ unit
-  small = missing-small (l .directions) (λ j k. direction-small (getD (l .directions) j nan) (h .accepted .table .good j k))
+  small = missing-small (l .directions) (λ j k. direction-small (getD (l .directions) j nan) (h .table .good j k))
 
-  close-polar-part : Close (unit * unit * unit) (trailingZeros 64 (s .dim) + 1 + 3 + length (c .radii)) (4 * (unit * unit) * radiusSum (c .radii) + length (c .radii) * (unit * unit * unit))
-      (polarPartSize s l c) (polarPart s l c) (exactPolarPart s l c)
+  -- the absolute error of the polar sum
+  polarPartError : ℕ
+  polarPartError = 4 * (a .factor * (unit * unit)) * absoluteSum (c .radii) + length (c .radii) * (unit * unit * unit)
+
+  few : sound .roundings + 3 + length (c .radii) ≤ a .count + 15
+  few = let counted = sound .counted in let half = h .radii-long in omega arith
+
+  close-polar-part : Close (unit * unit * unit) (sound .roundings + 3 + length (c .radii)) polarPartError (polarPartSize a l c) (polarPart a l c) (exactPolarPart a l c)
+  unfolding polarPartError
   close-polar-part =
-      close-polar-hadamard (l .directions) (c .indices) (c .radii) (h .directions-fit) (h .radii-fit) small
-      (let few = h .accepted .usable .steps in let most = h .accepted .usable .most in let half = h .radii-long in omega arith)
-      (λ j k. getD-replicate (s .dim) j unit 0 (let half = h .radii-long in omega arith))
-      (λ j k. getD-replicate (s .dim) j (mag (inverseRoot (s .dim)) * absoluteSum (l .query)) 0 (let half = h .radii-long in omega arith))
-      (rotated-close (s .dim) (l .signs) (l .query) (s .dim) rotatable (h .signs-fit) (h .query-fit))
+      close-polar-most (a .factor) (l .directions) (c .indices) (c .radii) (h .directions-fit) (h .radii-fit) (sound .some) small
+      (λ j k. le-of-eq (getD-replicate (s .dim) j (a .factor * unit) 0 (let half = h .radii-long in omega arith)))
+      (let most = sound .most in omega (arith, few))
+      (sound .close)
 
   -- ---- with the residual
   counted : s .mode ≡ PolarWithQjl → countedProjectionsOf s ≡ s .projections
   counted e = ap (λ (mode : TurboMode). byMode mode 0 (s .projections)) e
 
   pairs-some : 0 < length (c .radii)
-  pairs-some = let above = h .accepted .usable .above in let half = h .radii-long in omega arith
+  pairs-some = let above = h .usable .above in let half = h .radii-long in omega arith
 
-  close-residual-part : s .mode ≡ PolarWithQjl → Close (unit * unit * unit) (s .dim + s .projections + 2) ((2 * s .dim + 1) * (unit * unit * unit)) (residualPartSize s l) (residualPart s l c) (exactResidualPart s l c)
+  close-residual-part : s .mode ≡ PolarWithQjl → Close (unit * unit * unit) (s .dim + s .projections + 2) ((2 * s .dim + 1) * (unit * unit * unit)) (residualPartSize s l query) (residualPart s l query c) (exactResidualPart s l query c)
   close-residual-part e =
       let same = counted e in
-      let most = h .accepted .usable .most in
-      let rows = h .accepted .usable .most-projections in
+      let most = h .usable .most in
+      let rows = h .usable .most-projections in
       let lifted =
       close-lift unit
-      (close-unit-residual (s .dim) (s .projections) (l .matrix) (l .query) (c .signs) (h .matrix-fit) (h .query-fit) (omega (arith, same)) (h .marks-long ∙ same) (h .marks-good)) in
+      (close-unit-residual (s .dim) (s .projections) (l .matrix) query (c .signs) (h .matrix-fit) (h .query-fit) (omega (arith, same)) (h .marks-long ∙ same) (h .marks-good)) in
       let three : unit * (unit * unit) ≡ unit * unit * unit = omega arith in
       let error : unit * (2 * s .dim * (unit * unit) + unit * unit) ≡ (2 * s .dim + 1) * (unit * unit * unit) = omega arith in
-      transport (λ i. Close (three i) (s .dim + s .projections + 2) (error i) (residualPartSize s l) (residualPart s l c) (exactResidualPart s l c)) lifted
+      transport (λ i. Close (three i) (s .dim + s .projections + 2) (error i) (residualPartSize s l query) (residualPart s l query c) (exactResidualPart s l query c)) lifted
 
   close-whole : s .mode ≡ PolarWithQjl
-      → Close (unit * unit * unit) (s .dim + s .projections + 15 + 1) (4 * (unit * unit) * radiusSum (c .radii) + length (c .radii) * (unit * unit * unit) + (2 * s .dim + 1) * (unit * unit * unit))
-      (polarPartSize s l c + residualPartSize s l) (add binary32 (polarPart s l c) (residualPart s l c)) (exactPolarPart s l c ⊞ exactResidualPart s l c)
+      → Close (unit * unit * unit) (a .count + s .projections + 15 + 1) (polarPartError + (2 * s .dim + 1) * (unit * unit * unit))
+      (polarPartSize a l c + residualPartSize s l query) (add binary32 (polarPart a l c) (residualPart s l query c)) (exactPolarPart a l c ⊞ exactResidualPart s l query c)
   close-whole e =
       let same = counted e in
-      let most = h .accepted .usable .most in
-      let rows = h .accepted .usable .most-projections in
-      let few = h .accepted .usable .steps in
-      let half = h .radii-long in
-      let pair = pairs-some in
-      close-add (omega (arith, same)) (close-weaken (omega arith) (le-refl _) (le-refl _) close-polar-part) (close-weaken (omega arith) (le-refl _) (le-refl _) (close-residual-part e))
+      let least = sound .least in
+      let most = sound .most in
+      let rows = h .usable .most-projections in
+      close-add (omega (arith, same)) (close-weaken (omega (arith, few)) (le-refl _) (le-refl _) close-polar-part) (close-weaken (omega arith) (le-refl _) (le-refl _) (close-residual-part e))
 
   -- ---- the first half: within the bound, by mode
   bound-at : ℕ → ℕ → ℕ
-  bound-at m size = (s .dim + m + 16) * size + (perRadius * radiusSum (c .radii) + perOne * (s .dim * m + s .dim))
+  bound-at m size = (a .count + m + 16) * size + (perRadius * (a .factor * absoluteSum (c .radii)) + perOne * (s .dim * m + s .dim))
 
-  by-mode : (mode : TurboMode) → s .mode ≡ mode → T (finite (byMode mode (polarPart s l c) (add binary32 (polarPart s l c) (residualPart s l c))))
-      → Near (perUnit ⊙ val (byMode mode (polarPart s l c) (add binary32 (polarPart s l c) (residualPart s l c)))) (2 ^ 23 ⊙ byMode mode (exactPolarPart s l c) (exactPolarPart s l c ⊞ exactResidualPart s l c))
-      (bound-at (byMode mode 0 (s .projections)) (byMode mode (polarPartSize s l c) (polarPartSize s l c + residualPartSize s l)))
-  unfolding bound-at
+  by-mode : (mode : TurboMode) → s .mode ≡ mode → T (finite (byMode mode (polarPart a l c) (add binary32 (polarPart a l c) (residualPart s l query c))))
+      → Near (perUnit ⊙ val (byMode mode (polarPart a l c) (add binary32 (polarPart a l c) (residualPart s l query c)))) (2 ^ 23 ⊙ byMode mode (exactPolarPart a l c) (exactPolarPart a l c ⊞ exactResidualPart s l query c))
+      (bound-at (byMode mode 0 (s .projections)) (byMode mode (polarPartSize a l c) (polarPartSize a l c + residualPartSize s l query)))
+  unfolding bound-at polarPartError
   by-mode PolarOnly e known =
-      let few = h .accepted .usable .steps in
-      let most = h .accepted .usable .most in
-      let half = h .radii-long in
-      let near = close-error (omega arith) known close-polar-part in
-      let bound = alone-within (trailingZeros 64 (s .dim)) (length (c .radii)) (s .dim) (polarPartSize s l c) (radiusSum (c .radii)) (unit * unit) (unit * unit * unit) few half in
+      let most = sound .most in
+      let near = close-error (omega (arith, few)) known close-polar-part in
+      let bound = alone-within (sound .roundings) (a .count) (a .factor) (length (c .radii)) (s .dim) (polarPartSize a l c) (absoluteSum (c .radii)) (unit * unit) (unit * unit * unit) (sound .counted) (h .radii-long) in
       rw (scaled-unit, per-radius, per-one) (near-weaken bound near)
   by-mode PolarWithQjl e known =
       let same = counted e in
-      let few = h .accepted .usable .steps in
-      let most = h .accepted .usable .most in
-      let rows = h .accepted .usable .most-projections in
-      let some = h .accepted .usable .residual-projections e in
-      let half = h .radii-long in
+      let most = sound .most in
+      let rows = h .usable .most-projections in
+      let some = h .usable .residual-projections e in
       let near = close-error (omega (arith, same)) known (close-whole e) in
-      let bound = residual-within (trailingZeros 64 (s .dim)) (length (c .radii)) (s .dim) (polarPartSize s l c) (radiusSum (c .radii)) (unit * unit) (unit * unit * unit) few half (s .projections) (residualPartSize s l) (omega (arith, same)) pairs-some in
+      let bound = residual-within (sound .roundings) (a .count) (a .factor) (length (c .radii)) (s .dim) (polarPartSize a l c) (absoluteSum (c .radii)) (unit * unit) (unit * unit * unit) (sound .counted) (h .radii-long) (s .projections) (residualPartSize s l query) (omega (arith, same)) pairs-some in
       rw (scaled-unit, per-radius, per-one) (near-weaken bound near)
 
   -- Each finite score lies within its bound of its exact score.
-  pub score-within : T (finite (scoreOf s l c)) → Near (scaledScore s l c) (scaledExact s l c) (boundOf s l c)
-  unfolding scoreOf scoreFrom exactScore sizeOf boundOf bound-at
+  pub score-within : T (finite (scoreBy a s l query c)) → Near (perUnit ⊙ val (scoreBy a s l query c)) (2 ^ 23 ⊙ exactBy a s l query c) (boundBy a s l query c)
+  unfolding scoreFrom exactBy sizeBy boundBy bound-at
   score-within known = by-mode (s .mode) refl known
 
--- Of two records under one setup and query, scores that differ by more than the sum of their bounds have exact scores in the same strict order.
-pub scores-ordered : (s : Setup) (l : Lent) (c d : Content) → Scorable s l c → Scorable s l d → T (finite (scoreOf s l c)) → T (finite (scoreOf s l d))
-    → Under (boundOf s l c + boundOf s l d) (scaledScore s l c) (scaledScore s l d) → Under 0 (scaledExact s l c) (scaledExact s l d)
-scores-ordered s l c d h g known known' apart = order-kept (score-within s l c h known) (score-within s l d g known') apart
+-- Of two records under one setup, query and rotation, scores that differ by more than the sum of their bounds have exact scores in the same strict order.
+pub scores-ordered : (a : Account) (s : Setup) (l : Lent) (query : List Float) (c d : Content) → Sound (s .dim) a → Scorable s l query c → Scorable s l query d → T (finite (scoreBy a s l query c)) → T (finite (scoreBy a s l query d))
+    → Under (boundBy a s l query c + boundBy a s l query d) (perUnit ⊙ val (scoreBy a s l query c)) (perUnit ⊙ val (scoreBy a s l query d)) → Under 0 (2 ^ 23 ⊙ exactBy a s l query c) (2 ^ 23 ⊙ exactBy a s l query d)
+scores-ordered a s l query c d sound h g known known' apart = order-kept (score-within a s l query c sound h known) (score-within a s l query d sound g known') apart

@@ -1,4 +1,5 @@
 -- The score of what a record holds under a setup and a query, the exact score, and the bound between them: document 01, 'Rotation, sketch, score'.
+-- What they take from the rotation is an account of it, so that they stand here once for every rotation.
 -- Score, exact score and bound are whole numbers at one fixed scale, 2 ^ -619: a product of four f32 is a whole number of 2 ^ -596, and the bound has 2 ^ 23
 -- below its line. Assumes nothing.
 use Prim.Native.Nat.{ℕ, _+_, _*_, _^_}
@@ -7,16 +8,18 @@ use mathlib.Core.List.{List}
 use lib.IntN.{ℤ}
 use lib.Ieee.{Float, binary32, add}
 use Rattle.rounding.specs.Signed.{Diff, _⊞_, _⊙_}
-use Rattle.rounding.specs.Value.{unit, val, mag, one}
-use Rattle.rotation.specs.Rotation.{inverseRoot, rotated}
-use Rattle.rotation.specs.Exact.{exactRotated, absoluteSum}
+use Rattle.float.specs.Constants.{one}
+use Rattle.float.specs.Units.{unit}
+use Rattle.setup.specs.Lent.{Lent}
 use Rattle.setup.specs.declared.Setup.{Setup}
 use Rattle.setup.specs.Setups.{byMode, countedProjectionsOf}
 use Rattle.polar.specs.Polar.{polarSumOf}
-use Rattle.polar.specs.Exact.{exactPolar, directionSum, radiusSum}
-use Rattle.qjl.specs.Projection.{projected}
+use Rattle.polar.specs.Exact.{exactPolar, polarSize}
+use Rattle.rounding.specs.Sums.{absoluteSum}
+use Rattle.rounding.specs.Rows.{projected}
 use Rattle.qjl.specs.Score.{scaleOf, unitResidual}
 use Rattle.qjl.specs.Exact.{exactResidual, residualSize}
+use Rattle.turbo_order.specs.Account.{Account, hadamardAccount}
 
 -- what a record holds, as read from it: a radius and an index for each pair, and its signs
 pub record Content : Type 0 where
@@ -24,78 +27,83 @@ pub record Content : Type 0 where
   pub indices : List ℕ
   pub signs : List ℤ
 
--- what is lent beside the scalars of a setup, and the query
-pub record Lent : Type 0 where
-  pub signs : List Float
-  pub directions : List Float
-  pub matrix : List Float
-  pub query : List Float
-
 -- 'the scale K is root(PI / 2) × 1.0 / m'
 abbrev pub unitScale : ℕ → Float
 unitScale m = scaleOf m (one false)
 
+-- ---- the score
 -- 'The score is the polar sum plus the residual, rounded; in `PolarOnly` it is the polar sum.' From a query that is rotated and projected
 unfoldable pub scoreFrom : Setup → List Float → List Float → List Float → Content → Float
-scoreFrom s directions turned rows c =
+scoreFrom s directions rotated values c =
     byMode (s .mode)
-    (polarSumOf turned directions (c .indices) (c .radii))
-    (add binary32 (polarSumOf turned directions (c .indices) (c .radii)) (unitResidual (s .projections) rows (c .signs)))
+    (polarSumOf rotated directions (c .indices) (c .radii))
+    (add binary32 (polarSumOf rotated directions (c .indices) (c .radii)) (unitResidual (s .projections) values (c .signs)))
 
--- the same from a query and what is lent with it
-unfoldable pub scoreOf : Setup → Lent → Content → Float
-scoreOf s l c = scoreFrom s (l .directions) (rotated (s .dim) (l .signs) (l .query)) (projected (s .dim) (s .projections) (l .matrix) (l .query)) c
+-- the polar sum and the residual of the score that an account gives
+abbrev pub polarPart : Account → Lent → Content → Float
+polarPart a l c = polarSumOf (a .entries) (l .directions) (c .indices) (c .radii)
 
--- its two parts
-abbrev pub polarPart : Setup → Lent → Content → Float
-polarPart s l c = polarSumOf (rotated (s .dim) (l .signs) (l .query)) (l .directions) (c .indices) (c .radii)
+abbrev pub residualPart : Setup → Lent → List Float → Content → Float
+residualPart s l query c = unitResidual (s .projections) (projected (s .dim) (s .projections) (l .matrix) query) (c .signs)
 
-abbrev pub residualPart : Setup → Lent → Content → Float
-residualPart s l c = unitResidual (s .projections) (projected (s .dim) (s .projections) (l .matrix) (l .query)) (c .signs)
+-- the score by an account of the query's rotation, with the query projected on the matrix
+abbrev pub scoreBy : Account → Setup → Lent → List Float → Content → Float
+scoreBy a s l query c = scoreFrom s (l .directions) (a .entries) (projected (s .dim) (s .projections) (l .matrix) query) c
 
 -- ---- 'The exact score replaces each rounded step from query to score by its exact one', in units of 2 ^ -596
 -- 'the sum over pairs of r × (qa × c + qb × s), .. (qa, qb) its two entries of the query rotated without rounding'
-abbrev pub exactPolarPart : Setup → Lent → Content → Diff
-exactPolarPart s l c = exactPolar (exactRotated (s .dim) (l .signs) (l .query)) (l .directions) (c .indices) (c .radii)
+abbrev pub exactPolarPart : Account → Lent → Content → Diff
+exactPolarPart a l c = exactPolar (a .exact) (l .directions) (c .indices) (c .radii)
 
 -- 'K × the sum over rows of the record's sign × projected value', a whole number of 2 ^ -447
-abbrev pub exactResidualPart : Setup → Lent → Content → Diff
-exactResidualPart s l c = unit ⊙ exactResidual (unitScale (s .projections)) (s .dim) (s .projections) (l .matrix) (l .query) (c .signs)
+abbrev pub exactResidualPart : Setup → Lent → List Float → Content → Diff
+exactResidualPart s l query c = unit ⊙ exactResidual (unitScale (s .projections)) (s .dim) (s .projections) (l .matrix) query (c .signs)
 
-unfoldable pub exactScore : Setup → Lent → Content → Diff
-exactScore s l c = byMode (s .mode) (exactPolarPart s l c) (exactPolarPart s l c ⊞ exactResidualPart s l c)
+unfoldable pub exactBy : Account → Setup → Lent → List Float → Content → Diff
+exactBy a s l query c = byMode (s .mode) (exactPolarPart a l c) (exactPolarPart a l c ⊞ exactResidualPart s l query c)
 
 -- ---- 'A = (1/sqrt(n)) × X × sum of r(|c| + |s|), plus K × the sum of all |matrix entry × query entry|', in units of 2 ^ -596;
 -- 'Without residual the K part is 0.'
-abbrev pub polarPartSize : Setup → Lent → Content → ℕ
-polarPartSize s l c = mag (inverseRoot (s .dim)) * absoluteSum (l .query) * directionSum (l .directions) (c .indices) (c .radii)
+-- the sum of r(|c| × a + |s| × b), where a and b are the sums that bound the pair's two entries; each is (1/sqrt(n)) × X for the Hadamard rotation, and the
+-- law `hadamard-size` has the product that document 01 writes
+abbrev pub polarPartSize : Account → Lent → Content → ℕ
+polarPartSize a l c = polarSize (a .sizes) (l .directions) (c .indices) (c .radii)
 
-abbrev pub residualPartSize : Setup → Lent → ℕ
-residualPartSize s l = unit * residualSize (unitScale (s .projections)) (s .dim) (s .projections) (l .matrix) (l .query)
+abbrev pub residualPartSize : Setup → Lent → List Float → ℕ
+residualPartSize s l query = unit * residualSize (unitScale (s .projections)) (s .dim) (s .projections) (l .matrix) query
 
-unfoldable pub sizeOf : Setup → Lent → Content → ℕ
-sizeOf s l c = byMode (s .mode) (polarPartSize s l c) (polarPartSize s l c + residualPartSize s l)
+unfoldable pub sizeBy : Account → Setup → Lent → List Float → Content → ℕ
+sizeBy a s l query c = byMode (s .mode) (polarPartSize a l c) (polarPartSize a l c + residualPartSize s l query)
 
 -- ---- at the scale 2 ^ -619
--- how many make 2 ^ -149, of which a float is a whole number; how many make 1 / 2 ^ 146, and that times 2 ^ -149
+-- how many make 2 ^ -149, of which every finite float is a whole number
 unfoldable pub perUnit : ℕ
 perUnit = 2 ^ 470
 
+-- how many make 1 / 2 ^ 146
 unfoldable pub perOne : ℕ
 perOne = 2 ^ 473
 
+-- how many make 2 ^ -149 / 2 ^ 146, of which R / 2 ^ 146 is a whole number
 unfoldable pub perRadius : ℕ
 perRadius = 2 ^ 324
 
--- the score, and the exact score
-abbrev pub scaledScore : Setup → Lent → Content → Diff
-scaledScore s l c = perUnit ⊙ val (scoreOf s l c)
+-- 'bound = (n + m + 16) × A / 2^23 + (R + n×m + n) / 2^146', with the account's count for the first n, and R times its factor
+unfoldable pub boundBy : Account → Setup → Lent → List Float → Content → ℕ
+boundBy a s l query c =
+    (a .count + countedProjectionsOf s + 16) * sizeBy a s l query c
+    + (perRadius * (a .factor * absoluteSum (c .radii)) + perOne * (s .dim * countedProjectionsOf s + s .dim))
 
-abbrev pub scaledExact : Setup → Lent → Content → Diff
-scaledExact s l c = 2 ^ 23 ⊙ exactScore s l c
+-- ---- under the rotation of the setup
+abbrev pub accountOf : Setup → Lent → List Float → Account
+accountOf s l query = hadamardAccount (s .dim) (l .signs) query
 
--- 'bound = (n + m + 16) × A / 2^23 + (R + n×m + n) / 2^146'
-unfoldable pub boundOf : Setup → Lent → Content → ℕ
-boundOf s l c =
-    (s .dim + countedProjectionsOf s + 16) * sizeOf s l c
-    + (perRadius * radiusSum (c .radii) + perOne * (s .dim * countedProjectionsOf s + s .dim))
+unfoldable pub scoreOf : Setup → Lent → List Float → Content → Float
+scoreOf s l query c = scoreBy (accountOf s l query) s l query c
+
+-- the exact score and the bound, at the scale
+abbrev pub scaledExact : Setup → Lent → List Float → Content → Diff
+scaledExact s l query c = 2 ^ 23 ⊙ exactBy (accountOf s l query) s l query c
+
+abbrev pub boundOf : Setup → Lent → List Float → Content → ℕ
+boundOf s l query c = boundBy (accountOf s l query) s l query c

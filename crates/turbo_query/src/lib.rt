@@ -11,10 +11,11 @@ ghost use Rattle.error.specs.Answer.{first, accepted, done, after};
 ghost use Rattle.error.specs.Outcomes.{says};
 ghost use Rattle.rotation.specs.Checks.{rotationChecks};
 ghost use Rattle.rotation.specs.Rotation.{rotated as rotatedBy};
-ghost use Rattle.qjl.specs.Filled.{Rowed};
-ghost use Rattle.qjl.specs.Projection.{projected as projectedOn};
+ghost use Rattle.setup.specs.Lent.{lent};
+ghost use Rattle.qjl.specs.Inner.{Rowed};
+ghost use Rattle.rounding.specs.Rows.{projected as projectedOn};
 ghost use Rattle.turbo_query.specs.Query.{prepareRotatedOf, prepareProjectedOf};
-ghost use Rattle.turbo_query.specs.Handed.{handedChecks, Handed, Queryable};
+ghost use Rattle.turbo_query.specs.Inner.{handedChecks, Handed, Queryable};
 
 // Prepares a query: rotated into one output, projected into the other. Neither is written unless both fit.
 pub fn prepare_query(
@@ -26,9 +27,9 @@ pub fn prepare_query(
     rotated: &mut [f32],
     projected: &mut [f32],
 ) -> Outcome
-    ensures said { λ r. ⌜ says r ≡ done (prepareRotatedOf setup (now (signs .entry)) (now (directions .entry)) (now (matrix .entry)) (now (query .entry)) (length (now (rotated .entry))) (length (now (projected .entry)))) ⌝ }
-    ensures turned { λ _. ⌜ now (rotated .exit) ≡ after (prepareRotatedOf setup (now (signs .entry)) (now (directions .entry)) (now (matrix .entry)) (now (query .entry)) (length (now (rotated .entry))) (length (now (projected .entry)))) (now (rotated .entry)) ⌝ }
-    ensures rows { λ _. ⌜ now (projected .exit) ≡ after (prepareProjectedOf setup (now (signs .entry)) (now (directions .entry)) (now (matrix .entry)) (now (query .entry)) (length (now (rotated .entry))) (length (now (projected .entry)))) (now (projected .entry)) ⌝ }
+    ensures said { λ r. ⌜ says r ≡ done (prepareRotatedOf setup (lent (now (signs .entry)) (now (directions .entry)) (now (matrix .entry))) (now (query .entry)) (length (now (rotated .entry))) (length (now (projected .entry)))) ⌝ }
+    ensures rotated { λ _. ⌜ now (rotated .exit) ≡ after (prepareRotatedOf setup (lent (now (signs .entry)) (now (directions .entry)) (now (matrix .entry))) (now (query .entry)) (length (now (rotated .entry))) (length (now (projected .entry)))) (now (rotated .entry)) ⌝ }
+    ensures projected { λ _. ⌜ now (projected .exit) ≡ after (prepareProjectedOf setup (lent (now (signs .entry)) (now (directions .entry)) (now (matrix .entry))) (now (query .entry)) (length (now (rotated .entry))) (length (now (projected .entry)))) (now (projected .entry)) ⌝ }
 {
     let checked = qjl::check_vector(setup, signs, directions, matrix, query);
     if let Outcome::Refused { number, place } = checked {
@@ -46,23 +47,23 @@ fn prepare(
     signs: &[f32],
     matrix: &[f32],
     query: &[f32],
-    rotated: &mut [f32],
-    projected: &mut [f32],
+    out: &mut [f32],
+    other: &mut [f32],
 ) -> Outcome
     requires { ⌜ Queryable dim rows (now signs) (now matrix) (now query) ⌝ }
-    ensures { λ r. ⌜ Handed dim rows (rotatedBy dim (now (signs .entry)) (now (query .entry))) (projectedOn dim rows (now (matrix .entry)) (now (query .entry))) (now (rotated .entry)) (now (projected .entry)) (says r) (now (rotated .exit)) (now (projected .exit)) ⌝ }
+    ensures { λ r. ⌜ Handed dim rows (rotatedBy dim (now (signs .entry)) (now (query .entry))) (projectedOn dim rows (now (matrix .entry)) (now (query .entry))) (now (out .entry)) (now (other .entry)) (says r) (now (out .exit)) (now (other .exit)) ⌝ }
 {
-    let mut turned = zeros();
-    let mut sums = zeros();
+    let mut rotated = zeros();
+    let mut projected = zeros();
     fill_query(
         dim,
         signs,
         matrix,
         query,
-        &mut turned[0..dim],
-        &mut sums[0..rows],
+        &mut rotated[0..dim],
+        &mut projected[0..rows],
     );
-    hand_over(&turned[0..dim], &sums[0..rows], rotated, projected)
+    hand_over(&rotated[0..dim], &projected[0..rows], out, other)
 }
 
 // The query rotated, and the query projected, each into an output of just that length.
@@ -71,73 +72,61 @@ fn fill_query(
     signs: &[f32],
     matrix: &[f32],
     query: &[f32],
-    turned: &mut [f32],
-    sums: &mut [f32],
+    rotated: &mut [f32],
+    projected: &mut [f32],
 )
-    requires { ⌜ (first (rotationChecks dim (now signs) (length (now query)) (length (now turned))) accepted ≡ accepted) × Rowed dim (now matrix) (now query) (length (now sums)) ⌝ }
-    ensures { λ _. ⌜ now (turned .exit) ≡ rotatedBy dim (now (signs .entry)) (now (query .entry)) ⌝ }
-    ensures { λ _. ⌜ now (sums .exit) ≡ projectedOn dim (length (now (sums .entry))) (now (matrix .entry)) (now (query .entry)) ⌝ }
+    requires { ⌜ (first (rotationChecks dim (now signs) (length (now query)) (length (now rotated))) accepted ≡ accepted) × Rowed dim (now matrix) (now query) (length (now projected)) ⌝ }
+    ensures { λ _. ⌜ now (rotated .exit) ≡ rotatedBy dim (now (signs .entry)) (now (query .entry)) ⌝ }
+    ensures { λ _. ⌜ now (projected .exit) ≡ projectedOn dim (length (now (projected .entry))) (now (matrix .entry)) (now (query .entry)) ⌝ }
 {
-    rotation::apply(dim, signs, query, turned);
-    qjl::project(dim, matrix, query, sums);
+    rotation::apply(dim, signs, query, rotated);
+    qjl::project(dim, matrix, query, projected);
 }
 
-// Copies the rotated and the projected query to the outputs, unless a value or a length is refused.
-fn hand_over(turned: &[f32], sums: &[f32], rotated: &mut [f32], projected: &mut [f32]) -> Outcome
-    ensures { λ r. ⌜ Handed (length (now (turned .entry))) (length (now (sums .entry))) (now (turned .entry)) (now (sums .entry)) (now (rotated .entry)) (now (projected .entry)) (says r) (now (rotated .exit)) (now (projected .exit)) ⌝ }
+// Copies the rotated query to the one output and the projected query to the other, unless a value or a length is refused.
+fn hand_over(rotated: &[f32], projected: &[f32], out: &mut [f32], other: &mut [f32]) -> Outcome
+    ensures { λ r. ⌜ Handed (length (now (rotated .entry))) (length (now (projected .entry))) (now (rotated .entry)) (now (projected .entry)) (now (out .entry)) (now (other .entry)) (says r) (now (out .exit)) (now (other .exit)) ⌝ }
 {
-    let checked = check_handed(turned, sums, rotated.len(), projected.len());
+    let checked = check_handed(rotated, projected, out.len(), other.len());
     if let Outcome::Refused { number, place } = checked {
         return Outcome::Refused { number, place };
     }
-    copy_into(turned, rotated);
-    copy_into(sums, projected);
+    float::copy_into(rotated, out);
+    float::copy_into(projected, other);
     Outcome::Done
 }
 
 // The checks of the rotated and the projected query, then of the outputs' lengths.
-fn check_handed(turned: &[f32], sums: &[f32], room: usize, space: usize) -> Outcome
-    ensures { λ r. ⌜ says r ≡ first (handedChecks (length (now (turned .entry))) (length (now (sums .entry))) (now (turned .entry)) (now (sums .entry)) room space) accepted ⌝ }
+fn check_handed(rotated: &[f32], projected: &[f32], room: usize, space: usize) -> Outcome
+    ensures { λ r. ⌜ says r ≡ first (handedChecks (length (now (rotated .entry))) (length (now (projected .entry))) (now (rotated .entry)) (now (projected .entry)) room space) accepted ⌝ }
 {
-    let bad = setup::first_non_finite(turned);
-    if bad < turned.len() {
+    let bad = error::first_non_finite(rotated);
+    if bad < rotated.len() {
         return Outcome::Refused {
             number: NON_FINITE_INPUT,
             place: bad,
         };
     }
-    let stray = setup::first_non_finite(sums);
-    if stray < sums.len() {
+    let stray = error::first_non_finite(projected);
+    if stray < projected.len() {
         return Outcome::Refused {
             number: NON_FINITE_INPUT,
             place: stray,
         };
     }
-    if room != turned.len() {
+    if room != rotated.len() {
         return Outcome::Refused {
             number: OUTPUT_LENGTH,
-            place: turned.len(),
+            place: rotated.len(),
         };
     }
-    if space != sums.len() {
+    if space != projected.len() {
         return Outcome::Refused {
             number: OUTPUT_LENGTH,
-            place: sums.len(),
+            place: projected.len(),
         };
     }
     Outcome::Done
-}
-
-// The values of the input, into an output of the same length.
-fn copy_into(input: &[f32], output: &mut [f32])
-    requires { ⌜ length (now output) ≡ length (now input) ⌝ }
-    ensures { λ _. ⌜ now (output .exit) ≡ now (input .entry) ⌝ }
-{
-    let mut i = 0;
-    while i < output.len() {
-        output[i] = input[i];
-        i += 1;
-    }
 }
 
 // Room for the rotated query, or for its projections: at most 4,096 values.

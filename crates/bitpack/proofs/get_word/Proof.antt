@@ -1,87 +1,54 @@
--- `bitpack::get_word` meets its contract: four bytes are the run at their place, by Horner's rule. Assumes nothing.
-use Prim.Native.Nat.{ℕ, _+_}
+-- `bitpack::get_word` meets its contract: the four bytes are those from `at` on. Assumes nothing.
+use Prim.Native.Nat.{ℕ}
+use mathlib.Core.Path.{sym, ap, _∙_}
 use native.Mathlib.Omega.{arith}
+use borrow.Author.Needs.{needs}
 use Rattle.digits.specs.Digits.{number}
 use Rattle.digits.proofs.Runs.{run-four}
-use borrow.Author.Needs.{needs}
 use Rattle.bitpack.proofs.get_word.Statement.{statement}
 use Rattle.bitpack.proofs.get_word.Tie as tie
 
-shared-slice-read-a : tie.Need-shared-slice-read-a
-shared-slice-read-a c = search needs
+shared-slice-read-word-of : tie.Need-shared-slice-read-word-of
+shared-slice-read-word-of c = search needs
 
-cast-a : tie.Need-cast-a
-cast-a c = omega (arith, c .shared-slice-known .given (c .before .args .at))
+add-word-of : tie.Need-add-word-of
+add-word-of c = search needs
 
-add-b : tie.Need-add-b
-add-b c = search needs
+shared-slice-read-word-of-2 : tie.Need-shared-slice-read-word-of-2
+shared-slice-read-word-of-2 c = search needs
 
-shared-slice-read-b : tie.Need-shared-slice-read-b
-shared-slice-read-b c = search needs
+add-word-of-2 : tie.Need-add-word-of-2
+add-word-of-2 c = search needs
 
-cast-b : tie.Need-cast-b
-cast-b c = omega (arith, c .shared-slice-known2 .given (c .before .before .args .at + 1))
+shared-slice-read-word-of-3 : tie.Need-shared-slice-read-word-of-3
+shared-slice-read-word-of-3 c = search needs
 
-add-c : tie.Need-add-c
-add-c c = search needs
+add-word-of-3 : tie.Need-add-word-of-3
+add-word-of-3 c = search needs
 
-shared-slice-read-c : tie.Need-shared-slice-read-c
-shared-slice-read-c c = search needs
+shared-slice-read-word-of-4 : tie.Need-shared-slice-read-word-of-4
+shared-slice-read-word-of-4 c = search needs
 
-cast-c : tie.Need-cast-c
-cast-c c = omega (arith, c .shared-slice-known3 .given (c .before .before .before .args .at + 2))
+word-of-requires : tie.Need-word-of-requires
+word-of-requires c κs = search needs
 
-add-d : tie.Need-add-d
-add-d c = search needs
-
-shared-slice-read-d : tie.Need-shared-slice-read-d
-shared-slice-read-d c = search needs
-
-cast-d : tie.Need-cast-d
-cast-d c = omega (arith, c .shared-slice-known4 .given (c .before .before .before .before .args .at + 3))
-
-mul-result : tie.Need-mul-result
-mul-result c = omega (arith, c .shared-slice-known4 .given (c .before .before .before .before .args .at), c .shared-slice-known4 .given (c .before .before .before .before .args .at + 1), c .shared-slice-known4 .given (c .before .before .before .before .args .at + 2), c .shared-slice-known4 .given (c .before .before .before .before .args .at + 3))
-
-add-result : tie.Need-add-result
-add-result c = omega (arith, c .shared-slice-known4 .given (c .before .before .before .before .args .at), c .shared-slice-known4 .given (c .before .before .before .before .args .at + 1), c .shared-slice-known4 .given (c .before .before .before .before .args .at + 2), c .shared-slice-known4 .given (c .before .before .before .before .args .at + 3))
-
-mul-result-2 : tie.Need-mul-result-2
-mul-result-2 c = omega (arith, c .shared-slice-known4 .given (c .before .before .before .before .args .at), c .shared-slice-known4 .given (c .before .before .before .before .args .at + 1), c .shared-slice-known4 .given (c .before .before .before .before .args .at + 2), c .shared-slice-known4 .given (c .before .before .before .before .args .at + 3))
-
-add-result-2 : tie.Need-add-result-2
-add-result-2 c = omega (arith, c .shared-slice-known4 .given (c .before .before .before .before .args .at), c .shared-slice-known4 .given (c .before .before .before .before .args .at + 1), c .shared-slice-known4 .given (c .before .before .before .before .args .at + 2), c .shared-slice-known4 .given (c .before .before .before .before .args .at + 3))
-
-mul-result-3 : tie.Need-mul-result-3
-mul-result-3 c = omega (arith, c .shared-slice-known4 .given (c .before .before .before .before .args .at), c .shared-slice-known4 .given (c .before .before .before .before .args .at + 1), c .shared-slice-known4 .given (c .before .before .before .before .args .at + 2), c .shared-slice-known4 .given (c .before .before .before .before .args .at + 3))
-
-add-result-3 : tie.Need-add-result-3
-add-result-3 c = omega (arith, c .shared-slice-known4 .given (c .before .before .before .before .args .at), c .shared-slice-known4 .given (c .before .before .before .before .args .at + 1), c .shared-slice-known4 .given (c .before .before .before .before .args .at + 2), c .shared-slice-known4 .given (c .before .before .before .before .args .at + 3))
+cast-result : tie.Need-cast-result
+cast-result c = search needs
 
 returns : tie.Need-returns
-unfolding number
-returns c =
-    (rw (run-four {A = ℕ} _ _ 0 (c .before .before .before .before .pre)) (omega arith), omega (arith, c .shared-slice-known4 .given (c .before .before .before .before .args .at), c .shared-slice-known4 .given (c .before .before .before .before .args .at + 1), c .shared-slice-known4 .given (c .before .before .before .before .args .at + 2), c .shared-slice-known4 .given (c .before .before .before .before .args .at + 3)))
+returns c = (c .word-of .ensures ∙ ap (number 256) (sym (run-four {A = ℕ} _ _ 0 (c .before .before .before .before .before .before .pre))), omega arith)
 
 pub get-word-spec : {M : Type 1} → statement M
 get-word-spec =
     tie.close
     (tie.spec
-    shared-slice-read-a
-    cast-a
-    add-b
-    shared-slice-read-b
-    cast-b
-    add-c
-    shared-slice-read-c
-    cast-c
-    add-d
-    shared-slice-read-d
-    cast-d
-    mul-result
-    add-result
-    mul-result-2
-    add-result-2
-    mul-result-3
-    add-result-3
+    shared-slice-read-word-of
+    add-word-of
+    shared-slice-read-word-of-2
+    add-word-of-2
+    shared-slice-read-word-of-3
+    add-word-of-3
+    shared-slice-read-word-of-4
+    word-of-requires
+    cast-result
     returns)

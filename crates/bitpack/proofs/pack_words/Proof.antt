@@ -1,9 +1,10 @@
 -- `bitpack::pack_words` meets its contract: the loop keeps `Packed`, and its two turns are laws of it. Assumes nothing.
-use Prim.Native.Nat.{ℕ, _+_, _-_}
+use Prim.Native.Nat.{ℕ, _+_, _-_, _≤_}
 use mathlib.Core.Path.{refl, sym, ap, _∙_}
 use native.Mathlib.Omega.{arith}
 use lib.ListN.{length}
-use borrow.Author.Needs.{scaled-fits}
+use borrow.Author.Needs.{needs, scaled-fits}
+use Rattle.digits.proofs.Words.{put-word-room}
 use Rattle.bitpack.proofs.Windows.{shift-in-exact, shift-in-word}
 use Rattle.bitpack.proofs.Packing.{Packed, pack-start, pack-bound, pack-turn, pack-word, pack-within, pack-end}
 use Rattle.bitpack.proofs.pack_words.Statement.{statement}
@@ -43,10 +44,14 @@ add-i : tie.Need-add-i Inv-loop μ-loop
 add-i c = omega arith
 
 put-word-requires : tie.Need-put-word-requires Inv-loop μ-loop
-put-word-requires c κs =
-    let start = c .before .before .before .before .before .before .before in
-    let s = c .before .before .before .before .loop in
-    omega (arith, pack-bound _ _ _ (start .pre) _ _ _ _ _ (s .inv) (c .before .before .before .loop-test .taken) (c .before .if1 .taken), s .inv .sized)
+put-word-requires c κs = search needs
+
+-- there is room for four bytes
+room : (c : tie.After-put-word Inv-loop μ-loop) → let s = c .before .before .before .before .before .loop in s .k + 4 ≤ length (s .out)
+room c =
+    let start = c .before .before .before .before .before .before .before .before in
+    let s = c .before .before .before .before .before .loop in
+    omega (arith, pack-bound _ _ _ (start .pre) _ _ _ _ _ (s .inv) (c .before .before .before .before .loop-test .taken) (c .before .before .if1 .taken), s .inv .sized)
 
 add-k : tie.Need-add-k Inv-loop μ-loop
 add-k c =
@@ -63,7 +68,7 @@ loop-again c =
     let s = c .before .before .before .before .before .before .before .loop in
     let more = c .before .before .before .before .before .before .loop-test .taken in
     let sum = ap (λ (m : ℕ). s .acc + m) (shift-in-exact (s .held) (start .args .bits) _ (start .pre .small (s .i) more) (omega (arith, s .inv .small, start .pre .narrow))) in
-    pack-word _ _ _ (start .pre) _ _ _ _ _ (s .inv) more _ _ sum (c .before .before .before .before .if1 .taken) (c .before .before .put-word .ensures)
+    pack-word _ _ _ (start .pre) _ _ _ _ _ (s .inv) more _ _ sum (c .before .before .before .before .if1 .taken) (c .before .before .put-word .ensures ∙ put-word-room _ _ _ (room (c .before .before)))
 
 loop-less-2 : tie.Need-loop-less-2 Inv-loop μ-loop
 loop-less-2 c = omega (arith, c .before .before .loop-test .taken)

@@ -4,7 +4,7 @@ use mathlib.Core.Path.{_≡_, refl, ap, _∙_}
 use native.Mathlib.Omega.{arith}
 use lib.ListN.{drop}
 use Rattle.digits.specs.Digits.{number}
-use Rattle.bitpack.specs.Asked.{Refillable}
+use Rattle.bitpack.specs.Inner.{Refillable}
 use Rattle.bitpack.proofs.Digits.{number-drop}
 use Rattle.bitpack.proofs.Windows.{shift-in-exact, shift-in-word}
 use Rattle.bitpack.proofs.Unpacking.{refill-bound, refill-byte, refill-same}

@@ -5,7 +5,7 @@ use native.Mathlib.Omega.{arith}
 use lib.ListN.{length}
 use denote.Ref.{now}
 use Rattle.digits.proofs.Laws.{Below}
-use Rattle.bitpack.specs.Asked.{Eights}
+use Rattle.bitpack.specs.Inner.{Eights}
 use Rattle.bitpack.proofs.Eights.{eights-start, eights-read, eights-room, eights-turn}
 use Rattle.bitpack.proofs.unpack_eights.Statement.{statement}
 use Rattle.bitpack.proofs.unpack_eights.Tie as tie

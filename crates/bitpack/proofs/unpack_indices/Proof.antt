@@ -2,7 +2,7 @@
 use mathlib.Core.Path.{sym, ap, _∙_}
 use native.Mathlib.Omega.{arith}
 use Rattle.error.specs.Outcomes.{says}
-use Rattle.bitpack.specs.Packing.{saysLength}
+use Rattle.error.specs.Lengths.{saysLength}
 use Rattle.error.proofs.Answers.{both-refused, both-value}
 use Rattle.bitpack.proofs.Answers.{measured, unpack-no-length, unpack-padded, unpack-no-room, unpack-value, unpackable}
 use borrow.Author.Needs.{needs}

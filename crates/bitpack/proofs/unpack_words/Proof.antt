@@ -7,7 +7,7 @@ use lib.ListN.{length}
 use lib.Pow.{pow-pos}
 use borrow.Author.Needs.{needs, scaled-fits}
 use Rattle.digits.specs.Digits.{number, digits}
-use Rattle.bitpack.specs.Asked.{Unpackable, Eights}
+use Rattle.bitpack.specs.Inner.{Unpackable, Eights}
 use Rattle.bitpack.proofs.Lengths.{power-shifted, masked, masked-fits}
 use Rattle.bitpack.proofs.Eights.{eights-read, eights-rest}
 use Rattle.bitpack.proofs.Unpacking.{Unpacked, unpack-start, unpack-asks, unpack-turn, unpack-end}

@@ -6,11 +6,11 @@ use borrow.Author.Needs.{needs}
 use Rattle.bitpack_signs.proofs.pack_signs.Statement.{statement}
 use Rattle.bitpack_signs.proofs.pack_signs.Tie as tie
 
-first-no-sign-requires : tie.Need-first-no-sign-requires
-first-no-sign-requires c κs = search needs
+first-bad-sketch-sign-requires : tie.Need-first-bad-sketch-sign-requires
+first-bad-sketch-sign-requires c κs = search needs
 
 returns : tie.Need-returns
-returns c = both-refused _ _ (pack-signs-bad _ _ (c .before .first-no-sign .ensures) (c .if1 .taken))
+returns c = both-refused _ _ (pack-signs-bad _ _ (c .before .first-bad-sketch-sign .ensures) (c .if1 .taken))
 
 add-bytes : tie.Need-add-bytes
 add-bytes c = search needs
@@ -19,7 +19,7 @@ add-bytes-2 : tie.Need-add-bytes-2
 add-bytes-2 c = search needs
 
 returns-2 : tie.Need-returns-2
-returns-2 c = both-refused _ _ (pack-signs-no-room _ _ (c .before .before .first-no-sign .ensures) (c .before .if1 .left) (rounded-up _) (c .if2 .taken))
+returns-2 c = both-refused _ _ (pack-signs-no-room _ _ (c .before .before .first-bad-sketch-sign .ensures) (c .before .if1 .left) (rounded-up _) (c .if2 .taken))
 
 pack-sign-bytes-requires : tie.Need-pack-sign-bytes-requires
 pack-sign-bytes-requires c κs = search needs
@@ -28,13 +28,13 @@ same-length : tie.Need-same-length
 same-length c = search needs
 
 returns-3 : tie.Need-returns-3
-returns-3 c = both-value _ _ _ (pack-signs-value _ _ (c .before .before .before .before .before .before .first-no-sign .ensures) (c .before .before .before .before .before .if1 .left) (rounded-up _) (c .before .before .before .before .if2 .left)) (c .before .before .pack-sign-bytes .ensures)
+returns-3 c = both-value _ _ _ (pack-signs-value _ _ (c .before .before .before .before .before .before .first-bad-sketch-sign .ensures) (c .before .before .before .before .before .if1 .left) (rounded-up _) (c .before .before .before .before .if2 .left)) (c .before .before .pack-sign-bytes .ensures)
 
 pub pack-signs-spec : {M : Type 1} → statement M
 pack-signs-spec =
     tie.close
     (tie.spec
-    first-no-sign-requires
+    first-bad-sketch-sign-requires
     returns
     add-bytes
     add-bytes-2

@@ -4,10 +4,10 @@ use Prim.Native.Nat.{ℕ, _*_, _+_, _^_, _<_}
 use borrow.Author.Needs.{needs}
 use lib.Dec.{T}
 use lib.Ieee.{Float, binary32, fits, nanBits, ofBits, div}
-use Rattle.float.specs.Units.{nonNegative, units, significandOf, shiftOf}
+use Rattle.float.specs.Units.{nonNegative, mag, significandOf, shiftOf}
 use Rattle.float.specs.SquareRoot.{NearestRoot, rootPattern, squareRoot}
 use Rattle.float.proofs.Decode.{toBits-below}
-use Rattle.float.proofs.RootCases.{root-of-zero, root-of-infinite, root-of-none, positive-finite, positive-units, toBits-positive}
+use Rattle.float.proofs.RootCases.{root-of-zero, root-of-infinite, root-of-none, positive-finite, positive-mag, toBits-positive}
 use Rattle.float.proofs.SquareRoot.{squareRoot-fields, squareRoot-nearest}
 use Rattle.float.proofs.sqrt.Statement.{statement}
 use Rattle.float.proofs.sqrt.Tie as tie
@@ -16,7 +16,7 @@ held : (c : tie.Start) → T (fits binary32 (c .args .x))
 held c = subst T (sym (c .good .0 .1)) tt
 
 -- the second clause follows from the first
-both : (c : tie.Start) (r : Float) → r ≡ squareRoot (c .args .x) → (r ≡ squareRoot (c .args .x)) × (T (nonNegative (c .args .x)) → 0 < units (c .args .x) → NearestRoot (c .args .x) r)
+both : (c : tie.Start) (r : Float) → r ≡ squareRoot (c .args .x) → (r ≡ squareRoot (c .args .x)) × (T (nonNegative (c .args .x)) → 0 < mag (c .args .x) → NearestRoot (c .args .x) r)
 both c r e = (e, λ g h. subst (NearestRoot (c .args .x)) (sym e) (squareRoot-nearest (c .args .x) (held c) g h))
 
 returns : tie.Need-returns
@@ -31,11 +31,11 @@ to-bits-requires : tie.Need-to-bits-requires
 to-bits-requires c κs = search needs
 
 -- x is above zero and finite
-positive : (c : tie.Then3) → T (nonNegative (c .before .before .before .args .x)) × (0 < units (c .before .before .before .args .x))
+positive : (c : tie.Then3) → T (nonNegative (c .before .before .before .args .x)) × (0 < mag (c .before .before .before .args .x))
 unfolding ofBits
 positive c =
     let s = c .before .before .before in
-    (positive-finite (s .args .x) (c .before .if2 .taken) (c .if3 .taken), positive-units (s .args .x) (held s) (c .before .if2 .taken) (c .if3 .taken))
+    (positive-finite (s .args .x) (c .before .if2 .taken) (c .if3 .taken), positive-mag (s .args .x) (held s) (c .before .if2 .taken) (c .if3 .taken))
 
 root-pattern-requires : tie.Need-root-pattern-requires
 root-pattern-requires c κs =

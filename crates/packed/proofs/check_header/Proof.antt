@@ -11,7 +11,8 @@ use Rattle.error.specs.Outcomes.{says}
 use Rattle.error.proofs.Chains.{first-all}
 use Rattle.setup.specs.declared.TurboMode.{TurboMode}
 use Rattle.packed.specs.Fields.{mapOf, modeOf, dimOf, bitsOf, projectionsOf}
-use Rattle.packed.specs.Reading.{outsideProjections, shapeChecks}
+use Rattle.packed.specs.Reading.{shapeChecks}
+use Rattle.setup.specs.Checks.{badProjections}
 use Rattle.packed.proofs.Headers.{Passed, header-shape, header-cut, header-wrong, header-right}
 use borrow.Author.Tests.{lt-ltb, le-ltb}
 use borrow.Author.Needs.{needs}
@@ -52,7 +53,7 @@ passed c =
     }
 
 -- the last one, as the code asks it
-asked : (c : tie.After-outside-projections) → let bytes = now (c .before .before .before .before .before .before .before .before .before .before .before .before .before .before .before .args .bytes) in c .outside-projections .result ≡ outsideProjections (modeOf (mapOf bytes)) (projectionsOf bytes)
+asked : (c : tie.After-outside-projections) → let bytes = now (c .before .before .before .before .before .before .before .before .before .before .before .before .before .before .before .args .bytes) in c .outside-projections .result ≡ badProjections (modeOf (mapOf bytes)) (projectionsOf bytes)
 asked c = c .outside-projections .ensures ∙ rw (c .before .mode-of2 .ensures, c .before .before .projections-of .ensures)
 
 returns : tie.Need-returns

@@ -10,6 +10,7 @@ use mathlib.Core.List.{List}
 use Rattle.error.specs.Answer.{place}
 use Rattle.bitpack.specs.Padding.{validatePaddingZeroOf}
 use Rattle.radius.specs.Radii.{badRadius}
+use Rattle.radius.proofs.Scan.{first-bad-whole}
 use Rattle.packed.specs.Fields.{mapOf, profileOf, boundsOf, bitsOf}
 use Rattle.packed.specs.Radii.{badBoundsFor}
 use Rattle.packed.specs.Reading.{radiiOf}
@@ -18,7 +19,7 @@ use Rattle.error.specs.Answer.{accepted}
 use Rattle.packed.specs.Layout.{pairsOf, indicesUsed, totalOf, indicesBytes, signsBytes}
 use Rattle.packed.proofs.Headers.{usable, bits-most, product-most}
 use Rattle.packed.proofs.Parts.{Ordered, ordered, radii-part, indices-part, signs-part, length-radii, header-pairs, header-used, header-projections, header-bounds, header-width, header-radii}
-use Rattle.packed.proofs.Payloads.{first-bad-whole, payload-size, payload-bounds, payload-radius, payload-indices, payload-signs}
+use Rattle.packed.proofs.Payloads.{payload-size, payload-bounds, payload-radius, payload-indices, payload-signs}
 use borrow.Author.Needs.{needs}
 use Rattle.packed.proofs.check_payloads.Statement.{statement}
 use Rattle.packed.proofs.check_payloads.Tie as tie
@@ -36,17 +37,17 @@ within c =
 bounds : (c : tie.Else2) → let bytes = now (c .before .before .before .before .before .args .bytes) in badBoundsFor (profileOf (mapOf bytes)) (boundsOf bytes) ≡ false
 bounds c = sym (header-bounds (now (c .before .before .before .before .before .args .bytes)) (c .before .before .before .before .before .pre .0)) ∙ sym (c .before .wrong-bounds .ensures) ∙ c .if2 .left
 
-found : (c : tie.After-first-bad) → let bytes = now (c .before .before .before .before .before .before .before .before .args .bytes) in c .first-bad .result ≡ place badRadius (radiiOf bytes)
+found : (c : tie.After-first-bad-payload) → let bytes = now (c .before .before .before .before .before .before .before .before .args .bytes) in c .first-bad-payload .result ≡ place badRadius (radiiOf bytes)
 found c =
     let s = c .before .before .before .before .before .before .before .before in
     let bytes = now (s .args .bytes) in
     let part = radii-part bytes (s .pre .0) in
-    c .first-bad .ensures
+    c .first-bad-payload .ensures
     ∙ first-bad-whole (s .args .header .profile) (s .args .header .range) _ (s .args .header .dim / 2) (ap length part ∙ length-radii bytes (sized (c .before .before .before .before .before .before)) ∙ sym (header-width bytes (s .pre .0)))
     ∙ header-radii bytes (s .pre .0) _ part
 
 -- no radius offends
-every : (c : tie.Else3) → let bytes = now (c .before .before .before .before .before .before .before .before .before .args .bytes) in pairsOf bytes ≤ c .before .first-bad .result
+every : (c : tie.Else3) → let bytes = now (c .before .before .before .before .before .before .before .before .before .args .bytes) in pairsOf bytes ≤ c .before .first-bad-payload .result
 every c = omega (arith, c .if3 .left, header-pairs (now (c .before .before .before .before .before .before .before .before .before .args .bytes)) (c .before .before .before .before .before .before .before .before .before .pre .0))
 
 -- the indices' padding
@@ -66,17 +67,17 @@ wrong-bounds-requires c κs = search needs
 returns-2 : tie.Need-returns-2
 returns-2 c = sym (payload-bounds (now (c .before .before .before .before .before .args .bytes)) (sized (c .before .before .before)) (sym (header-bounds (now (c .before .before .before .before .before .args .bytes)) (c .before .before .before .before .before .pre .0)) ∙ sym (c .before .wrong-bounds .ensures) ∙ c .if2 .taken))
 
-sub-first-bad : tie.Need-sub-first-bad
-sub-first-bad c = let w = within (c .before .before .before .before) in omega (arith, w .first, w .second, w .third, w .last)
+sub-first-bad-payload : tie.Need-sub-first-bad-payload
+sub-first-bad-payload c = let w = within (c .before .before .before .before) in omega (arith, w .first, w .second, w .third, w .last)
 
-part-first-bad-start : tie.Need-part-first-bad-start
-part-first-bad-start c = let w = within (c .before .before .before .before) in omega (arith, w .first, w .second, w .third, w .last)
+part-first-bad-payload-start : tie.Need-part-first-bad-payload-start
+part-first-bad-payload-start c = let w = within (c .before .before .before .before) in omega (arith, w .first, w .second, w .third, w .last)
 
-part-first-bad-end : tie.Need-part-first-bad-end
-part-first-bad-end c = let w = within (c .before .before .before .before) in omega (arith, w .first, w .second, w .third, w .last)
+part-first-bad-payload-end : tie.Need-part-first-bad-payload-end
+part-first-bad-payload-end c = let w = within (c .before .before .before .before) in omega (arith, w .first, w .second, w .third, w .last)
 
-first-bad-requires : tie.Need-first-bad-requires
-first-bad-requires c κs = search needs
+first-bad-payload-requires : tie.Need-first-bad-payload-requires
+first-bad-payload-requires c κs = search needs
 
 returns-3 : tie.Need-returns-3
 returns-3 c = sym (payload-radius (now (c .before .before .before .before .before .before .before .before .before .args .bytes)) (sized (c .before .before .before .before .before .before .before)) (bounds (c .before .before .before .before)) (found (c .before)) (omega (arith, c .if3 .taken, header-pairs (now (c .before .before .before .before .before .before .before .before .before .args .bytes)) (c .before .before .before .before .before .before .before .before .before .pre .0))))
@@ -142,10 +143,10 @@ check-payloads-spec =
     returns
     wrong-bounds-requires
     returns-2
-    sub-first-bad
-    part-first-bad-start
-    part-first-bad-end
-    first-bad-requires
+    sub-first-bad-payload
+    part-first-bad-payload-start
+    part-first-bad-payload-end
+    first-bad-payload-requires
     returns-3
     cast-used
     mul-used

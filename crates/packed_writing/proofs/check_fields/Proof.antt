@@ -1,4 +1,4 @@
--- `writing::check_fields` meets its contract: a check that passes leaves the rest of the list. Assumes nothing.
+-- `packed_writing::check_fields` meets its contract: a check that passes leaves the rest of the list. Assumes nothing.
 use Prim.Native.Nat.{ℕ, _/_}
 use mathlib.Core.Path.{_≡_, sym, ap, _∙_}
 use mathlib.Core.Bool.{false}
@@ -13,11 +13,11 @@ use Rattle.packed_writing.proofs.check_fields.Statement.{statement}
 use Rattle.packed_writing.proofs.check_fields.Tie as tie
 
 -- the profile is one that a record has
-known : (c : tie.Else1) → badProfile (c .before .before .args .profile) ≡ false
+known : (c : tie.Else1) → badProfile (c .before .before .args .code .profile) ≡ false
 known c = sym (c .before .is-log .ensures) ∙ c .if1 .left
 
 -- the dimension and the bits have passed
-shaped : (c : tie.After-enum-told) → first (shapeChecks (c .before .before .before .before .before .args .mode) (c .before .before .before .before .before .args .dim) (c .before .before .before .before .before .args .bits)) accepted ≡ accepted
+shaped : (c : tie.After-enum-told) → first (shapeChecks (c .before .before .before .before .before .args .code .mode) (c .before .before .before .before .before .args .code .dim) (c .before .before .before .before .before .args .code .bits)) accepted ≡ accepted
 shaped c = sym (c .before .before .check-shape .ensures) ∙ ap says (c .enum-told .given .1)
 
 is-log-requires : tie.Need-is-log-requires
@@ -33,7 +33,7 @@ enum-known-number : tie.Need-enum-known-number
 enum-known-number c = search needs
 
 returns-2 : tie.Need-returns-2
-returns-2 c = sym (fields-shape (c .before .before .before .before .before .before .args .profile) (c .before .before .before .before .before .before .args .dim) (c .before .before .before .before .before .before .args .bits) (c .before .before .before .before .before .before .args .mode) (c .before .before .before .before .before .before .args .projections) (c .before .before .before .before .before .before .args .radii) (c .before .before .before .before .before .before .args .indices) (c .before .before .before .before .before .before .args .signs) (known (c .before .before .before .before)) (sym (c .before .before .before .check-shape .ensures) ∙ ap says (c .before .number .given .1)))
+returns-2 c = sym (fields-shape (c .before .before .before .before .before .before .args .code) (c .before .before .before .before .before .before .args .radii) (c .before .before .before .before .before .before .args .indices) (c .before .before .before .before .before .before .args .signs) (known (c .before .before .before .before)) (sym (c .before .before .before .check-shape .ensures) ∙ ap says (c .before .number .given .1)))
 
 enum-told : tie.Need-enum-told
 enum-told c = search needs
@@ -42,7 +42,7 @@ outside-projections-requires : tie.Need-outside-projections-requires
 outside-projections-requires c κs = search needs
 
 returns-3 : tie.Need-returns-3
-returns-3 c = sym (fields-projections (c .before .before .before .before .before .before .before .args .profile) (c .before .before .before .before .before .before .before .args .dim) (c .before .before .before .before .before .before .before .args .bits) (c .before .before .before .before .before .before .before .args .mode) (c .before .before .before .before .before .before .before .args .projections) (c .before .before .before .before .before .before .before .args .radii) (c .before .before .before .before .before .before .before .args .indices) (c .before .before .before .before .before .before .before .args .signs) (known (c .before .before .before .before .before)) (shaped (c .before .before)) (sym (c .before .outside-projections .ensures) ∙ c .if2 .taken))
+returns-3 c = sym (fields-projections (c .before .before .before .before .before .before .before .args .code) (c .before .before .before .before .before .before .before .args .radii) (c .before .before .before .before .before .before .before .args .indices) (c .before .before .before .before .before .before .before .args .signs) (known (c .before .before .before .before .before)) (shaped (c .before .before)) (sym (c .before .outside-projections .ensures) ∙ c .if2 .taken))
 
 counted-projections-requires : tie.Need-counted-projections-requires
 counted-projections-requires c κs = search needs
@@ -54,8 +54,8 @@ returns-4 : tie.Need-returns-4
 returns-4 c =
     let a = c .before .before .before .before .before .before .before .before .before .args in
     c .check-lengths .ensures
-    ∙ ap (λ (n : ℕ). first (lengthChecks (a .dim / 2) n (a .radii) (a .indices) (a .signs)) accepted) (c .before .counted-projections .ensures)
-    ∙ sym (fields-rest (c .before .before .before .before .before .before .before .before .before .args .profile) (c .before .before .before .before .before .before .before .before .before .args .dim) (c .before .before .before .before .before .before .before .before .before .args .bits) (c .before .before .before .before .before .before .before .before .before .args .mode) (c .before .before .before .before .before .before .before .before .before .args .projections) (c .before .before .before .before .before .before .before .before .before .args .radii) (c .before .before .before .before .before .before .before .before .before .args .indices) (c .before .before .before .before .before .before .before .before .before .args .signs) (known (c .before .before .before .before .before .before .before)) (shaped (c .before .before .before .before)) (sym (c .before .before .before .outside-projections .ensures) ∙ c .before .before .if2 .left))
+    ∙ ap (λ (n : ℕ). first (lengthChecks (a .code .dim / 2) n (a .radii) (a .indices) (a .signs)) accepted) (c .before .counted-projections .ensures)
+    ∙ sym (fields-rest (c .before .before .before .before .before .before .before .before .before .args .code) (c .before .before .before .before .before .before .before .before .before .args .radii) (c .before .before .before .before .before .before .before .before .before .args .indices) (c .before .before .before .before .before .before .before .before .before .args .signs) (known (c .before .before .before .before .before .before .before)) (shaped (c .before .before .before .before)) (sym (c .before .before .before .outside-projections .ensures) ∙ c .before .before .if2 .left))
 
 pub check-fields-spec : {M : Type 1} → statement M
 check-fields-spec =

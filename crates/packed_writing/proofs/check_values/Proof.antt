@@ -1,63 +1,48 @@
--- `writing::check_values` meets its contract: the radii, then the indices, then the signs. Assumes nothing.
-use mathlib.Core.Path.{sym, ap, _∙_}
-use mathlib.Core.List.{_++_}
+-- `packed_writing::check_values` meets its contract: each return is one case of the checks, in their order. Assumes nothing.
+use mathlib.Core.Path.{sym}
 use denote.Ref.{now}
-use Rattle.error.specs.Answer.{accepted}
-use Rattle.error.specs.Outcomes.{says}
-use Rattle.error.proofs.Chains.{append-refused, append-passed}
-use Rattle.packed_writing.specs.Writing.{radiusChecks, indexChecks, signChecks}
 use borrow.Author.Needs.{needs}
+use Rattle.packed_writing.proofs.Written.{values-radius, values-lost, values-large, values-stray, values-pass}
 use Rattle.packed_writing.proofs.check_values.Statement.{statement}
 use Rattle.packed_writing.proofs.check_values.Tie as tie
 
-check-radii-requires : tie.Need-check-radii-requires
-check-radii-requires c κs = search needs
-
-enum-known-number : tie.Need-enum-known-number
-enum-known-number c = search needs
+first-bad-radius-requires : tie.Need-first-bad-radius-requires
+first-bad-radius-requires c κs = search needs
 
 returns : tie.Need-returns
-returns c = let a = c .before .before .before .before .before .before .args in let radii = now (a .radii) in let indices = now (a .indices) in let signs = now (a .signs) in sym (append-refused (radiusChecks (a .profile) radii) (indexChecks (a .bits) indices ++ signChecks signs) tt accepted (sym (c .before .before .before .check-radii .ensures) ∙ ap says (c .before .number .given .1)))
+returns c = let s = c .before .before .before .before in let a = s .args in sym (values-radius (a .profile) (a .bits) (now (a .radii)) (now (a .indices)) (now (a .signs)) (c .before .first-bad-radius .ensures) (c .if1 .taken))
 
-enum-told : tie.Need-enum-told
-enum-told c = search needs
-
-check-indices-requires : tie.Need-check-indices-requires
-check-indices-requires c κs = search needs
-
-enum-known-number-2 : tie.Need-enum-known-number-2
-enum-known-number-2 c = search needs
+first-bad-read-back-requires : tie.Need-first-bad-read-back-requires
+first-bad-read-back-requires c κs = search needs
 
 returns-2 : tie.Need-returns-2
-returns-2 c = let a = c .before .before .before .before .before .before .before .before .before .args in let radii = now (a .radii) in let indices = now (a .indices) in let signs = now (a .signs) in
-    sym
-    (append-passed (radiusChecks (a .profile) radii) (indexChecks (a .bits) indices ++ signChecks signs) tt accepted (sym (c .before .before .before .before .before .before .check-radii .ensures) ∙ ap says (c .before .before .before .before .enum-told .given .1))
-    ∙ append-refused (indexChecks (a .bits) indices) (signChecks signs) tt accepted (sym (c .before .before .before .check-indices .ensures) ∙ ap says (c .before .number2 .given .1)))
+returns-2 c = let s = c .before .before .before .before .before .before in let a = s .args in sym (values-lost (a .profile) (a .bits) (now (a .radii)) (now (a .indices)) (now (a .signs)) (c .before .before .before .first-bad-radius .ensures) (c .before .before .if1 .left) (s .pre) (c .before .first-bad-read-back .ensures) (c .if2 .taken))
 
-enum-told-2 : tie.Need-enum-told-2
-enum-told-2 c = search needs
-
-check-signs-requires : tie.Need-check-signs-requires
-check-signs-requires c κs = search needs
+first-bad-index-requires : tie.Need-first-bad-index-requires
+first-bad-index-requires c κs = search needs
 
 returns-3 : tie.Need-returns-3
-returns-3 c = let a = c .before .before .before .before .before .before .before .before .before .args in let radii = now (a .radii) in let indices = now (a .indices) in let signs = now (a .signs) in
-    c .check-signs .ensures
-    ∙ sym
-    (append-passed (radiusChecks (a .profile) radii) (indexChecks (a .bits) indices ++ signChecks signs) tt accepted (sym (c .before .before .before .before .before .before .check-radii .ensures) ∙ ap says (c .before .before .before .before .enum-told .given .1))
-    ∙ append-passed (indexChecks (a .bits) indices) (signChecks signs) tt accepted (sym (c .before .before .before .check-indices .ensures) ∙ ap says (c .before .enum-told2 .given .1)))
+returns-3 c = let s = c .before .before .before .before .before .before .before .before in let a = s .args in sym (values-large (a .profile) (a .bits) (now (a .radii)) (now (a .indices)) (now (a .signs)) (c .before .before .before .before .before .first-bad-radius .ensures) (c .before .before .before .before .if1 .left) (s .pre) (c .before .before .before .first-bad-read-back .ensures) (c .before .before .if2 .left) (c .before .first-bad-index .ensures) (c .if3 .taken))
+
+first-bad-sketch-sign-requires : tie.Need-first-bad-sketch-sign-requires
+first-bad-sketch-sign-requires c κs = search needs
+
+returns-4 : tie.Need-returns-4
+returns-4 c = let s = c .before .before .before .before .before .before .before .before .before .before in let a = s .args in sym (values-stray (a .profile) (a .bits) (now (a .radii)) (now (a .indices)) (now (a .signs)) (c .before .before .before .before .before .before .before .first-bad-radius .ensures) (c .before .before .before .before .before .before .if1 .left) (s .pre) (c .before .before .before .before .before .first-bad-read-back .ensures) (c .before .before .before .before .if2 .left) (c .before .before .before .first-bad-index .ensures) (c .before .before .if3 .left) (c .before .first-bad-sketch-sign .ensures) (c .if4 .taken))
+
+returns-5 : tie.Need-returns-5
+returns-5 c = let s = c .before .before .before .before .before .before .before .before .before .before in let a = s .args in sym (values-pass (a .profile) (a .bits) (now (a .radii)) (now (a .indices)) (now (a .signs)) (c .before .before .before .before .before .before .before .first-bad-radius .ensures) (c .before .before .before .before .before .before .if1 .left) (s .pre) (c .before .before .before .before .before .first-bad-read-back .ensures) (c .before .before .before .before .if2 .left) (c .before .before .before .first-bad-index .ensures) (c .before .before .if3 .left) (c .before .first-bad-sketch-sign .ensures) (c .if4 .left))
 
 pub check-values-spec : {M : Type 1} → statement M
 check-values-spec =
     tie.close
     (tie.spec
-    check-radii-requires
-    enum-known-number
+    first-bad-radius-requires
     returns
-    enum-told
-    check-indices-requires
-    enum-known-number-2
+    first-bad-read-back-requires
     returns-2
-    enum-told-2
-    check-signs-requires
-    returns-3)
+    first-bad-index-requires
+    returns-3
+    first-bad-sketch-sign-requires
+    returns-4
+    returns-5)

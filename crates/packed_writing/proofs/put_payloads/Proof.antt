@@ -6,7 +6,7 @@ use native.Mathlib.Omega.{arith}
 use denote.Ref.{now}
 use lib.ListN.{length}
 use Rattle.radius.specs.Codec.{payloadFor}
-use Rattle.packed_writing.specs.Conditions.{CodesReady}
+use Rattle.packed_writing.specs.Inner.{CodesReady}
 use Rattle.packed.proofs.Headers.{width-most, product-most}
 use Rattle.packed_writing.proofs.Stores.{lent-back, front-again, store-two}
 use Rattle.packed_writing.proofs.Writing.{radii-pass}

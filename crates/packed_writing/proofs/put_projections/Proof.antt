@@ -1,7 +1,8 @@
--- `writing::put_projections` meets its contract. Assumes nothing.
+-- `packed_writing::put_projections` meets its contract. Assumes nothing.
 use mathlib.Core.Path.{_∙_}
 use denote.Ref.{now}
 use Rattle.digits.specs.Digits.{digits}
+use Rattle.digits.proofs.Words.{put-word-room}
 use Rattle.packed_writing.proofs.Stores.{store-last, store-none}
 use native.Mathlib.Omega.{arith}
 use borrow.Author.Needs.{needs}
@@ -14,8 +15,8 @@ enum-told c = search needs
 sub-at : tie.Need-sub-at
 sub-at c = let h = rw (c .enum-told .given .1) at (c .before .before .before .pre) in omega (arith, h)
 
-put-u32-requires : tie.Need-put-u32-requires
-put-u32-requires c κs = let h = rw (c .before .enum-told .given .1) at (c .before .before .before .before .pre) in omega (arith, h)
+put-word-requires : tie.Need-put-word-requires
+put-word-requires c κs = search needs
 
 enum-told-2 : tie.Need-enum-told-2
 enum-told-2 c = search needs
@@ -27,7 +28,7 @@ returns : tie.Need-returns
 returns c =
     let xs = now (c .before .before .before .before .before .before .before .args .out) in
     let h = rw (c .before .before .before .before .enum-told .given .1) at (c .before .before .before .before .before .before .before .pre) in
-    rw (c .before .before .before .before .enum-told .given .1) (c .before .before .put-u32 .ensures ∙ store-last xs (digits 256 4 (c .before .before .before .before .before .before .before .args .projections)) h)
+    rw (c .before .before .before .before .enum-told .given .1) (c .before .before .put-word .ensures ∙ put-word-room xs _ _ (omega (arith, h)) ∙ store-last xs (digits 256 4 (c .before .before .before .before .before .before .before .args .projections)) h)
 
 returns-2 : tie.Need-returns-2
 returns-2 c = rw (c .enum-told2 .given .1) (store-none (now (c .before .before .before .args .out)))
@@ -35,4 +36,4 @@ returns-2 c = rw (c .enum-told2 .given .1) (store-none (now (c .before .before .
 pub put-projections-spec : {M : Type 1} → statement M
 put-projections-spec =
     tie.close
-    (tie.spec enum-told sub-at put-u32-requires enum-told-2 same-length returns returns-2)
+    (tie.spec enum-told sub-at put-word-requires enum-told-2 same-length returns returns-2)

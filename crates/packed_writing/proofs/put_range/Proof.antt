@@ -1,4 +1,4 @@
--- `writing::put_range` meets its contract, by the profile. Assumes nothing.
+-- `packed_writing::put_range` meets its contract, by the profile. Assumes nothing.
 use Prim.Native.Nat.{ℕ}
 use mathlib.Core.Path.{ap, _∙_}
 use mathlib.Core.List.{List, _++_}
@@ -6,7 +6,7 @@ use denote.Ref.{now}
 use native.Mathlib.Omega.{arith}
 use lib.ListN.{take, drop}
 use Rattle.float.specs.Bytes.{toLeBytes}
-use Rattle.float.proofs.Bytes.{length-toLeBytes}
+use Rattle.float.proofs.Bytes.{length-toLeBytes, put-f32-room}
 use Rattle.packed_writing.proofs.Stores.{store-pair, store-nothing}
 use borrow.Author.Needs.{needs}
 use Rattle.packed_writing.proofs.put_range.Statement.{statement}
@@ -40,7 +40,8 @@ returns-2 c =
     let range = c .before .before .before .before .before .before .before .before .before .before .before .args .range in
     rw (c .before .before .before .before .before .before .before .before .enum-told2 .given .1)
     (c .before .before .put-f322 .ensures
-    ∙ ap (λ (l : List ℕ). take 10 l ++ toLeBytes (range .max) ++ drop 14 l) (c .before .before .before .before .before .before .put-f32 .ensures)
+    ∙ put-f32-room _ 10 (range .max) (omega (arith, h, c .before .before .before .before .before .before .put-f32 .kept .0))
+    ∙ ap (λ (l : List ℕ). take 10 l ++ toLeBytes (range .max) ++ drop 14 l) (c .before .before .before .before .before .before .put-f32 .ensures ∙ put-f32-room xs 6 (range .min) (omega (arith, h)))
     ∙ store-pair xs (toLeBytes (range .min)) (toLeBytes (range .max)) (length-toLeBytes (range .min)) (length-toLeBytes (range .max)) h)
 
 returns-3 : tie.Need-returns-3

@@ -1,4 +1,4 @@
--- `writing::write_record` meets its contract: the checks, then the header and the payloads, each in its part of the memory. Assumes nothing.
+-- `packed_writing::write_record` meets its contract: the checks, then the header and the payloads, each in its part of the memory. Assumes nothing.
 use Prim.Native.Nat.{ℕ, _+_, _*_, _≤_}
 use mathlib.Core.Path.{_≡_, refl, sym, ap, _∙_}
 use mathlib.Core.List.{List, _++_}
@@ -14,7 +14,7 @@ use Rattle.radius.specs.Codec.{rangeFor}
 use Rattle.radius.specs.declared.Range.{Range}
 use Rattle.packed.specs.Layout.{headerLength}
 use Rattle.packed_writing.specs.Writing.{mapFor, headerBytes, recordOf, neededFor, fieldChecks, valueChecks}
-use Rattle.packed_writing.specs.Conditions.{Sized}
+use Rattle.packed_writing.specs.Inner.{Sized}
 use Rattle.packed.proofs.Headers.{width-most, product-most}
 use Rattle.packed_writing.proofs.Stores.{lent-back, front-again, store-two}
 use Rattle.packed_writing.proofs.Written.{fields-sized, fields-needed, write-fields, write-values, write-no-room, write-value}
@@ -23,14 +23,14 @@ use Rattle.packed_writing.proofs.write_record.Statement.{statement}
 use Rattle.packed_writing.proofs.write_record.Tie as tie
 
 -- the scalars and the lengths have passed
-fields : (c : tie.After-enum-told) → first (fieldChecks (c .before .before .before .before .before .before .args .profile) (c .before .before .before .before .before .before .args .dim) (c .before .before .before .before .before .before .args .bits) (c .before .before .before .before .before .before .args .mode) (c .before .before .before .before .before .before .args .projections) (length (now (c .before .before .before .before .before .before .args .radii))) (length (now (c .before .before .before .before .before .before .args .indices))) (length (now (c .before .before .before .before .before .before .args .signs)))) accepted ≡ accepted
+fields : (c : tie.After-enum-told) → first (fieldChecks (c .before .before .before .before .before .before .args .code) (length (now (c .before .before .before .before .before .before .args .radii))) (length (now (c .before .before .before .before .before .before .args .indices))) (length (now (c .before .before .before .before .before .before .args .signs)))) accepted ≡ accepted
 fields c = sym (c .before .before .check-fields .ensures) ∙ ap says (c .enum-told .given .1)
 
-sized : (c : tie.After-enum-told) → Sized (c .before .before .before .before .before .before .args .profile) (c .before .before .before .before .before .before .args .bits) (length (now (c .before .before .before .before .before .before .args .radii))) (length (now (c .before .before .before .before .before .before .args .indices))) (length (now (c .before .before .before .before .before .before .args .signs)))
-sized c = fields-sized (c .before .before .before .before .before .before .args .profile) (c .before .before .before .before .before .before .args .dim) (c .before .before .before .before .before .before .args .bits) (c .before .before .before .before .before .before .args .mode) (c .before .before .before .before .before .before .args .projections) (length (now (c .before .before .before .before .before .before .args .radii))) (length (now (c .before .before .before .before .before .before .args .indices))) (length (now (c .before .before .before .before .before .before .args .signs))) (fields c)
+sized : (c : tie.After-enum-told) → Sized (c .before .before .before .before .before .before .args .code .profile) (c .before .before .before .before .before .before .args .code .bits) (length (now (c .before .before .before .before .before .before .args .radii))) (length (now (c .before .before .before .before .before .before .args .indices))) (length (now (c .before .before .before .before .before .before .args .signs)))
+sized c = fields-sized (c .before .before .before .before .before .before .args .code) (length (now (c .before .before .before .before .before .before .args .radii))) (length (now (c .before .before .before .before .before .before .args .indices))) (length (now (c .before .before .before .before .before .before .args .signs))) (fields c)
 
 -- and so have the values
-values : (c : tie.After-enum-told2) → first (valueChecks (c .before .before .before .before .before .before .before .before .before .args .profile) (c .before .before .before .before .before .before .before .before .before .args .bits) (now (c .before .before .before .before .before .before .before .before .before .args .radii)) (now (c .before .before .before .before .before .before .before .before .before .args .indices)) (now (c .before .before .before .before .before .before .before .before .before .args .signs))) accepted ≡ accepted
+values : (c : tie.After-enum-told2) → first (valueChecks (c .before .before .before .before .before .before .before .before .before .args .code .profile) (c .before .before .before .before .before .before .before .before .before .args .code .bits) (now (c .before .before .before .before .before .before .before .before .before .args .radii)) (now (c .before .before .before .before .before .before .before .before .before .args .indices)) (now (c .before .before .before .before .before .before .before .before .before .args .signs))) accepted ≡ accepted
 values c = sym (c .before .before .check-values .ensures) ∙ ap says (c .enum-told2 .given .1)
 
 -- the sizes that the sums are made of
@@ -40,26 +40,26 @@ pub record Sizes (head width radii indices bits signs : ℕ) : Type 0 where
   pub indices-most : indices * bits ≤ 32768
   pub signs-most : signs ≤ 4096
 
-sizes : (c : tie.After-width-of) → Sizes (c .before .header-length .result) (c .width-of .result) (length (now (c .before .before .before .before .before .before .before .before .before .before .before .before .args .radii))) (length (now (c .before .before .before .before .before .before .before .before .before .before .before .before .args .indices))) (c .before .before .before .before .before .before .before .before .before .before .before .before .args .bits) (length (now (c .before .before .before .before .before .before .before .before .before .before .before .before .args .signs)))
+sizes : (c : tie.After-width-of) → Sizes (c .before .header-length .result) (c .width-of .result) (length (now (c .before .before .before .before .before .before .before .before .before .before .before .before .args .radii))) (length (now (c .before .before .before .before .before .before .before .before .before .before .before .before .args .indices))) (c .before .before .before .before .before .before .before .before .before .before .before .before .args .code .bits) (length (now (c .before .before .before .before .before .before .before .before .before .before .before .before .args .signs)))
 sizes c =
     let z = sized (c .before .before .before .before .before .before) in
-    let w = width-most (c .before .before .before .before .before .before .before .before .before .before .before .before .args .profile) in
+    let w = width-most (c .before .before .before .before .before .before .before .before .before .before .before .before .args .code .profile) in
     record {
       head-most = omega (arith, c .before .header-length .ensures);
       radii-most = product-most (c .width-of .result) (length (now (c .before .before .before .before .before .before .before .before .before .before .before .before .args .radii))) 4 2048 (omega (arith, w, c .width-of .ensures)) (z .radii-most);
-      indices-most = product-most (length (now (c .before .before .before .before .before .before .before .before .before .before .before .before .args .indices))) (c .before .before .before .before .before .before .before .before .before .before .before .before .args .bits) 2048 16 (z .codes .indices-most) (z .codes .most);
+      indices-most = product-most (length (now (c .before .before .before .before .before .before .before .before .before .before .before .before .args .indices))) (c .before .before .before .before .before .before .before .before .before .before .before .before .args .code .bits) 2048 16 (z .codes .indices-most) (z .codes .most);
       signs-most = z .codes .signs-most;
     }
 
 -- the bytes that are needed
-needed : (c : tie.After-width-of) → let a = c .before .before .before .before .before .before .before .before .before .before .before .before .args in c .before .header-length .result + c .width-of .result * length (now (a .radii)) + bytesFor (length (now (a .indices)) * a .bits) + bytesFor (length (now (a .signs))) ≡ neededFor (a .profile) (a .dim) (a .bits) (a .mode) (a .projections)
+needed : (c : tie.After-width-of) → let a = c .before .before .before .before .before .before .before .before .before .before .before .before .args in c .before .header-length .result + c .width-of .result * length (now (a .radii)) + bytesFor (length (now (a .indices)) * a .code .bits) + bytesFor (length (now (a .signs))) ≡ neededFor (a .code)
 needed c =
     let a = c .before .before .before .before .before .before .before .before .before .before .before .before .args in
-    let codes = bytesFor (length (now (a .indices)) * a .bits) in
+    let codes = bytesFor (length (now (a .indices)) * a .code .bits) in
     let rest = bytesFor (length (now (a .signs))) in
     ap (λ (n : ℕ). n + c .width-of .result * length (now (a .radii)) + codes + rest) (c .before .header-length .ensures ∙ ap headerLength (c .before .before .map-for .ensures))
-    ∙ ap (λ (w : ℕ). headerLength (mapFor (a .profile) (a .mode)) + w * length (now (a .radii)) + codes + rest) (c .width-of .ensures)
-    ∙ fields-needed (c .before .before .before .before .before .before .before .before .before .before .before .before .args .profile) (c .before .before .before .before .before .before .before .before .before .before .before .before .args .dim) (c .before .before .before .before .before .before .before .before .before .before .before .before .args .bits) (c .before .before .before .before .before .before .before .before .before .before .before .before .args .mode) (c .before .before .before .before .before .before .before .before .before .before .before .before .args .projections) (length (now (c .before .before .before .before .before .before .before .before .before .before .before .before .args .radii))) (length (now (c .before .before .before .before .before .before .before .before .before .before .before .before .args .indices))) (length (now (c .before .before .before .before .before .before .before .before .before .before .before .before .args .signs))) (fields (c .before .before .before .before .before .before))
+    ∙ ap (λ (w : ℕ). headerLength (mapFor (a .code .profile) (a .code .mode)) + w * length (now (a .radii)) + codes + rest) (c .width-of .ensures)
+    ∙ fields-needed (c .before .before .before .before .before .before .before .before .before .before .before .before .args .code) (length (now (c .before .before .before .before .before .before .before .before .before .before .before .before .args .radii))) (length (now (c .before .before .before .before .before .before .before .before .before .before .before .before .args .indices))) (length (now (c .before .before .before .before .before .before .before .before .before .before .before .before .args .signs))) (fields (c .before .before .before .before .before .before))
 
 check-fields-requires : tie.Need-check-fields-requires
 check-fields-requires c κs = search needs
@@ -68,19 +68,19 @@ enum-known-number : tie.Need-enum-known-number
 enum-known-number c = search needs
 
 returns : tie.Need-returns
-returns c = both-refused _ _ (write-fields (c .before .before .before .before .before .before .before .args .profile) (c .before .before .before .before .before .before .before .args .dim) (c .before .before .before .before .before .before .before .args .bits) (c .before .before .before .before .before .before .before .args .mode) (c .before .before .before .before .before .before .before .args .projections) (now (c .before .before .before .before .before .before .before .args .radii)) (now (c .before .before .before .before .before .before .before .args .indices)) (now (c .before .before .before .before .before .before .before .args .signs)) (length (now (c .before .before .before .before .before .before .before .args .out))) (sym (c .before .before .before .check-fields .ensures) ∙ ap says (c .before .number .given .1)))
+returns c = both-refused _ _ (write-fields (c .before .before .before .before .before .before .before .args .code) (now (c .before .before .before .before .before .before .before .args .radii)) (now (c .before .before .before .before .before .before .before .args .indices)) (now (c .before .before .before .before .before .before .before .args .signs)) (length (now (c .before .before .before .before .before .before .before .args .out))) (sym (c .before .before .before .check-fields .ensures) ∙ ap says (c .before .number .given .1)))
 
 enum-told : tie.Need-enum-told
 enum-told c = search needs
 
 check-values-requires : tie.Need-check-values-requires
-check-values-requires c κs = sized c
+check-values-requires c κs = sized c .known
 
 enum-known-number-2 : tie.Need-enum-known-number-2
 enum-known-number-2 c = search needs
 
 returns-2 : tie.Need-returns-2
-returns-2 c = both-refused _ _ (write-values (c .before .before .before .before .before .before .before .before .before .before .args .profile) (c .before .before .before .before .before .before .before .before .before .before .args .dim) (c .before .before .before .before .before .before .before .before .before .before .args .bits) (c .before .before .before .before .before .before .before .before .before .before .args .mode) (c .before .before .before .before .before .before .before .before .before .before .args .projections) (now (c .before .before .before .before .before .before .before .before .before .before .args .radii)) (now (c .before .before .before .before .before .before .before .before .before .before .args .indices)) (now (c .before .before .before .before .before .before .before .before .before .before .args .signs)) (length (now (c .before .before .before .before .before .before .before .before .before .before .args .out))) (fields (c .before .before .before .before)) (sym (c .before .before .before .check-values .ensures) ∙ ap says (c .before .number2 .given .1)))
+returns-2 c = both-refused _ _ (write-values (c .before .before .before .before .before .before .before .before .before .before .args .code) (now (c .before .before .before .before .before .before .before .before .before .before .args .radii)) (now (c .before .before .before .before .before .before .before .before .before .before .args .indices)) (now (c .before .before .before .before .before .before .before .before .before .before .args .signs)) (length (now (c .before .before .before .before .before .before .before .before .before .before .args .out))) (fields (c .before .before .before .before)) (sym (c .before .before .before .check-values .ensures) ∙ ap says (c .before .number2 .given .1)))
 
 enum-told-2 : tie.Need-enum-told-2
 enum-told-2 c = search needs
@@ -96,6 +96,9 @@ width-of-requires c κs = search needs
 
 mul-body : tie.Need-mul-body
 mul-body c = let z = sizes c in omega (arith, z .head-most, z .radii-most, z .indices-most, z .signs-most)
+
+cast-codes : tie.Need-cast-codes
+cast-codes c = search needs
 
 mul-codes : tie.Need-mul-codes
 mul-codes c = let z = sizes c in omega (arith, z .head-most, z .radii-most, z .indices-most, z .signs-most)
@@ -116,7 +119,7 @@ add-need-4 : tie.Need-add-need-4
 add-need-4 c = let z = sizes c in omega (arith, z .head-most, z .radii-most, z .indices-most, z .signs-most)
 
 returns-3 : tie.Need-returns-3
-returns-3 c = both-refused _ _ (write-no-room (c .before .before .before .before .before .before .before .before .before .before .before .before .before .args .profile) (c .before .before .before .before .before .before .before .before .before .before .before .before .before .args .dim) (c .before .before .before .before .before .before .before .before .before .before .before .before .before .args .bits) (c .before .before .before .before .before .before .before .before .before .before .before .before .before .args .mode) (c .before .before .before .before .before .before .before .before .before .before .before .before .before .args .projections) (now (c .before .before .before .before .before .before .before .before .before .before .before .before .before .args .radii)) (now (c .before .before .before .before .before .before .before .before .before .before .before .before .before .args .indices)) (now (c .before .before .before .before .before .before .before .before .before .before .before .before .before .args .signs)) (length (now (c .before .before .before .before .before .before .before .before .before .before .before .before .before .args .out))) (fields (c .before .before .before .before .before .before .before)) (values (c .before .before .before .before)) (needed (c .before)) (c .if1 .taken))
+returns-3 c = both-refused _ _ (write-no-room (c .before .before .before .before .before .before .before .before .before .before .before .before .before .args .code) (now (c .before .before .before .before .before .before .before .before .before .before .before .before .before .args .radii)) (now (c .before .before .before .before .before .before .before .before .before .before .before .before .before .args .indices)) (now (c .before .before .before .before .before .before .before .before .before .before .before .before .before .args .signs)) (length (now (c .before .before .before .before .before .before .before .before .before .before .before .before .before .args .out))) (fields (c .before .before .before .before .before .before .before)) (values (c .before .before .before .before)) (needed (c .before)) (c .if1 .taken))
 
 sub-put-payloads : tie.Need-sub-put-payloads
 sub-put-payloads c = search needs
@@ -131,9 +134,9 @@ put-payloads-requires : tie.Need-put-payloads-requires
 put-payloads-requires c κs =
     let s = c .before .before .before .before .before .before .before .before .before .before .before .before .before .before in
     let n = length (now (s .args .radii)) in
-    let rest = bytesFor (length (now (s .args .indices)) * s .args .bits) + bytesFor (length (now (s .args .signs))) in
+    let rest = bytesFor (length (now (s .args .indices)) * s .args .code .bits) + bytesFor (length (now (s .args .signs))) in
     let z = sized (c .before .before .before .before .before .before .before .before) in
-    let all = first-all (valueChecks (s .args .profile) (s .args .bits) (now (s .args .radii)) (now (s .args .indices)) (now (s .args .signs))) accepted (values (c .before .before .before .before .before)) in
+    let all = first-all (valueChecks (s .args .code .profile) (s .args .code .bits) (now (s .args .radii)) (now (s .args .indices)) (now (s .args .signs))) accepted (values (c .before .before .before .before .before)) in
     record {
       known = z .known;
       radii-most = z .radii-most;
@@ -163,11 +166,11 @@ unfolding recordOf
 returns-4 c =
     let a = c .before .before .before .before .before .before .before .before .before .before .before .before .before .before .before .before .before .before .before .before .before .args in
     let payload : List ℕ = c .before .before .before .before .before .before .put-payloads .last .1 .1 .1 .1 .1 .0 in
-    both-value _ _ _ (write-value (c .before .before .before .before .before .before .before .before .before .before .before .before .before .before .before .before .before .before .before .before .before .args .profile) (c .before .before .before .before .before .before .before .before .before .before .before .before .before .before .before .before .before .before .before .before .before .args .dim) (c .before .before .before .before .before .before .before .before .before .before .before .before .before .before .before .before .before .before .before .before .before .args .bits) (c .before .before .before .before .before .before .before .before .before .before .before .before .before .before .before .before .before .before .before .before .before .args .mode) (c .before .before .before .before .before .before .before .before .before .before .before .before .before .before .before .before .before .before .before .before .before .args .projections) (now (c .before .before .before .before .before .before .before .before .before .before .before .before .before .before .before .before .before .before .before .before .before .args .radii)) (now (c .before .before .before .before .before .before .before .before .before .before .before .before .before .before .before .before .before .before .before .before .before .args .indices)) (now (c .before .before .before .before .before .before .before .before .before .before .before .before .before .before .before .before .before .before .before .before .before .args .signs)) (length (now (c .before .before .before .before .before .before .before .before .before .before .before .before .before .before .before .before .before .before .before .before .before .args .out))) (fields (c .before .before .before .before .before .before .before .before .before .before .before .before .before .before .before)) (values (c .before .before .before .before .before .before .before .before .before .before .before .before)) (c .before .before .before .before .before .before .before .before .if1 .left ∙ needed (c .before .before .before .before .before .before .before .before .before)))
-    (store-two (now (a .out)) (c .before .before .put-header .last .1 .1 .1 .1 .1 .1 .0) payload (c .before .before .before .before .before .before .before .before .before .before .header-length .result) (omega (arith, c .before .before .before .before .before .before .before .before .if1 .left))
+    both-value _ _ _ (write-value (c .before .before .before .before .before .before .before .before .before .before .before .before .before .before .before .before .before .before .before .before .before .args .code) (now (c .before .before .before .before .before .before .before .before .before .before .before .before .before .before .before .before .before .before .before .before .before .args .radii)) (now (c .before .before .before .before .before .before .before .before .before .before .before .before .before .before .before .before .before .before .before .before .before .args .indices)) (now (c .before .before .before .before .before .before .before .before .before .before .before .before .before .before .before .before .before .before .before .before .before .args .signs)) (length (now (c .before .before .before .before .before .before .before .before .before .before .before .before .before .before .before .before .before .before .before .before .before .args .out))) (fields (c .before .before .before .before .before .before .before .before .before .before .before .before .before .before .before)) (values (c .before .before .before .before .before .before .before .before .before .before .before .before)) (c .before .before .before .before .before .before .before .before .if1 .left ∙ needed (c .before .before .before .before .before .before .before .before .before)))
+    (store-two (now (a .out)) (c .before .before .put-header .last .1 .1 .0) payload (c .before .before .before .before .before .before .before .before .before .before .header-length .result) (omega (arith, c .before .before .before .before .before .before .before .before .if1 .left))
     ∙ ap (λ (l : List ℕ). l ++ payload) (c .before .before .put-header .ensures)
-    ∙ ap (λ (r : Range). headerBytes (a .profile) (a .dim) (a .bits) (a .mode) (a .projections) r ++ payload) (c .before .before .before .before .before .before .put-payloads .ensures .0)
-    ∙ ap (λ (l : List ℕ). headerBytes (a .profile) (a .dim) (a .bits) (a .mode) (a .projections) (rangeFor (a .profile) (now (a .radii))) ++ l) (c .before .before .before .before .before .before .put-payloads .ensures .1))
+    ∙ ap (λ (r : Range). headerBytes (a .code) r ++ payload) (c .before .before .before .before .before .before .put-payloads .ensures .0)
+    ∙ ap (λ (l : List ℕ). headerBytes (a .code) (rangeFor (a .code .profile) (now (a .radii))) ++ l) (c .before .before .before .before .before .before .put-payloads .ensures .1))
 
 pub write-record-spec : {M : Type 1} → statement M
 write-record-spec =
@@ -185,6 +188,7 @@ write-record-spec =
     header-length-requires
     width-of-requires
     mul-body
+    cast-codes
     mul-codes
     add-codes
     add-need

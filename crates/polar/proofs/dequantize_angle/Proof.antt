@@ -5,7 +5,8 @@ use native.Mathlib.Omega.{arith}
 use borrow.Author.Needs.{needs}
 use borrow.Author.Tests.{lt-ltb, le-ltb, le-leb, lt-leb, ltb-false}
 use lib.Ieee.{ofBits}
-use Rattle.polar.specs.Angle.{dequantizeAngleOf, radians, twicePi, pi}
+use Rattle.polar.specs.Angle.{dequantizeAngleOf, radians, twicePi}
+use Rattle.float.specs.Constants.{pi}
 use Rattle.float.proofs.Levels.{levels-most, levels-shifted, levels-inFloat}
 use Rattle.polar.proofs.dequantize_angle.Statement.{statement}
 use Rattle.polar.proofs.dequantize_angle.Tie as tie

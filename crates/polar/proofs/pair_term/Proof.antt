@@ -1,7 +1,7 @@
 -- `polar::pair_term` meets its contract: each factor is what its call says, and the radius lies within the slice. Assumes nothing.
 use borrow.Author.Needs.{needs}
 use lib.Ieee.{nan}
-use Rattle.rounding.specs.Value.{posZero}
+use Rattle.float.specs.Constants.{posZero}
 use Rattle.polar.specs.Polar.{term}
 use Rattle.rounding.proofs.Lists.{getD-any}
 use Rattle.polar.proofs.pair_term.Statement.{statement}

@@ -3,7 +3,7 @@ use mathlib.Core.Path.{sym}
 use borrow.Author.Needs.{needs}
 use lib.ListN.{List·getD-eq-default}
 use lib.Ieee.{ofBits, nan}
-use Rattle.rounding.specs.Value.{posZero}
+use Rattle.float.specs.Constants.{posZero}
 use Rattle.rounding.proofs.Lists.{getD-any}
 use Rattle.polar.proofs.value_at.Statement.{statement}
 use Rattle.polar.proofs.value_at.Tie as tie

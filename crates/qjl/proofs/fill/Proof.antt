@@ -4,9 +4,10 @@ use mathlib.Core.Path.{sym, ap, _∙_}
 use native.Mathlib.Omega.{arith}
 use borrow.Author.Needs.{scaled-fits}
 use lib.ListN.{length, length-set}
-use Rattle.qjl.specs.Filled.{Filled, onRow}
+use Rattle.qjl.specs.Inner.{Filled, onRow}
 use Rattle.qjl.proofs.Filling.{filled-start, filled-four, filled-join, filled-all}
-use Rattle.qjl.proofs.Rows.{rows-within, row-at, projected-length, projected-row}
+use Rattle.qjl.proofs.Rows.{rows-within, row-at}
+use Rattle.rounding.proofs.Rows.{projected-length, projected-row}
 use Rattle.qjl.proofs.fill.Statement.{statement}
 use Rattle.qjl.proofs.fill.Tie as tie
 

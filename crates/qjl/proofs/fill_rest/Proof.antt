@@ -4,7 +4,7 @@ use native.Mathlib.Omega.{arith}
 use borrow.Author.Needs.{scaled-fits}
 use lib.ListN.{length}
 use lib.Ieee.{ofBits}
-use Rattle.qjl.specs.Filled.{Filled, onRow}
+use Rattle.qjl.specs.Inner.{Filled, onRow}
 use Rattle.qjl.proofs.Rows.{dot-start, row-within}
 use Rattle.qjl.proofs.Filling.{filled-start, filled-more, filled-done}
 use Rattle.qjl.proofs.fill_rest.Statement.{statement}

@@ -1,7 +1,7 @@
 -- `qjl::finite_signs_into` meets its contract: where no value offends, the signs are those of `signs_into`. Assumes nothing.
 use borrow.Author.Needs.{needs}
 use Rattle.error.proofs.Places.{each-passes}
-use Rattle.setup.specs.Checks.{badValue}
+use Rattle.error.specs.Checks.{badValue}
 use Rattle.qjl.proofs.FiniteSigns.{signs-left, signs-made}
 use Rattle.qjl.proofs.finite_signs_into.Statement.{statement}
 use Rattle.qjl.proofs.finite_signs_into.Tie as tie

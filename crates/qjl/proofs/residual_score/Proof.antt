@@ -6,8 +6,9 @@ use native.Mathlib.Omega.{arith}
 use borrow.Author.Needs.{needs}
 use borrow.Rule.Slice.PartMut.{postOf}
 use lib.Ieee.{Float}
+use Rattle.lists.proofs.Parts.{part-long, part-enough, part-filled}
+use Rattle.rounding.specs.Rows.{projected}
 use Rattle.qjl.specs.Score.{signedScore}
-use Rattle.qjl.proofs.Parts.{part-long, part-projected, part-enough}
 use Rattle.qjl.proofs.residual_score.Statement.{statement}
 use Rattle.qjl.proofs.residual_score.Tie as tie
 
@@ -38,7 +39,7 @@ part-signed-score-end : tie.Need-part-signed-score-end
 part-signed-score-end c =
     let s = c .before .before .before .before .before .before .before in
     let xs = c .before .before .before .before .zeros .result in
-    part-enough (s .args .dim) (s .args .projections) (s .args .matrix .now) (s .args .query .now) xs (omega (arith, s .pre .1, c .before .before .before .before .zeros .ok)) (c .before .before .fill .last .1 .1 .1 .0) (postOf 0 (s .args .projections - 0) xs) (c .before .before .fill .kept .1 .1 .1 .0)
+    part-enough (s .args .projections) xs (omega (arith, s .pre .1, c .before .before .before .before .zeros .ok)) (c .before .before .fill .last .1 .1 .1 .0) (postOf 0 (s .args .projections - 0) xs) (c .before .before .fill .kept .1 .1 .1 .0)
 
 signed-score-requires : tie.Need-signed-score-requires
 signed-score-requires c κs = search needs
@@ -49,7 +50,7 @@ returns c =
     let f = c .before .before .before .before in
     let xs = f .before .before .zeros .result in
     c .signed-score .ensures
-    ∙ ap (λ (vs : List Float). signedScore (s .args .projections) vs (s .args .sketch .now)) (part-projected (s .args .dim) (s .args .projections) (s .args .matrix .now) (s .args .query .now) xs (omega (arith, s .pre .1, f .before .before .zeros .ok)) (f .fill .last .1 .1 .1 .0) (postOf 0 (s .args .projections - 0) xs) (f .fill .kept .1 .1 .1 .0) (f .fill .ensures))
+    ∙ ap (λ (vs : List Float). signedScore (s .args .projections) vs (s .args .sketch .now)) (part-filled (s .args .projections) xs (omega (arith, s .pre .1, f .before .before .zeros .ok)) (f .fill .last .1 .1 .1 .0) (postOf 0 (s .args .projections - 0) xs) (f .fill .kept .1 .1 .1 .0) (λ (k : ℕ). projected (s .args .dim) k (s .args .matrix .now) (s .args .query .now)) (f .fill .ensures))
 
 pub residual-score-spec : {M : Type 1} → statement M
 residual-score-spec =

@@ -2,7 +2,7 @@
 use Prim.Native.Nat.{_-_}
 use native.Mathlib.Omega.{arith}
 use lib.Ieee.{ofBits}
-use Rattle.qjl.specs.Filled.{FourSoFar}
+use Rattle.qjl.specs.Inner.{FourSoFar}
 use Rattle.qjl.proofs.Rows.{four-start, four-block}
 use Rattle.qjl.proofs.row_blocks.Statement.{statement}
 use Rattle.qjl.proofs.row_blocks.Tie as tie

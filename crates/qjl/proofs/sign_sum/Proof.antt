@@ -10,7 +10,7 @@ use lib.ListN.{length, getD, drop}
 use lib.Ieee.{Float, nan, binary32, add, mul, ofInt, ofBits}
 use Rattle.rounding.specs.Sums.{running, products}
 use Rattle.qjl.specs.Score.{signSumOf}
-use Rattle.qjl.proofs.Signs.{signed-at}
+use Rattle.bitpack_signs.proofs.Signs.{signed-at}
 use Rattle.qjl.proofs.SignSums.{sign-more, sign-end, value-end}
 use Rattle.qjl.proofs.sign_sum.Statement.{statement}
 use Rattle.qjl.proofs.sign_sum.Tie as tie

@@ -11,7 +11,7 @@ use mir.Syntax.{w8}
 use mir.Val.{ofZ, toZ}
 use Rattle.rotation.proofs.InPlace.{Made, made-start, made-more, made-all}
 use Rattle.qjl.specs.Sketch.{signOfSum}
-use Rattle.qjl.proofs.Signs.{sign-back, getD-signs}
+use Rattle.qjl.proofs.Signs.{sum-sign-back, getD-signs}
 use Rattle.qjl.proofs.signs_into.Statement.{statement}
 use Rattle.qjl.proofs.signs_into.Tie as tie
 
@@ -45,7 +45,7 @@ loop-less c = omega (arith, c .before .before .before .loop .inv .1 .long)
 loop-again : tie.Need-loop-again Inv-loop μ-loop
 loop-again c =
     let l = c .before .before .before .loop in
-    let v = ap (λ (z : ℤ). toZ w8 (ofZ w8 z)) (c .sign .ensures) ∙ sign-back _ in
+    let v = ap (λ (z : ℤ). toZ w8 (ofZ w8 z)) (c .sign .ensures) ∙ sum-sign-back _ in
     (omega (arith, l .inv .1 .long), made-more (pos 0) _ _ _ _ _ v (omega (arith, l .inv .1 .long)) (l .inv .1))
 
 same-length : tie.Need-same-length Inv-loop μ-loop

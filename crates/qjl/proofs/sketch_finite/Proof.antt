@@ -5,8 +5,9 @@ use native.Mathlib.Omega.{arith}
 use borrow.Author.Needs.{needs}
 use borrow.Rule.Slice.PartMut.{postOf}
 use lib.ListN.{length}
+use Rattle.lists.proofs.Parts.{part-long, part-enough, part-filled}
+use Rattle.rounding.specs.Rows.{projected}
 use Rattle.qjl.proofs.FiniteSigns.{signs-same}
-use Rattle.qjl.proofs.Parts.{part-long, part-projected, part-enough}
 use Rattle.qjl.proofs.sketch_finite.Statement.{statement}
 use Rattle.qjl.proofs.sketch_finite.Tie as tie
 
@@ -38,7 +39,7 @@ part-finite-signs-into-end c =
     let s = c .before .before .before .before .before .before .before in
     let m = length (s .args .out .now) in
     let xs = c .before .before .before .before .zeros .result in
-    part-enough (s .args .dim) m (s .args .matrix .now) (s .args .vector .now) xs (omega (arith, s .pre .1, c .before .before .before .before .zeros .ok)) (c .before .before .fill .last .1 .1 .1 .0) (postOf 0 (m - 0) xs) (c .before .before .fill .kept .1 .1 .1 .0)
+    part-enough m xs (omega (arith, s .pre .1, c .before .before .before .before .zeros .ok)) (c .before .before .fill .last .1 .1 .1 .0) (postOf 0 (m - 0) xs) (c .before .before .fill .kept .1 .1 .1 .0)
 
 finite-signs-into-requires : tie.Need-finite-signs-into-requires
 finite-signs-into-requires c κs = search needs
@@ -52,7 +53,7 @@ returns c =
     let f = c .before .before .before .before .before .before in
     let m = length (s .args .out .now) in
     let xs = f .before .before .zeros .result in
-    signs-same (part-projected (s .args .dim) m (s .args .matrix .now) (s .args .vector .now) xs (omega (arith, s .pre .1, f .before .before .zeros .ok)) (f .fill .last .1 .1 .1 .0) (postOf 0 (m - 0) xs) (f .fill .kept .1 .1 .1 .0) (f .fill .ensures)) (c .before .finite-signs-into .ensures)
+    signs-same (part-filled m xs (omega (arith, s .pre .1, f .before .before .zeros .ok)) (f .fill .last .1 .1 .1 .0) (postOf 0 (m - 0) xs) (f .fill .kept .1 .1 .1 .0) (λ (k : ℕ). projected (s .args .dim) k (s .args .matrix .now) (s .args .vector .now)) (f .fill .ensures)) (c .before .finite-signs-into .ensures)
 
 pub sketch-finite-spec : {M : Type 1} → statement M
 sketch-finite-spec =

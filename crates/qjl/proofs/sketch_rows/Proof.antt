@@ -6,8 +6,9 @@ use native.Mathlib.Omega.{arith}
 use borrow.Author.Needs.{needs}
 use borrow.Rule.Slice.PartMut.{postOf}
 use lib.ListN.{length}
+use Rattle.lists.proofs.Parts.{part-long, part-enough, part-filled}
+use Rattle.rounding.specs.Rows.{projected}
 use Rattle.qjl.specs.Sketch.{signOfSum}
-use Rattle.qjl.proofs.Parts.{part-long, part-projected, part-enough}
 use Rattle.qjl.proofs.sketch_rows.Statement.{statement}
 use Rattle.qjl.proofs.sketch_rows.Tie as tie
 
@@ -39,7 +40,7 @@ part-signs-into-end c =
     let s = c .before .before .before .before .before .before .before in
     let m = length (s .args .out .now) in
     let xs = c .before .before .before .before .zeros .result in
-    part-enough (s .args .dim) m (s .args .matrix .now) (s .args .vector .now) xs (omega (arith, s .pre .1, c .before .before .before .before .zeros .ok)) (c .before .before .fill .last .1 .1 .1 .0) (postOf 0 (m - 0) xs) (c .before .before .fill .kept .1 .1 .1 .0)
+    part-enough m xs (omega (arith, s .pre .1, c .before .before .before .before .zeros .ok)) (c .before .before .fill .last .1 .1 .1 .0) (postOf 0 (m - 0) xs) (c .before .before .fill .kept .1 .1 .1 .0)
 
 signs-into-requires : tie.Need-signs-into-requires
 signs-into-requires c κs = search needs
@@ -54,7 +55,7 @@ returns c =
     let m = length (s .args .out .now) in
     let xs = f .before .before .zeros .result in
     c .before .signs-into .ensures
-    ∙ ap (map signOfSum) (part-projected (s .args .dim) m (s .args .matrix .now) (s .args .vector .now) xs (omega (arith, s .pre .1, f .before .before .zeros .ok)) (f .fill .last .1 .1 .1 .0) (postOf 0 (m - 0) xs) (f .fill .kept .1 .1 .1 .0) (f .fill .ensures))
+    ∙ ap (map signOfSum) (part-filled m xs (omega (arith, s .pre .1, f .before .before .zeros .ok)) (f .fill .last .1 .1 .1 .0) (postOf 0 (m - 0) xs) (f .fill .kept .1 .1 .1 .0) (λ (k : ℕ). projected (s .args .dim) k (s .args .matrix .now) (s .args .vector .now)) (f .fill .ensures))
 
 pub sketch-rows-spec : {M : Type 1} → statement M
 sketch-rows-spec =

@@ -14,8 +14,8 @@ use borrow.Author.Needs.{needs}
 use Rattle.radius.proofs.compress.Statement.{statement}
 use Rattle.radius.proofs.compress.Tie as tie
 
-first-bad-requires : tie.Need-first-bad-requires
-first-bad-requires c κs = search needs
+first-bad-radius-requires : tie.Need-first-bad-radius-requires
+first-bad-radius-requires c κs = search needs
 
 returns : tie.Need-returns
 unfolding compressRangeOf compressBytesOf
@@ -23,8 +23,8 @@ returns c =
     let a = c .before .before .before .before .args in
     let radii = now (a .radii) in
     let room = length (now (a .out)) in (
-      sym (compress-radius radii room (rangeFor (a .profile) radii) (c .before .first-bad .result) (c .before .first-bad .ensures) (a .profile) (c .if1 .taken)),
-      sym (after-refused _ _ (compress-radius radii room (payloadFor (a .profile) radii) (c .before .first-bad .result) (c .before .first-bad .ensures) (a .profile) (c .if1 .taken))),
+      sym (compress-radius radii room (rangeFor (a .profile) radii) (c .before .first-bad-radius .result) (c .before .first-bad-radius .ensures) (a .profile) (c .if1 .taken)),
+      sym (after-refused _ _ (compress-radius radii room (payloadFor (a .profile) radii) (c .before .first-bad-radius .result) (c .before .first-bad-radius .ensures) (a .profile) (c .if1 .taken))),
     )
 
 enum-told : tie.Need-enum-told
@@ -40,8 +40,8 @@ returns-2 c =
     let radii = now (a .radii) in
     let room = length (now (a .out)) in
     rw (c .before .enum-told .given .1) (
-      sym (compress-room radii room (rangeFor F32 radii) (c .before .before .before .before .first-bad .result) (c .before .before .before .before .first-bad .ensures) F32 refl (c .before .before .before .if1 .left) (c .if2 .taken)),
-      sym (after-refused _ _ (compress-room radii room (payloadFor F32 radii) (c .before .before .before .before .first-bad .result) (c .before .before .before .before .first-bad .ensures) F32 refl (c .before .before .before .if1 .left) (c .if2 .taken))),
+      sym (compress-room radii room (rangeFor F32 radii) (c .before .before .before .before .first-bad-radius .result) (c .before .before .before .before .first-bad-radius .ensures) F32 refl (c .before .before .before .if1 .left) (c .if2 .taken)),
+      sym (after-refused _ _ (compress-room radii room (payloadFor F32 radii) (c .before .before .before .before .first-bad-radius .result) (c .before .before .before .before .first-bad-radius .ensures) F32 refl (c .before .before .before .if1 .left) (c .if2 .taken))),
     )
 
 write-floats-requires : tie.Need-write-floats-requires
@@ -60,8 +60,8 @@ returns-3 c =
     let radii = now (a .radii) in
     let room = length (now (a .out)) in
     rw (c .before .enum-told2 .given .1) (
-      sym (compress-room radii room (rangeFor BlockLinearU16 radii) (c .before .before .before .before .first-bad .result) (c .before .before .before .before .first-bad .ensures) BlockLinearU16 refl (c .before .before .before .if1 .left) (c .if3 .taken)),
-      sym (after-refused _ _ (compress-room radii room (payloadFor BlockLinearU16 radii) (c .before .before .before .before .first-bad .result) (c .before .before .before .before .first-bad .ensures) BlockLinearU16 refl (c .before .before .before .if1 .left) (c .if3 .taken))),
+      sym (compress-room radii room (rangeFor BlockLinearU16 radii) (c .before .before .before .before .first-bad-radius .result) (c .before .before .before .before .first-bad-radius .ensures) BlockLinearU16 refl (c .before .before .before .if1 .left) (c .if3 .taken)),
+      sym (after-refused _ _ (compress-room radii room (payloadFor BlockLinearU16 radii) (c .before .before .before .before .first-bad-radius .result) (c .before .before .before .before .first-bad-radius .ensures) BlockLinearU16 refl (c .before .before .before .if1 .left) (c .if3 .taken))),
     )
 
 min-max-requires : tie.Need-min-max-requires
@@ -83,8 +83,8 @@ returns-4 c =
     let radii = now (a .radii) in
     let room = length (now (a .out)) in
     rw (c .before .before .before .before .before .enum-told .given .1) (
-      sym (compress-value radii room (rangeFor F32 radii) (c .before .before .before .before .before .before .before .before .first-bad .result) (c .before .before .before .before .before .before .before .before .first-bad .ensures) F32 refl (c .before .before .before .before .before .before .before .if1 .left) (c .before .before .before .before .if2 .left)),
-      c .before .before .write-floats .ensures ∙ sym (after-value _ _ (compress-value radii room (payloadFor F32 radii) (c .before .before .before .before .before .before .before .before .first-bad .result) (c .before .before .before .before .before .before .before .before .first-bad .ensures) F32 refl (c .before .before .before .before .before .before .before .if1 .left) (c .before .before .before .before .if2 .left))),
+      sym (compress-value radii room (rangeFor F32 radii) (c .before .before .before .before .before .before .before .before .first-bad-radius .result) (c .before .before .before .before .before .before .before .before .first-bad-radius .ensures) F32 refl (c .before .before .before .before .before .before .before .if1 .left) (c .before .before .before .before .if2 .left)),
+      c .before .before .write-floats .ensures ∙ sym (after-value _ _ (compress-value radii room (payloadFor F32 radii) (c .before .before .before .before .before .before .before .before .first-bad-radius .result) (c .before .before .before .before .before .before .before .before .first-bad-radius .ensures) F32 refl (c .before .before .before .before .before .before .before .if1 .left) (c .before .before .before .before .if2 .left))),
     )
 
 same-length-2 : tie.Need-same-length-2
@@ -97,10 +97,10 @@ returns-5 c =
     let radii = now (a .radii) in
     let room = length (now (a .out)) in
     rw (c .before .before .before .before .before .before .enum-told2 .given .1) (
-      ap value (c .before .before .before .before .min-max .ensures) ∙ sym (compress-value radii room (rangeFor BlockLinearU16 radii) (c .before .before .before .before .before .before .before .before .before .first-bad .result) (c .before .before .before .before .before .before .before .before .before .first-bad .ensures) BlockLinearU16 refl (c .before .before .before .before .before .before .before .before .if1 .left) (c .before .before .before .before .before .if3 .left)),
+      ap value (c .before .before .before .before .min-max .ensures) ∙ sym (compress-value radii room (rangeFor BlockLinearU16 radii) (c .before .before .before .before .before .before .before .before .before .first-bad-radius .result) (c .before .before .before .before .before .before .before .before .before .first-bad-radius .ensures) BlockLinearU16 refl (c .before .before .before .before .before .before .before .before .if1 .left) (c .before .before .before .before .before .if3 .left)),
       c .before .before .write-linear .ensures
           ∙ ap (λ (range : Range). flatMap (linearBytes range) radii) (c .before .before .before .before .min-max .ensures)
-          ∙ sym (after-value _ _ (compress-value radii room (payloadFor BlockLinearU16 radii) (c .before .before .before .before .before .before .before .before .before .first-bad .result) (c .before .before .before .before .before .before .before .before .before .first-bad .ensures) BlockLinearU16 refl (c .before .before .before .before .before .before .before .before .if1 .left) (c .before .before .before .before .before .if3 .left))),
+          ∙ sym (after-value _ _ (compress-value radii room (payloadFor BlockLinearU16 radii) (c .before .before .before .before .before .before .before .before .before .first-bad-radius .result) (c .before .before .before .before .before .before .before .before .before .first-bad-radius .ensures) BlockLinearU16 refl (c .before .before .before .before .before .before .before .before .if1 .left) (c .before .before .before .before .before .if3 .left))),
     )
 
 returns-6 : tie.Need-returns-6
@@ -110,15 +110,15 @@ returns-6 c =
     let radii = now (a .radii) in
     let room = length (now (a .out)) in
     rw (c .enum-told3 .given .1) (
-      sym (compress-log radii room (rangeFor BlockLogU8 radii) (c .before .before .before .first-bad .result) (c .before .before .before .first-bad .ensures) (c .before .before .if1 .left)),
-      sym (after-refused _ _ (compress-log radii room (payloadFor BlockLogU8 radii) (c .before .before .before .first-bad .result) (c .before .before .before .first-bad .ensures) (c .before .before .if1 .left))),
+      sym (compress-log radii room (rangeFor BlockLogU8 radii) (c .before .before .before .first-bad-radius .result) (c .before .before .before .first-bad-radius .ensures) (c .before .before .if1 .left)),
+      sym (after-refused _ _ (compress-log radii room (payloadFor BlockLogU8 radii) (c .before .before .before .first-bad-radius .result) (c .before .before .before .first-bad-radius .ensures) (c .before .before .if1 .left))),
     )
 
 pub compress-spec : {M : Type 1} → statement M
 compress-spec =
     tie.close
     (tie.spec
-    first-bad-requires
+    first-bad-radius-requires
     returns
     enum-told
     mul-need

@@ -3,12 +3,13 @@ use Prim.Native.Nat.{ℕ, _*_}
 use mathlib.Core.Path.{_≡_, refl, sym, ap, _∙_}
 use mathlib.Core.Bool.{false}
 use mathlib.Core.List.{map}
+use native.Mathlib.Omega.{arith}
 use borrow.Author.Tests.{eqb-true, not-false}
 use lib.ListN.{length}
 use denote.Ref.{now}
 use Rattle.error.proofs.Answers.{done-refused, done-value, after-refused, after-value}
 use Rattle.float.specs.Bytes.{ofLeBytes}
-use Rattle.radius.specs.Chunks.{chunks}
+use Rattle.lists.specs.Chunks.{chunks}
 use Rattle.radius.specs.Radii.{badRange}
 use Rattle.radius.specs.Linear.{linearRadius}
 use Rattle.error.specs.Checks.{differs}
@@ -34,19 +35,22 @@ returns c =
 float-length : (c : tie.Else1) → let a = c .before .before .before .before .before .before .args in differs (length (now (a .payload))) (4 * a .count) ≡ false
 float-length c = sym (c .before .wrong-length .ensures) ∙ c .if1 .left
 
-first-bad-bytes-requires : tie.Need-first-bad-bytes-requires
-first-bad-bytes-requires c κs = eqb-true _ _ (not-false _ (float-length c))
+first-bad-floats-requires : tie.Need-first-bad-floats-requires
+first-bad-floats-requires c κs =
+    let a = c .before .before .before .before .before .before .args in
+    let e : length (now (a .payload)) ≡ 4 * a .count = eqb-true _ _ (not-false _ (float-length c)) in
+    omega arith
 
 returns-2 : tie.Need-returns-2
 returns-2 c =
     let a = c .before .before .before .before .before .before .before .before .args in
-    let e = decompress-radius (a .count) (a .range) (now (a .payload)) (length (now (a .out))) (c .before .first-bad-bytes .result) (c .before .first-bad-bytes .ensures) (float-length (c .before .before)) (c .if2 .taken) in
+    let e = decompress-radius (a .count) (a .range) (now (a .payload)) (length (now (a .out))) (c .before .first-bad-floats .result) (c .before .first-bad-floats .ensures) (float-length (c .before .before)) (c .if2 .taken) in
     rw (c .before .before .before .before .enum-told .given .1) (sym (done-refused _ e), sym (after-refused _ _ e))
 
 returns-3 : tie.Need-returns-3
 returns-3 c =
     let a = c .before .before .before .before .before .before .before .before .before .args in
-    let e = decompress-float-room (a .count) (a .range) (now (a .payload)) (length (now (a .out))) (c .before .before .first-bad-bytes .result) (c .before .before .first-bad-bytes .ensures) (float-length (c .before .before .before)) (c .before .if2 .left) (c .if3 .taken) in
+    let e = decompress-float-room (a .count) (a .range) (now (a .payload)) (length (now (a .out))) (c .before .before .first-bad-floats .result) (c .before .before .first-bad-floats .ensures) (float-length (c .before .before .before)) (c .before .if2 .left) (c .if3 .taken) in
     rw (c .before .before .before .before .before .enum-told .given .1) (sym (done-refused _ e), sym (after-refused _ _ e))
 
 read-floats-requires : tie.Need-read-floats-requires
@@ -99,7 +103,7 @@ same-length c = search needs
 returns-7 : tie.Need-returns-7
 returns-7 c =
     let a = c .before .before .before .before .before .before .before .before .before .before .before .before .before .args in
-    let e = decompress-floats (a .count) (a .range) (now (a .payload)) (length (now (a .out))) (c .before .before .before .before .before .before .first-bad-bytes .result) (c .before .before .before .before .before .before .first-bad-bytes .ensures) (float-length (c .before .before .before .before .before .before .before)) (c .before .before .before .before .before .if2 .left) (c .before .before .before .before .if3 .left) in
+    let e = decompress-floats (a .count) (a .range) (now (a .payload)) (length (now (a .out))) (c .before .before .before .before .before .before .first-bad-floats .result) (c .before .before .before .before .before .before .first-bad-floats .ensures) (float-length (c .before .before .before .before .before .before .before)) (c .before .before .before .before .before .if2 .left) (c .before .before .before .before .if3 .left) in
     rw (c .before .before .before .before .before .before .before .before .before .enum-told .given .1) (
       sym (done-value _ e),
       c .before .before .read-floats .ensures
@@ -134,7 +138,7 @@ decompress-spec =
     enum-told
     wrong-length-requires
     returns
-    first-bad-bytes-requires
+    first-bad-floats-requires
     returns-2
     returns-3
     read-floats-requires

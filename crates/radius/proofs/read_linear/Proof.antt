@@ -8,7 +8,7 @@ use lib.ListN.{length}
 use lib.Ieee.{Float}
 use borrow.Author.Needs.{needs, scaled-fits}
 use Rattle.digits.specs.Digits.{number}
-use Rattle.radius.specs.Chunks.{chunks}
+use Rattle.lists.specs.Chunks.{chunks}
 use Rattle.radius.specs.Linear.{restored, linearRadius}
 use Rattle.radius.proofs.Fill.{Gathered, gathered-start, gathered-next, gathered-end, place-within}
 use Rattle.radius.proofs.read_linear.Statement.{statement}
@@ -16,16 +16,16 @@ use Rattle.radius.proofs.read_linear.Tie as tie
 
 -- the radius that two bytes stand for, from a least radius and a width
 abbrev radius : Float → Float → List ℕ → Float
-radius min span bytes = restored min span (number 256 bytes)
+radius min width bytes = restored min width (number 256 bytes)
 
 abbrev Inv-loop : tie.InvT-loop
-Inv-loop payload out₀ min span i₀ at₀ out i at = Gathered (radius min span) 2 payload (length out₀) out i at
+Inv-loop payload out₀ min width i₀ at₀ out i at = Gathered (radius min width) 2 payload (length out₀) out i at
 
 abbrev μ-loop : tie.MeasureT-loop
-μ-loop payload out₀ min span i₀ at₀ out i at = length out₀ - i
+μ-loop payload out₀ min width i₀ at₀ out i at = length out₀ - i
 
-width-of-requires : tie.Need-width-of-requires Inv-loop μ-loop
-width-of-requires c κs = search needs
+breadth-requires : tie.Need-breadth-requires Inv-loop μ-loop
+breadth-requires c κs = search needs
 
 loop-holds : tie.Need-loop-holds Inv-loop μ-loop
 loop-holds c = gathered-start (radius _ _) 2 _ _ _ refl
@@ -37,8 +37,8 @@ below c = let inv = c .before .loop .inv in omega (arith, inv .long, c .loop-tes
 get-number-requires : tie.Need-get-number-requires Inv-loop μ-loop
 get-number-requires c κs = let inv = c .before .loop .inv in rw (c .before .before .before .before .before .pre) (place-within 2 _ _ _ (inv .place) (below c))
 
-int-to-float-out : tie.Need-int-to-float-out Inv-loop μ-loop
-int-to-float-out c = search needs
+radius-of-requires : tie.Need-radius-of-requires Inv-loop μ-loop
+radius-of-requires c κs = search needs
 
 mul-out : tie.Need-mul-out Inv-loop μ-loop
 mul-out c = scaled-fits _ _ 4 (below (c .before .before)) (c .before .before .before .before .before .before .before .good .1 .1 .0 .1)
@@ -56,8 +56,7 @@ loop-less : tie.Need-loop-less Inv-loop μ-loop
 loop-less c = omega (arith, below (c .before .before))
 
 loop-again : tie.Need-loop-again Inv-loop μ-loop
-unfolding restored
-loop-again c = gathered-next (radius _ _) 2 _ _ _ _ _ _ (below (c .before .before)) (c .before .before .before .loop .inv) (ap (restored _ _) (c .before .get-number .ensures))
+loop-again c = gathered-next (radius _ _) 2 _ _ _ _ _ _ (below (c .before .before)) (c .before .before .before .loop .inv) (c .radius-of .ensures ∙ ap (restored _ _) (c .before .get-number .ensures))
 
 same-length : tie.Need-same-length Inv-loop μ-loop
 same-length c = c .before .loop .inv .long
@@ -68,7 +67,7 @@ returns c =
     let a = c .before .before .before .before .before .args in
     let inv = c .before .loop .inv in
     gathered-end (radius _ _) 2 _ _ _ _ _ (omega (arith, inv .long, c .loop-test .left)) inv
-    ∙ ap (λ (span : Float). map (radius (a .range .min) span) (chunks 2 (length (now (a .out))) (now (a .payload)))) (c .before .before .width-of .ensures)
+    ∙ ap (λ (width : Float). map (radius (a .range .min) width) (chunks 2 (length (now (a .out))) (now (a .payload)))) (c .before .before .breadth .ensures)
 
 pub read-linear-spec : {M : Type 1} → statement M
 read-linear-spec =
@@ -76,10 +75,10 @@ read-linear-spec =
     (tie.spec
     Inv-loop
     μ-loop
-    width-of-requires
+    breadth-requires
     loop-holds
     get-number-requires
-    int-to-float-out
+    radius-of-requires
     mul-out
     slice-write-out
     add-i

@@ -1,11 +1,11 @@
 -- `radius::write_floats` meets its contract: a turn writes the four bytes of one radius. Assumes nothing.
-use Prim.Native.Nat.{_-_}
+use Prim.Native.Nat.{_+_, _-_, _≤_}
 use lib.ListN.{length}
 use lib.Ieee.{nan}
 use mathlib.Core.Path.{sym, _∙_}
-use borrow.Author.Needs.{scaled-fits}
+use borrow.Author.Needs.{needs, scaled-fits}
 use Rattle.float.specs.Bytes.{toLeBytes}
-use Rattle.float.proofs.Bytes.{length-toLeBytes}
+use Rattle.float.proofs.Bytes.{length-toLeBytes, put-f32-room}
 use Rattle.radius.proofs.Fill.{Written, written-start, written-next, written-end, place-within}
 use native.Mathlib.Omega.{arith}
 use Rattle.radius.proofs.write_floats.Statement.{statement}
@@ -20,14 +20,18 @@ abbrev μ-loop : tie.MeasureT-loop
 loop-holds : tie.Need-loop-holds Inv-loop μ-loop
 loop-holds c = written-start toLeBytes 4 _ _ (c .before .before .pre)
 
-mul-put-float : tie.Need-mul-put-float Inv-loop μ-loop
-mul-put-float c = scaled-fits _ _ 4 (c .before .loop-test .taken) (c .before .before .before .before .before .good .0 .1)
+mul-put-f32 : tie.Need-mul-put-f32 Inv-loop μ-loop
+mul-put-f32 c = scaled-fits _ _ 4 (c .before .loop-test .taken) (c .before .before .before .before .before .good .0 .1)
 
-shared-slice-read-put-float : tie.Need-shared-slice-read-put-float Inv-loop μ-loop
-shared-slice-read-put-float c = omega arith
+shared-slice-read-put-f32 : tie.Need-shared-slice-read-put-f32 Inv-loop μ-loop
+shared-slice-read-put-f32 c = omega arith
 
-put-float-requires : tie.Need-put-float-requires Inv-loop μ-loop
-put-float-requires c κs = let inv = c .before .before .before .loop .inv in rw (inv .long) (place-within 4 _ _ _ (inv .place) (c .before .before .loop-test .taken))
+put-f32-requires : tie.Need-put-f32-requires Inv-loop μ-loop
+put-f32-requires c κs = search needs
+
+-- there is room for four bytes
+room : (c : tie.After-put-f32 Inv-loop μ-loop) → let s = c .before .before .before .before .loop in s .at + 4 ≤ length (s .out)
+room c = let inv = c .before .before .before .before .loop .inv in rw (inv .long) (place-within 4 _ _ _ (inv .place) (c .before .before .before .loop-test .taken))
 
 add-i : tie.Need-add-i Inv-loop μ-loop
 add-i c = omega arith
@@ -39,7 +43,7 @@ loop-less : tie.Need-loop-less Inv-loop μ-loop
 loop-less c = omega arith
 
 loop-again : tie.Need-loop-again Inv-loop μ-loop
-loop-again c = written-next toLeBytes 4 _ length-toLeBytes nan _ _ _ _ (c .before .before .before .before .before .loop-test .taken) (c .before .before .before .before .before .before .loop .inv) (c .before .before .put-float .ensures)
+loop-again c = written-next toLeBytes 4 _ length-toLeBytes nan _ _ _ _ (c .before .before .before .before .before .loop-test .taken) (c .before .before .before .before .before .before .loop .inv) (c .before .before .put-f32 .ensures ∙ put-f32-room _ _ _ (room (c .before .before)))
 
 same-length : tie.Need-same-length Inv-loop μ-loop
 same-length c = c .before .loop .inv .long ∙ sym (c .before .before .before .before .pre)
@@ -54,9 +58,9 @@ write-floats-spec =
     Inv-loop
     μ-loop
     loop-holds
-    mul-put-float
-    shared-slice-read-put-float
-    put-float-requires
+    mul-put-f32
+    shared-slice-read-put-f32
+    put-f32-requires
     add-i
     add-at
     loop-less

@@ -1,3 +1,5 @@
+-- `rotation::apply` answers `applyOf`: after the checks it flips the signs into the output and transforms it there,
+-- and a refusal leaves the output as it was. Assumes nothing.
 use borrow.Author.Needs.{needs}
 use mathlib.Core.Path.{_≡_, sym, ap, _∙_}
 use lib.ListN.{length}

@@ -1,6 +1,9 @@
+-- `rotation::apply_inverse` answers `applyInverseOf`: after the checks it copies the input, transforms it in the output and flips the signs there,
+-- and a refusal leaves the output as it was. Assumes nothing.
 use borrow.Author.Needs.{needs}
 use mathlib.Core.Path.{_≡_, sym, ap, _∙_}
 use lib.ListN.{length}
+use Rattle.float.proofs.Copying.{copy-into-same}
 use Rattle.error.specs.Answer.{first, accepted}
 use Rattle.error.specs.Outcomes.{says}
 use Rattle.error.proofs.Answers.{both-refused, both-value}
@@ -32,9 +35,7 @@ enum-told : tie.Need-enum-told
 enum-told c = search needs
 
 copy-into-requires : tie.Need-copy-into-requires
-copy-into-requires c κs =
-    let f = fit (c .before) in
-    f .output-long ∙ sym (f .input-long)
+copy-into-requires c κs = search needs
 
 hadamard-requires : tie.Need-hadamard-requires
 hadamard-requires c κs =
@@ -53,8 +54,9 @@ returns-2 : tie.Need-returns-2
 unfolding unrotated
 returns-2 c =
     let a = c .before .before .before .before .before .before .before .before .before .before .before .before .before .before .before .before .before .before .args in
+    let f = fit (c .before .before .before .before .before .before .before .before .before .before .before .before) in
     both-value _ _ _ (inverse-value _ _ _ _ (passed (c .before .before .before .before .before .before .before .before .before .before .before .before)))
-    (c .before .before .flip .ensures ∙ ap (λ ys. products ys (a .signs .now)) (c .before .before .before .before .before .before .hadamard .ensures ∙ ap (hadamardOf (a .dim)) (c .before .before .before .before .before .before .before .before .before .before .copy-into .ensures)))
+    (c .before .before .flip .ensures ∙ ap (λ ys. products ys (a .signs .now)) (c .before .before .before .before .before .before .hadamard .ensures ∙ ap (hadamardOf (a .dim)) (c .before .before .before .before .before .before .before .before .before .before .copy-into .ensures ∙ copy-into-same (a .input .now) (a .output .now) (f .input-long ∙ sym (f .output-long)))))
 
 pub apply-inverse-spec : {M : Type 1} → statement M
 apply-inverse-spec =

@@ -1,9 +1,11 @@
+-- `rotation::block` does the butterflies of one block.
+-- The loop's invariant, `Partly`, says what each entry holds when so many pairs are through. Assumes nothing.
 use Prim.Native.Nat.{ℕ, _≤_, _-_}
 use mathlib.Core.Path.{_≡_, subst}
 use native.Mathlib.Omega.{arith}
 use borrow.Author.Needs.{scaled-fits}
 use lib.ListN.{length, length-set}
-use Rattle.rotation.specs.Block.{Partly}
+use Rattle.rotation.specs.Inner.{Partly}
 use Rattle.rotation.proofs.Blocks.{partly-start, partly-more}
 use Rattle.rotation.proofs.block.Statement.{statement}
 use Rattle.rotation.proofs.block.Tie as tie

@@ -1,3 +1,5 @@
+-- `rotation::butterflies` is one stage with step h.
+-- The loop's invariant says that the blocks passed are done and that those ahead are as they were. Assumes nothing.
 use Prim.Native.Nat.{_+_, _*_, _≤_, _-_}
 use native.Mathlib.Omega.{arith}
 use lib.ListN.{length}

@@ -1,3 +1,4 @@
+-- `rotation::check` answers the first check of a rotation that fails, in document 01's order. Assumes nothing.
 use borrow.Author.Needs.{needs}
 use mathlib.Core.Path.{sym, _∙_}
 use borrow.Author.Tests.{eq-eqb, ne-eqb}

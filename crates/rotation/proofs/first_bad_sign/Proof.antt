@@ -1,3 +1,4 @@
+-- `rotation::first_bad_sign` finds the first sign that is neither -1 nor 1. The loop's invariant says that no sign passed is bad. Assumes nothing.
 use Prim.Native.Nat.{_+_, _≤_, _-_}
 use mathlib.Core.Path.{_≡_, sym, _∙_}
 use native.Mathlib.Omega.{arith}

@@ -1,3 +1,4 @@
+-- `rotation::flip_into` leaves each value times its sign in the output. The loop's invariant says that those passed are written. Assumes nothing.
 use Prim.Native.Nat.{_≤_, _-_}
 use mathlib.Core.Path.{refl, sym, _∙_}
 use native.Mathlib.Omega.{arith}

@@ -1,3 +1,4 @@
+-- `rotation::hadamard` is the transform and then the scale, in place. Assumes nothing.
 use borrow.Author.Needs.{needs}
 use mathlib.Core.Path.{ap₂, _∙_}
 use Rattle.rotation.specs.Rotation.{scaled, hadamardOf}

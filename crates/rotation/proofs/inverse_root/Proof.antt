@@ -1,3 +1,4 @@
+-- `rotation::inverse_root` is the quotient of 1.0 and the root of the dimension, each rounded once. Assumes nothing.
 use borrow.Author.Needs.{needs}
 use Prim.Native.Nat.{_^_}
 use mathlib.Core.Path.{ap}

@@ -1,3 +1,4 @@
+-- `rotation::is_bad_sign` compares a sign with -1.0 and with 1.0. Assumes nothing.
 use mathlib.Core.Path.{sym, ap}
 use mathlib.Core.Bool.{Bool, false, _&&_}
 use lib.IntN.{pos}

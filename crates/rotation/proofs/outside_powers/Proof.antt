@@ -1,3 +1,4 @@
+-- `rotation::outside_powers` tells whether the dimension has another number of set bits than one, or is above 4,096. Assumes nothing.
 use borrow.Author.Tests.{eq-eqb, ne-eqb}
 use Rattle.rotation.proofs.outside_powers.Statement.{statement}
 use Rattle.rotation.proofs.outside_powers.Tie as tie

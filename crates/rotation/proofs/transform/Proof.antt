@@ -1,8 +1,10 @@
+-- `rotation::transform` is every stage in its order.
+-- The loop's invariant says that the stages left, of what the values hold now, give the whole transform. Assumes nothing.
 use mathlib.Core.Path.{_≡_, refl, _∙_}
 use native.Mathlib.Omega.{arith}
 use lib.ListN.{length}
 use lib.Ieee.{binary32, add, sub}
-use Rattle.rounding.specs.Value.{posZero}
+use Rattle.float.specs.Constants.{posZero}
 use Rattle.rounding.specs.Butterfly.{stages}
 use Rattle.rotation.proofs.Ordered.{Running, running-start, running-steps, running-small, running-more, running-all}
 use Rattle.rotation.proofs.transform.Statement.{statement}

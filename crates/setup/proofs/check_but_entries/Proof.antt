@@ -2,6 +2,7 @@
 use mathlib.Core.Path.{sym, ap, _∙_}
 use Rattle.error.specs.Answer.{accepted}
 use Rattle.error.specs.Outcomes.{says}
+use Rattle.setup.specs.Lent.{lent}
 use Rattle.setup.specs.Checks.{scalarChecks, tableChecksButEntries}
 use Rattle.error.proofs.Chains.{append-passed, append-refused}
 use borrow.Author.Needs.{needs}
@@ -24,7 +25,7 @@ returns : tie.Need-returns
 returns c =
     let a = c .before .before .before .before .before .before .before .args in
     sym
-    (append-refused (scalarChecks (a .setup)) (tableChecksButEntries (a .setup) (a .signs .now) (a .directions .now) (a .matrix .now)) tt accepted
+    (append-refused (scalarChecks (a .setup)) (tableChecksButEntries (a .setup) (lent (a .signs .now) (a .directions .now) (a .matrix .now))) tt accepted
     (sym (c .before .before .before .check-scalars .ensures) ∙ ap says (c .before .scalars .given .1)))
 
 returns-2 : tie.Need-returns-2
@@ -32,7 +33,7 @@ returns-2 c =
     let a = c .before .before .before .before .before .before .before .args in
     c .check-tables .ensures
     ∙ sym
-    (append-passed (scalarChecks (a .setup)) (tableChecksButEntries (a .setup) (a .signs .now) (a .directions .now) (a .matrix .now)) tt accepted
+    (append-passed (scalarChecks (a .setup)) (tableChecksButEntries (a .setup) (lent (a .signs .now) (a .directions .now) (a .matrix .now))) tt accepted
     (sym (c .before .before .before .check-scalars .ensures) ∙ ap says (c .before .enum-told .given .1)))
 
 pub check-but-entries-spec : {M : Type 1} → statement M

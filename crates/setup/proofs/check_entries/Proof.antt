@@ -1,6 +1,6 @@
 -- `setup::check_entries` meets its contract: the pass says whether an entry offends, and the search where. Assumes nothing.
 use borrow.Author.Needs.{needs}
-use Rattle.setup.specs.Checks.{badValue}
+use Rattle.error.specs.Checks.{badValue}
 use Rattle.error.proofs.Sweep.{clear-passes, clear-offends}
 use Rattle.setup.proofs.check_entries.Statement.{statement}
 use Rattle.setup.proofs.check_entries.Tie as tie

@@ -15,8 +15,8 @@ returns-2 c = goes-on _ _ _ (ne-eqb _ _ (c .before .if1 .left)) (stops _ _ _ (eq
 outside-bits-requires : tie.Need-outside-bits-requires
 outside-bits-requires c κs = search needs
 
-cast-t6 : tie.Need-cast-t6
-cast-t6 c = search needs
+cast-t7 : tie.Need-cast-t7
+cast-t7 c = search needs
 
 returns-3 : tie.Need-returns-3
 returns-3 c = goes-on _ _ _ (ne-eqb _ _ (c .before .before .before .before .if1 .left)) (goes-on _ _ _ (ne-eqb _ _ (c .before .before .before .if2 .left)) (stops _ _ _ (sym (c .before .before .outside-bits .ensures) ∙ c .before .if3 .taken)))
@@ -43,7 +43,7 @@ check-scalars-spec =
     returns
     returns-2
     outside-bits-requires
-    cast-t6
+    cast-t7
     returns-3
     outside-projections-requires
     returns-4

@@ -8,8 +8,9 @@ use lib.ListN.{length, drop}
 use lib.Ieee.{nan}
 use Rattle.error.specs.Answer.{place}
 use Rattle.error.proofs.Places.{place-skip, place-here, place-end}
-use Rattle.setup.specs.Checks.{badValue}
-use Rattle.setup.proofs.Rows.{finite-passes, not-finite-offends, entry-below, rows-full, rows-start, row-start, row-end, column-next}
+use Rattle.error.specs.Checks.{badValue}
+use Rattle.setup.proofs.Rows.{entry-below, rows-full, rows-start, row-start, row-end, column-next}
+use Rattle.error.proofs.Finite.{finite-passes, not-finite-offends}
 use Rattle.setup.proofs.first_non_finite_entry.Statement.{statement}
 use Rattle.setup.proofs.first_non_finite_entry.Tie as tie
 

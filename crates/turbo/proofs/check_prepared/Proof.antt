@@ -1,10 +1,10 @@
--- `turbo::check_prepared` meets its contract: each return is one case of the laws of a prepared query's checks. Assumes nothing.
+-- `turbo::check_prepared` meets its contract: the setup is judged first, and what is left of the checks is another call's. Assumes nothing.
 use mathlib.Core.Path.{_≡_, sym, ap, _∙_}
 use borrow.Author.Needs.{needs}
 use Rattle.error.specs.Answer.{first, accepted}
 use Rattle.error.specs.Outcomes.{says}
 use Rattle.setup.specs.Checks.{scalarChecks, directionChecks}
-use Rattle.turbo.proofs.Answers.{ready-scalars, ready-directions, ready-turned, ready-rows, ready-turned-entry, ready-rows-entry, ready-passed}
+use Rattle.turbo.proofs.Answers.{ready-scalars, ready-directions, ready-rest}
 use Rattle.turbo.proofs.check_prepared.Statement.{statement}
 use Rattle.turbo.proofs.check_prepared.Tie as tie
 
@@ -42,39 +42,14 @@ returns-2 c = let k = c .before .before .before .before in
 enum-told-2 : tie.Need-enum-told-2
 enum-told-2 c = search needs
 
+check-lengths-and-values-requires : tie.Need-check-lengths-and-values-requires
+check-lengths-and-values-requires c κs = search needs
+
 returns-3 : tie.Need-returns-3
 returns-3 c = let k = c .before in
     let a = k .before .before .before .before .before .before .before .before .before .args in
-    sym (ready-turned (a .setup) (a .directions .now) (a .rotated .now) (a .projected .now) (scalars (k .before .before .before)) (table k) (c .if1 .taken))
-
-counted-projections-requires : tie.Need-counted-projections-requires
-counted-projections-requires c κs = search needs
-
-returns-4 : tie.Need-returns-4
-returns-4 c = let k = c .before .before .before in
-    let a = k .before .before .before .before .before .before .before .before .before .args in
-    sym (ready-rows (a .setup) (a .directions .now) (a .rotated .now) (a .projected .now) (scalars (k .before .before .before)) (table k) (c .before .before .if1 .left) (c .before .counted-projections .ensures) (c .if2 .taken))
-
-first-non-finite-requires : tie.Need-first-non-finite-requires
-first-non-finite-requires c κs = search needs
-
-returns-5 : tie.Need-returns-5
-returns-5 c = let k = c .before .before .before .before .before in
-    let a = k .before .before .before .before .before .before .before .before .before .args in
-    sym (ready-turned-entry (a .setup) (a .directions .now) (a .rotated .now) (a .projected .now) (scalars (k .before .before .before)) (table k) (c .before .before .before .before .if1 .left) (c .before .before .before .counted-projections .ensures) (c .before .before .if2 .left) (c .before .first-non-finite .ensures) (c .if3 .taken))
-
-first-non-finite-requires-2 : tie.Need-first-non-finite-requires-2
-first-non-finite-requires-2 c κs = search needs
-
-returns-6 : tie.Need-returns-6
-returns-6 c = let k = c .before .before .before .before .before .before .before in
-    let a = k .before .before .before .before .before .before .before .before .before .args in
-    sym (ready-rows-entry (a .setup) (a .directions .now) (a .rotated .now) (a .projected .now) (scalars (k .before .before .before)) (table k) (c .before .before .before .before .before .before .if1 .left) (c .before .before .before .before .before .counted-projections .ensures) (c .before .before .before .before .if2 .left) (c .before .before .before .first-non-finite .ensures) (c .before .before .if3 .left) (c .before .first-non-finite2 .ensures) (c .if4 .taken))
-
-returns-7 : tie.Need-returns-7
-returns-7 c = let k = c .before .before .before .before .before .before .before in
-    let a = k .before .before .before .before .before .before .before .before .before .args in
-    sym (ready-passed (a .setup) (a .directions .now) (a .rotated .now) (a .projected .now) (scalars (k .before .before .before)) (table k) (c .before .before .before .before .before .before .if1 .left) (c .before .before .before .before .before .counted-projections .ensures) (c .before .before .before .before .if2 .left) (c .before .before .before .first-non-finite .ensures) (c .before .before .if3 .left) (c .before .first-non-finite2 .ensures) (c .if4 .left))
+    c .check-lengths-and-values .ensures
+    ∙ sym (ready-rest (a .setup) (a .directions .now) (a .rotated .now) (a .projected .now) (scalars (k .before .before .before)) (table k))
 
 pub check-prepared-spec : {M : Type 1} → statement M
 check-prepared-spec =
@@ -88,11 +63,5 @@ check-prepared-spec =
     enum-known-table
     returns-2
     enum-told-2
-    returns-3
-    counted-projections-requires
-    returns-4
-    first-non-finite-requires
-    returns-5
-    first-non-finite-requires-2
-    returns-6
-    returns-7)
+    check-lengths-and-values-requires
+    returns-3)

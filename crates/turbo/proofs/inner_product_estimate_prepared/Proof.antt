@@ -2,7 +2,8 @@
 use mathlib.Core.Path.{sym, ap, _∙_}
 use borrow.Author.Needs.{needs}
 use Rattle.error.specs.Outcomes.{says}
-use Rattle.turbo.proofs.Answers.{prepared-refused, prepared-passed}
+use Rattle.turbo.specs.Inner.{joined}
+use Rattle.turbo.proofs.Answers.{prepared-refused, prepared-passed, ready-usable}
 use Rattle.turbo.proofs.inner_product_estimate_prepared.Statement.{statement}
 use Rattle.turbo.proofs.inner_product_estimate_prepared.Tie as tie
 
@@ -13,20 +14,31 @@ enum-known-checked : tie.Need-enum-known-checked
 enum-known-checked c = search needs
 
 returns : tie.Need-returns
-returns c = let k = c .before .before .before in
-    let a = k .before .before .before .before .before .args in
-    sym (prepared-refused (a .setup) (a .directions .now) (a .rotated .now) (a .projected .now) (a .bytes .now) (sym (k .check-prepared .ensures) ∙ ap says (c .before .checked .given .1)))
+returns c =
+    let a = c .before .before .before .before .before .before .before .before .args in
+    sym (prepared-refused (a .setup) (a .directions .now) (a .rotated .now) (a .projected .now) (a .bytes .now) (sym (c .before .before .before .check-prepared .ensures) ∙ ap says (c .before .checked .given .1)))
 
 enum-told : tie.Need-enum-told
 enum-told c = search needs
 
 record-score-requires : tie.Need-record-score-requires
-record-score-requires c κs = search needs
+record-score-requires c κs =
+    let a = c .before .before .before .before .before .before .before .args in
+    ready-usable (a .setup) (a .directions .now) (a .rotated .now) (a .projected .now) (sym (c .before .before .check-prepared .ensures) ∙ ap says (c .enum-told .given .1))
+
+without-header-requires : tie.Need-without-header-requires
+without-header-requires c κs = search needs
+
+without-phase-requires : tie.Need-without-phase-requires
+without-phase-requires c κs = search needs
 
 returns-2 : tie.Need-returns-2
-returns-2 c = let k = c .before .before .before in
-    let a = k .before .before .before .before .before .args in
-    c .record-score .ensures ∙ sym (prepared-passed (a .setup) (a .directions .now) (a .rotated .now) (a .projected .now) (a .bytes .now) (sym (k .check-prepared .ensures) ∙ ap says (c .before .enum-told .given .1)))
+returns-2 c =
+    let t = c .before .before .before in
+    let a = t .before .before .before .before .before .before .before .args in
+    c .without-phase .ensures
+    ∙ ap joined (c .before .without-header .ensures ∙ c .before .before .record-score .ensures .0)
+    ∙ sym (prepared-passed (a .setup) (a .directions .now) (a .rotated .now) (a .projected .now) (a .bytes .now) (sym (t .before .before .check-prepared .ensures) ∙ ap says (t .enum-told .given .1)))
 
 pub inner-product-estimate-prepared-spec : {M : Type 1} → statement M
 inner-product-estimate-prepared-spec =
@@ -37,4 +49,6 @@ inner-product-estimate-prepared-spec =
     returns
     enum-told
     record-score-requires
+    without-header-requires
+    without-phase-requires
     returns-2)

@@ -1,14 +1,14 @@
--- `decode::decode` meets its contract: the part of the array that the pairs were read to is the part that is rotated back. Assumes nothing.
+-- `turbo_decode::decode` meets its contract: the part of the array that the pairs were read to is the part that is rotated back. Assumes nothing.
 use Prim.Native.Nat.{_-_, _≤_}
 use mathlib.Core.Path.{ap, _∙_}
 use native.Mathlib.Omega.{arith}
 use borrow.Author.Needs.{needs}
 use borrow.Rule.Slice.PartMut.{postOf}
 use lib.ListN.{length}
-use Rattle.turbo_scoring.proofs.Parts.{part-long, part-read, part-enough}
 use Rattle.turbo_decode.proofs.Answers.{values-back}
 use Rattle.turbo_decode.proofs.decode.Statement.{statement}
 use Rattle.turbo_decode.proofs.decode.Tie as tie
+use Rattle.lists.proofs.Parts.{part-long, part-read, part-enough}
 
 -- the array has room
 values-fit : (c : tie.After-no-values) → length (c .before .before .before .before .before .args .out .now) ≤ length (c .no-values .result)
@@ -40,7 +40,7 @@ part-apply-inverse-end c =
     let p = c .before .before in
     let z = p .before .before in
     let n = length (z .before .before .before .before .before .args .out .now) in
-    part-enough n (z .no-values .result) (values-fit z) (p .read-pairs .last .1 .1 .0) (postOf 0 (n - 0) (z .no-values .result)) (p .read-pairs .kept .1 .1 .0)
+    part-enough n (z .no-values .result) (values-fit z) (p .read-pairs .last .1 .1 .1 .0) (postOf 0 (n - 0) (z .no-values .result)) (p .read-pairs .kept .1 .1 .1 .0)
 
 apply-inverse-requires : tie.Need-apply-inverse-requires
 apply-inverse-requires c κs = search needs
@@ -56,9 +56,9 @@ returns c =
     let s = z .before .before .before .before .before in
     let xs = z .no-values .result in
     let n = length (s .args .out .now) in
-    let read = part-read n xs (values-fit z) (p .read-pairs .last .1 .1 .0) (postOf 0 (n - 0) xs) (p .read-pairs .kept .1 .1 .0) in
+    let read = part-read n xs (values-fit z) (p .read-pairs .last .1 .1 .1 .0) (postOf 0 (n - 0) xs) (p .read-pairs .kept .1 .1 .1 .0) in
     a .apply-inverse .ensures .1
-    ∙ values-back (s .args .signs .now) _ _ (s .args .out .now) (s .pre .turnable) (ap length read ∙ p .read-pairs .kept .1 .1 .0 ∙ part-long n xs (values-fit z)) (read ∙ p .read-pairs .ensures)
+    ∙ values-back (s .args .signs .now) _ _ (s .args .out .now) (s .pre .turnable) (ap length read ∙ p .read-pairs .kept .1 .1 .1 .0 ∙ part-long n xs (values-fit z)) (read ∙ p .read-pairs .ensures)
 
 pub decode-spec : {M : Type 1} → statement M
 decode-spec =

@@ -1,23 +1,22 @@
--- `decode::read_pairs` meets its contract: the parts of the two arrays that were filled are the parts that the pairs are made of. Assumes nothing.
+-- `turbo_decode::read_pairs` meets its contract: the parts of the two arrays that were filled are the parts that the pairs are made of. Assumes nothing.
 use Prim.Native.Nat.{_-_, _/_, _≤_}
-use mathlib.Core.Path.{ap, _∙_}
+use mathlib.Core.Path.{_∙_}
 use native.Mathlib.Omega.{arith}
 use borrow.Author.Needs.{needs}
 use borrow.Rule.Slice.PartMut.{postOf}
 use lib.ListN.{length}
-use Rattle.packed.specs.Reading.{radiiOf, indicesOf, readRadiiOf, readIndicesOf}
-use Rattle.turbo_scoring.proofs.Parts.{part-enough, part-filled}
-use Rattle.turbo_scoring.proofs.Answers.{radii-filled, indices-filled}
-use Rattle.turbo_decode.proofs.Answers.{paired-half, paired-most, paired-values}
+use Rattle.lists.proofs.Parts.{part-enough}
+use Rattle.packed_parts.proofs.Scratch.{read-pairs-most, radii-lent, indices-lent}
+use Rattle.turbo_decode.proofs.Answers.{paired-values}
 use Rattle.turbo_decode.proofs.read_pairs.Statement.{statement}
 use Rattle.turbo_decode.proofs.read_pairs.Tie as tie
 
 -- both arrays have room
-radii-fit : (c : tie.After-no-radii) → length (c .before .before .before .before .args .values .now) / 2 ≤ length (c .no-radii .result)
-radii-fit c = let s = c .before .before .before .before in omega (arith, paired-most (s .args .bytes .now) (length (s .args .values .now)) (s .pre), c .no-radii .ok)
+radii-fit : (c : tie.After-no-radii) → c .before .before .before .before .before .args .header .dim / 2 ≤ length (c .no-radii .result)
+radii-fit c = let s = c .before .before .before .before .before in omega (arith, read-pairs-most (s .args .bytes .now) (s .pre .read), c .no-radii .ok)
 
-indices-fit : (c : tie.After-no-indices) → length (c .before .before .before .before .before .args .values .now) / 2 ≤ length (c .no-indices .result)
-indices-fit c = let s = c .before .before .before .before .before in omega (arith, paired-most (s .args .bytes .now) (length (s .args .values .now)) (s .pre), c .no-indices .ok)
+indices-fit : (c : tie.After-no-indices) → c .before .before .before .before .before .before .args .header .dim / 2 ≤ length (c .no-indices .result)
+indices-fit c = let s = c .before .before .before .before .before .before in omega (arith, read-pairs-most (s .args .bytes .now) (s .pre .read), c .no-indices .ok)
 
 no-radii-requires : tie.Need-no-radii-requires
 no-radii-requires c κs = search needs
@@ -25,8 +24,8 @@ no-radii-requires c κs = search needs
 no-indices-requires : tie.Need-no-indices-requires
 no-indices-requires c κs = search needs
 
-sub-read-radii : tie.Need-sub-read-radii
-sub-read-radii c = search needs
+sub-radii-at : tie.Need-sub-radii-at
+sub-radii-at c = search needs
 
 part-radii-start : tie.Need-part-radii-start
 part-radii-start c = search needs
@@ -34,11 +33,11 @@ part-radii-start c = search needs
 part-radii-end : tie.Need-part-radii-end
 part-radii-end c = radii-fit (c .before)
 
-read-radii-requires : tie.Need-read-radii-requires
-read-radii-requires c κs = search needs
+radii-at-requires : tie.Need-radii-at-requires
+radii-at-requires c κs = search needs
 
-sub-read-indices : tie.Need-sub-read-indices
-sub-read-indices c = search needs
+sub-indices-at : tie.Need-sub-indices-at
+sub-indices-at c = search needs
 
 part-indices-start : tie.Need-part-indices-start
 part-indices-start c = search needs
@@ -46,8 +45,8 @@ part-indices-start c = search needs
 part-indices-end : tie.Need-part-indices-end
 part-indices-end c = indices-fit (c .before .before .before)
 
-read-indices-requires : tie.Need-read-indices-requires
-read-indices-requires c κs = search needs
+indices-at-requires : tie.Need-indices-at-requires
+indices-at-requires c κs = search needs
 
 sub-polar-pairs : tie.Need-sub-polar-pairs
 sub-polar-pairs c = search needs
@@ -59,8 +58,8 @@ part-polar-pairs-end : tie.Need-part-polar-pairs-end
 part-polar-pairs-end c =
     let i = c .before .before in
     let z = i .before .before .before .before .before in
-    let k = length (z .before .before .before .before .before .args .values .now) / 2 in
-    part-enough k (z .no-indices .result) (indices-fit z) (i .read-indices .last .1 .0) (postOf 0 (k - 0) (z .no-indices .result)) (i .read-indices .kept .1 .0)
+    let k = z .before .before .before .before .before .before .args .header .dim / 2 in
+    part-enough k (z .no-indices .result) (indices-fit z) (i .indices-at .last .1 .1 .0) (postOf 0 (k - 0) (z .no-indices .result)) (i .indices-at .kept .1 .1 .0)
 
 sub-polar-pairs-2 : tie.Need-sub-polar-pairs-2
 sub-polar-pairs-2 c = search needs
@@ -72,8 +71,8 @@ part-polar-pairs-end-2 : tie.Need-part-polar-pairs-end-2
 part-polar-pairs-end-2 c =
     let r = c .before .before .before .before .before .before .before in
     let z = r .before .before .before in
-    let k = length (z .before .before .before .before .args .values .now) / 2 in
-    part-enough k (z .no-radii .result) (radii-fit z) (r .read-radii .last .1 .0) (postOf 0 (k - 0) (z .no-radii .result)) (r .read-radii .kept .1 .0)
+    let k = z .before .before .before .before .before .args .header .dim / 2 in
+    part-enough k (z .no-radii .result) (radii-fit z) (r .radii-at .last .1 .1 .0) (postOf 0 (k - 0) (z .no-radii .result)) (r .radii-at .kept .1 .1 .0)
 
 polar-pairs-requires : tie.Need-polar-pairs-requires
 polar-pairs-requires c κs = search needs
@@ -87,14 +86,13 @@ returns c =
     let i = p .before .before .before .before .before .before .before in
     let r = i .before .before .before in
     let z = r .before .before in
-    let s = z .before .before .before .before .before in
+    let s = z .before .before .before .before .before .before in
     let bytes = s .args .bytes .now in
-    let k = length (s .args .values .now) / 2 in
-    let half = paired-half bytes (length (s .args .values .now)) (s .pre) in
+    let k = s .args .header .dim / 2 in
     p .polar-pairs .ensures .1
-    ∙ paired-values (s .args .directions .now) (s .args .values .now) bytes _ _ (s .pre)
-    (part-filled k (z .no-indices .result) (indices-fit z) (readIndicesOf bytes) (indicesOf bytes) (ap (readIndicesOf bytes) half ∙ indices-filled bytes (s .pre .read)) (i .read-indices .last .1 .0) (postOf 0 (k - 0) (z .no-indices .result)) (i .read-indices .kept .1 .0) (i .read-indices .ensures .1))
-    (part-filled k (z .before .no-radii .result) (radii-fit (z .before)) (readRadiiOf bytes) (radiiOf bytes) (ap (readRadiiOf bytes) half ∙ radii-filled bytes (s .pre .read)) (r .read-radii .last .1 .0) (postOf 0 (k - 0) (z .before .no-radii .result)) (r .read-radii .kept .1 .0) (r .read-radii .ensures .1))
+    ∙ paired-values (s .args .directions .now) (s .args .values .now) bytes (s .args .header) _ _ (s .pre)
+    (indices-lent bytes (s .pre .read) (z .no-indices .result) (indices-fit z) (i .indices-at .last .1 .1 .0) (postOf 0 (k - 0) (z .no-indices .result)) (i .indices-at .kept .1 .1 .0) (i .indices-at .ensures .1))
+    (radii-lent bytes (s .pre .read) (z .before .no-radii .result) (radii-fit (z .before)) (r .radii-at .last .1 .1 .0) (postOf 0 (k - 0) (z .before .no-radii .result)) (r .radii-at .kept .1 .1 .0) (r .radii-at .ensures .1))
 
 pub read-pairs-spec : {M : Type 1} → statement M
 read-pairs-spec =
@@ -102,14 +100,14 @@ read-pairs-spec =
     (tie.spec
     no-radii-requires
     no-indices-requires
-    sub-read-radii
+    sub-radii-at
     part-radii-start
     part-radii-end
-    read-radii-requires
-    sub-read-indices
+    radii-at-requires
+    sub-indices-at
     part-indices-start
     part-indices-end
-    read-indices-requires
+    indices-at-requires
     sub-polar-pairs
     part-polar-pairs-start
     part-polar-pairs-end

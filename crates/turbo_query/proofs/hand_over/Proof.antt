@@ -4,19 +4,20 @@ use borrow.Author.Needs.{needs}
 use lib.ListN.{length}
 use Rattle.error.specs.Answer.{first, accepted}
 use Rattle.error.specs.Outcomes.{says}
-use Rattle.turbo_query.specs.Handed.{handedChecks}
+use Rattle.float.proofs.Copying.{copy-into-same}
+use Rattle.turbo_query.specs.Inner.{handedChecks}
 use Rattle.turbo_query.proofs.Answers.{handed-rooms, handed-refused, handed-value}
 use Rattle.turbo_query.proofs.hand_over.Statement.{statement}
 use Rattle.turbo_query.proofs.hand_over.Tie as tie
 
 -- what the checks leave, where they are done
-passed : (c : tie.After-enum-told) → let a = c .before .before .before .before .before .before .before .args in first (handedChecks (length (a .turned .now)) (length (a .sums .now)) (a .turned .now) (a .sums .now) (length (a .rotated .now)) (length (a .projected .now))) accepted ≡ accepted
+passed : (c : tie.After-enum-told) → let a = c .before .before .before .before .before .before .before .args in first (handedChecks (length (a .rotated .now)) (length (a .projected .now)) (a .rotated .now) (a .projected .now) (length (a .out .now)) (length (a .other .now))) accepted ≡ accepted
 passed c = sym (c .before .before .check-handed .ensures) ∙ ap says (c .enum-told .given .1)
 
-rooms : (c : tie.After-enum-told) → let a = c .before .before .before .before .before .before .before .args in (length (a .rotated .now) ≡ length (a .turned .now)) × (length (a .projected .now) ≡ length (a .sums .now))
+rooms : (c : tie.After-enum-told) → let a = c .before .before .before .before .before .before .before .args in (length (a .out .now) ≡ length (a .rotated .now)) × (length (a .other .now) ≡ length (a .projected .now))
 rooms c =
     let a = c .before .before .before .before .before .before .before .args in
-    handed-rooms (length (a .turned .now)) (length (a .sums .now)) (a .turned .now) (a .sums .now) (length (a .rotated .now)) (length (a .projected .now)) (passed c)
+    handed-rooms (length (a .rotated .now)) (length (a .projected .now)) (a .rotated .now) (a .projected .now) (length (a .out .now)) (length (a .other .now)) (passed c)
 
 check-handed-requires : tie.Need-check-handed-requires
 check-handed-requires c κs = search needs
@@ -28,16 +29,16 @@ returns : tie.Need-returns
 returns c =
     let h = c .before .before .before in
     let a = h .before .before .before .before .before .args in
-    handed-refused (length (a .turned .now)) (length (a .sums .now)) (a .turned .now) (a .sums .now) (a .rotated .now) (a .projected .now) (sym (h .check-handed .ensures) ∙ ap says (c .before .checked .given .1))
+    handed-refused (length (a .rotated .now)) (length (a .projected .now)) (a .rotated .now) (a .projected .now) (a .out .now) (a .other .now) (sym (h .check-handed .ensures) ∙ ap says (c .before .checked .given .1))
 
 enum-told : tie.Need-enum-told
 enum-told c = search needs
 
 copy-into-requires : tie.Need-copy-into-requires
-copy-into-requires c κs = rooms (c .before) .0
+copy-into-requires c κs = search needs
 
 copy-into-requires-2 : tie.Need-copy-into-requires-2
-copy-into-requires-2 c κs = rooms (c .before .before .before .before .before) .1
+copy-into-requires-2 c κs = search needs
 
 same-length : tie.Need-same-length
 same-length c = search needs
@@ -50,7 +51,9 @@ returns-2 c =
     let second = c .before .before in
     let top = second .before .before .before .before in
     let a = top .before .before .before .before .before .before .before .before .before .args in
-    handed-value (length (a .turned .now)) (length (a .sums .now)) (a .turned .now) (a .sums .now) (a .rotated .now) (a .projected .now) (passed (top .before .before)) (top .copy-into .ensures) (second .copy-into2 .ensures)
+    handed-value (length (a .rotated .now)) (length (a .projected .now)) (a .rotated .now) (a .projected .now) (a .out .now) (a .other .now) (passed (top .before .before))
+    (top .copy-into .ensures ∙ copy-into-same (a .rotated .now) (a .out .now) (sym (rooms (top .before .before) .0)))
+    (second .copy-into2 .ensures ∙ copy-into-same (a .projected .now) (a .other .now) (sym (rooms (top .before .before) .1)))
 
 pub hand-over-spec : {M : Type 1} → statement M
 hand-over-spec =

@@ -5,20 +5,20 @@ use native.Mathlib.Omega.{arith}
 use borrow.Author.Needs.{needs}
 use borrow.Rule.Slice.PartMut.{postOf}
 use lib.ListN.{length}
+use Rattle.lists.proofs.Parts.{part-long, part-read, part-again, part-enough, part-filled}
 use Rattle.error.specs.Answer.{first, accepted}
 use Rattle.rotation.specs.Checks.{rotationChecks}
-use Rattle.qjl.specs.Projection.{projected}
+use Rattle.rounding.specs.Rows.{projected}
 use Rattle.turbo_query.proofs.Answers.{handed-same}
-use Rattle.turbo_query.proofs.Parts.{part-long, part-read, part-again, part-enough}
 use Rattle.turbo_query.proofs.prepare.Statement.{statement}
 use Rattle.turbo_query.proofs.prepare.Tie as tie
 
 -- both arrays have room
-turned-fits : (c : tie.After-zeros2) → c .before .before .before .before .before .before .before .args .dim ≤ length (c .before .zeros .result)
-turned-fits c = omega (arith, c .before .before .before .before .before .before .before .pre .small, c .before .zeros .ok)
+rotated-fits : (c : tie.After-zeros2) → c .before .before .before .before .before .before .before .args .dim ≤ length (c .before .zeros .result)
+rotated-fits c = omega (arith, c .before .before .before .before .before .before .before .pre .small, c .before .zeros .ok)
 
-sums-fits : (c : tie.After-zeros2) → c .before .before .before .before .before .before .before .args .rows ≤ length (c .zeros2 .result)
-sums-fits c = omega (arith, c .before .before .before .before .before .before .before .pre .few, c .zeros2 .ok)
+projected-fits : (c : tie.After-zeros2) → c .before .before .before .before .before .before .before .args .rows ≤ length (c .zeros2 .result)
+projected-fits c = omega (arith, c .before .before .before .before .before .before .before .pre .few, c .zeros2 .ok)
 
 zeros-requires : tie.Need-zeros-requires
 zeros-requires c κs = search needs
@@ -29,28 +29,28 @@ zeros-requires-2 c κs = search needs
 sub-fill-query : tie.Need-sub-fill-query
 sub-fill-query c = search needs
 
-part-turned-start : tie.Need-part-turned-start
-part-turned-start c = search needs
+part-rotated-start : tie.Need-part-rotated-start
+part-rotated-start c = search needs
 
-part-turned-end : tie.Need-part-turned-end
-part-turned-end c = search needs
+part-rotated-end : tie.Need-part-rotated-end
+part-rotated-end c = search needs
 
 sub-fill-query-2 : tie.Need-sub-fill-query-2
 sub-fill-query-2 c = search needs
 
-part-sums-start : tie.Need-part-sums-start
-part-sums-start c = search needs
+part-projected-start : tie.Need-part-projected-start
+part-projected-start c = search needs
 
-part-sums-end : tie.Need-part-sums-end
-part-sums-end c = search needs
+part-projected-end : tie.Need-part-projected-end
+part-projected-end c = search needs
 
 fill-query-requires : tie.Need-fill-query-requires
 fill-query-requires c κs =
     let z = c .before .before in
     let s = z .before .before .before .before .before .before .before in
     let a = s .args in (
-      subst (λ (k : ℕ). first (rotationChecks (a .dim) (a .signs .now) (length (a .query .now)) k) accepted ≡ accepted) (sym (part-long _ _ (turned-fits z))) (s .pre .turnable),
-      record { query-long = s .pre .rowed .query-long; matrix-long = s .pre .rowed .matrix-long ∙ ap (λ (k : ℕ). k * a .dim) (sym (part-long _ _ (sums-fits z))) },
+      subst (λ (k : ℕ). first (rotationChecks (a .dim) (a .signs .now) (length (a .query .now)) k) accepted ≡ accepted) (sym (part-long _ _ (rotated-fits z))) (s .pre .turnable),
+      record { query-long = s .pre .rowed .query-long; matrix-long = s .pre .rowed .matrix-long ∙ ap (λ (k : ℕ). k * a .dim) (sym (part-long _ _ (projected-fits z))) },
     )
 
 sub-hand-over : tie.Need-sub-hand-over
@@ -64,7 +64,7 @@ part-hand-over-end c =
     let f = c .before .before .before in
     let z = f .before .before .before in
     let a = z .before .before .before .before .before .before .before .args in
-    part-enough (a .dim) (z .before .zeros .result) (f .fill-query .last .1 .1 .1 .1 .0) (postOf 0 (a .dim - 0) (z .before .zeros .result)) (turned-fits z) (f .fill-query .kept .1 .1 .1 .1 .0)
+    part-enough (a .dim) (z .before .zeros .result) (rotated-fits z) (f .fill-query .last .1 .1 .1 .1 .0) (postOf 0 (a .dim - 0) (z .before .zeros .result)) (f .fill-query .kept .1 .1 .1 .1 .0)
 
 sub-hand-over-2 : tie.Need-sub-hand-over-2
 sub-hand-over-2 c = search needs
@@ -77,7 +77,7 @@ part-hand-over-end-2 c =
     let f = c .before .before .before .before .before in
     let z = f .before .before .before in
     let a = z .before .before .before .before .before .before .before .args in
-    part-enough (a .rows) (z .zeros2 .result) (f .fill-query .last .1 .1 .1 .1 .1 .0) (postOf 0 (a .rows - 0) (z .zeros2 .result)) (sums-fits z) (f .fill-query .kept .1 .1 .1 .1 .1 .0)
+    part-enough (a .rows) (z .zeros2 .result) (projected-fits z) (f .fill-query .last .1 .1 .1 .1 .1 .0) (postOf 0 (a .rows - 0) (z .zeros2 .result)) (f .fill-query .kept .1 .1 .1 .1 .1 .0)
 
 hand-over-requires : tie.Need-hand-over-requires
 hand-over-requires c κs = search needs
@@ -99,12 +99,10 @@ returns c =
     let us = z .zeros2 .result in
     let vs = f .fill-query .last .1 .1 .1 .1 .1 .0 in
     handed-same
-    (part-again (a .dim) xs ys (postOf 0 (a .dim - 0) xs) (turned-fits z) (f .fill-query .kept .1 .1 .1 .1 .0))
-    (part-again (a .rows) us vs (postOf 0 (a .rows - 0) us) (sums-fits z) (f .fill-query .kept .1 .1 .1 .1 .1 .0))
-    (part-read (a .dim) xs ys (postOf 0 (a .dim - 0) xs) (turned-fits z) (f .fill-query .kept .1 .1 .1 .1 .0) ∙ f .fill-query .ensures .0)
-    (part-read (a .rows) us vs (postOf 0 (a .rows - 0) us) (sums-fits z) (f .fill-query .kept .1 .1 .1 .1 .1 .0)
-    ∙ f .fill-query .ensures .1
-    ∙ ap (λ (k : ℕ). projected (a .dim) k (a .matrix .now) (a .query .now)) (part-long _ _ (sums-fits z)))
+    (part-again (a .dim) xs (rotated-fits z) ys (postOf 0 (a .dim - 0) xs) (f .fill-query .kept .1 .1 .1 .1 .0))
+    (part-again (a .rows) us (projected-fits z) vs (postOf 0 (a .rows - 0) us) (f .fill-query .kept .1 .1 .1 .1 .1 .0))
+    (part-read (a .dim) xs (rotated-fits z) ys (postOf 0 (a .dim - 0) xs) (f .fill-query .kept .1 .1 .1 .1 .0) ∙ f .fill-query .ensures .0)
+    (part-filled (a .rows) us (projected-fits z) vs (postOf 0 (a .rows - 0) us) (f .fill-query .kept .1 .1 .1 .1 .1 .0) (λ (k : ℕ). projected (a .dim) k (a .matrix .now) (a .query .now)) (f .fill-query .ensures .1))
     (h .hand-over .ensures)
 
 pub prepare-spec : {M : Type 1} → statement M
@@ -114,11 +112,11 @@ prepare-spec =
     zeros-requires
     zeros-requires-2
     sub-fill-query
-    part-turned-start
-    part-turned-end
+    part-rotated-start
+    part-rotated-end
     sub-fill-query-2
-    part-sums-start
-    part-sums-end
+    part-projected-start
+    part-projected-end
     fill-query-requires
     sub-hand-over
     part-hand-over-start

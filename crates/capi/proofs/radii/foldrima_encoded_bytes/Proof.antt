@@ -14,15 +14,15 @@ profile-requires c κs = search needs
 encoded-bytes-requires : tie.Need-encoded-bytes-requires
 encoded-bytes-requires c κs = search needs
 
-tell-encoded-requires : tie.Need-tell-encoded-requires
-tell-encoded-requires c κs = search needs
+tell-length-requires : tie.Need-tell-length-requires
+tell-length-requires c κs = search needs
 
 returns : tie.Need-returns
 returns c =
     let a = c .before .before .before .before .before .before .before .args in
     let e = c .before .before .before .before .encoded-bytes .ensures ∙ ap (λ (p : RadiusCodecProfileV1). encodedBytesOf p (now (a .payload))) (c .before .before .before .before .before .profile .ensures) in
-    (told-as (c .tell-encoded .ensures .0) e, left-as (now (a .value)) (c .tell-encoded .ensures .1) e)
+    (told-as (c .tell-length .ensures .0) e, left-as (now (a .value)) (c .tell-length .ensures .1) e)
 
 pub foldrima-encoded-bytes-spec : {M : Type 1} → statement M
 foldrima-encoded-bytes-spec =
-    tie.close (tie.spec profile-requires encoded-bytes-requires tell-encoded-requires returns)
+    tie.close (tie.spec profile-requires encoded-bytes-requires tell-length-requires returns)

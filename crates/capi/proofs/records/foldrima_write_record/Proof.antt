@@ -35,8 +35,8 @@ returns c =
     let w = c .before .before .before .before .before .write-record in
     let p = c .before .before .before .before .before .before .before .before .profile in
     let m = c .before .before .before .before .before .before .before .mode in
-    let e = ap (λ (x : RadiusCodecProfileV1). writeRecordOf x (a .dim) (a .bits) (m .result) (a .projections) (now (a .radii)) (now (a .indices)) (now (a .signs)) (length (now (a .out)))) (p .ensures)
-    ∙ ap (λ (x : TurboMode). writeRecordOf (profileFrom (a .profile)) (a .dim) (a .bits) x (a .projections) (now (a .radii)) (now (a .indices)) (now (a .signs)) (length (now (a .out)))) (m .ensures) in
+    let written : RadiusCodecProfileV1 → TurboMode → Answer (List ℕ) = λ x y. writeRecordOf (record { profile = x; mode = y; dim = a .dim; bits = a .bits; projections = a .projections }) (now (a .radii)) (now (a .indices)) (now (a .signs)) (length (now (a .out))) in
+    let e = ap (λ (x : RadiusCodecProfileV1). written x (m .result)) (p .ensures) ∙ ap (written (profileFrom (a .profile))) (m .ensures) in
     (told-as (c .tell .ensures) (w .ensures .0 ∙ ap done e), w .ensures .1 ∙ ap (λ (x : Answer (List ℕ)). after x (now (a .out))) e)
 
 pub foldrima-write-record-spec : {M : Type 1} → statement M

@@ -3,6 +3,7 @@ use mathlib.Core.Path.{ap, _∙_}
 use denote.Ref.{now}
 use lib.ListN.{length}
 use Rattle.error.specs.Answer.{done, after}
+use Rattle.setup.specs.Lent.{lent}
 use Rattle.setup.specs.declared.Setup.{Setup}
 use Rattle.turbo_decode.specs.Decode.{decodeApproximateOf}
 use Rattle.capi.proofs.Tell.{told-as}
@@ -25,8 +26,8 @@ same-length c = search needs
 returns : tie.Need-returns
 returns c =
     let a = c .before .before .before .before .before .before .before .before .before .before .before .before .before .args in
-    let e = c .before .before .before .before .before .decode-approximate .ensures .0 ∙ ap (λ (s : Setup). done (decodeApproximateOf s (now (a .signs)) (now (a .directions)) (now (a .matrix)) (now (a .bytes)) (length (now (a .out))))) (c .before .before .before .before .before .before .before .setup .ensures) in
-    (told-as (c .tell .ensures) e, c .before .before .before .before .before .decode-approximate .ensures .1 ∙ ap (λ (s : Setup). after (decodeApproximateOf s (now (a .signs)) (now (a .directions)) (now (a .matrix)) (now (a .bytes)) (length (now (a .out)))) (now (a .out))) (c .before .before .before .before .before .before .before .setup .ensures))
+    let e = c .before .before .before .before .before .decode-approximate .ensures .0 ∙ ap (λ (s : Setup). done (decodeApproximateOf s (lent (now (a .signs)) (now (a .directions)) (now (a .matrix))) (now (a .bytes)) (length (now (a .out))))) (c .before .before .before .before .before .before .before .setup .ensures) in
+    (told-as (c .tell .ensures) e, c .before .before .before .before .before .decode-approximate .ensures .1 ∙ ap (λ (s : Setup). after (decodeApproximateOf s (lent (now (a .signs)) (now (a .directions)) (now (a .matrix))) (now (a .bytes)) (length (now (a .out)))) (now (a .out))) (c .before .before .before .before .before .before .before .setup .ensures))
 
 pub foldrima-decode-approximate-spec : {M : Type 1} → statement M
 foldrima-decode-approximate-spec = tie.close (tie.spec setup-requires decode-approximate-requires tell-requires same-length returns)

@@ -3,6 +3,7 @@ use mathlib.Core.Path.{ap, _∙_}
 use denote.Ref.{now}
 use lib.ListN.{length}
 use Rattle.error.specs.Answer.{done, after}
+use Rattle.setup.specs.Lent.{lent}
 use Rattle.setup.specs.declared.Setup.{Setup}
 use Rattle.turbo_query.specs.Query.{prepareRotatedOf, prepareProjectedOf}
 use Rattle.capi.proofs.Tell.{told-as}
@@ -29,11 +30,11 @@ returns : tie.Need-returns
 returns c =
     let a = c .before .before .before .before .before .before .before .before .before .before .before .before .before .before .before .before .before .args in
     let u = c .before .before .before .before .before .before .before .before .before .before .setup .ensures in
-    let e = c .before .before .before .before .before .before .before .prepare-query .ensures .0 ∙ ap (λ (s : Setup). done (prepareRotatedOf s (now (a .signs)) (now (a .directions)) (now (a .matrix)) (now (a .query)) (length (now (a .rotated))) (length (now (a .projected))))) u in (
+    let e = c .before .before .before .before .before .before .before .prepare-query .ensures .0 ∙ ap (λ (s : Setup). done (prepareRotatedOf s (lent (now (a .signs)) (now (a .directions)) (now (a .matrix))) (now (a .query)) (length (now (a .rotated))) (length (now (a .projected))))) u in (
       told-as (c .tell .ensures) e,
       (
-        c .before .before .before .before .before .before .before .prepare-query .ensures .1 .0 ∙ ap (λ (s : Setup). after (prepareRotatedOf s (now (a .signs)) (now (a .directions)) (now (a .matrix)) (now (a .query)) (length (now (a .rotated))) (length (now (a .projected)))) (now (a .rotated))) u,
-        c .before .before .before .before .before .before .before .prepare-query .ensures .1 .1 ∙ ap (λ (s : Setup). after (prepareProjectedOf s (now (a .signs)) (now (a .directions)) (now (a .matrix)) (now (a .query)) (length (now (a .rotated))) (length (now (a .projected)))) (now (a .projected))) u,
+        c .before .before .before .before .before .before .before .prepare-query .ensures .1 .0 ∙ ap (λ (s : Setup). after (prepareRotatedOf s (lent (now (a .signs)) (now (a .directions)) (now (a .matrix))) (now (a .query)) (length (now (a .rotated))) (length (now (a .projected)))) (now (a .rotated))) u,
+        c .before .before .before .before .before .before .before .prepare-query .ensures .1 .1 ∙ ap (λ (s : Setup). after (prepareProjectedOf s (lent (now (a .signs)) (now (a .directions)) (now (a .matrix))) (now (a .query)) (length (now (a .rotated))) (length (now (a .projected)))) (now (a .projected))) u,
       ),
     )
 

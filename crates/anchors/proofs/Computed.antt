@@ -1,0 +1,54 @@
+-- The anchors hold: each is computed. Assumes nothing.
+use mathlib.Core.Path.{refl}
+use lib.Count.{ones, onesIn, trailingZeros}
+use lib.Ieee.{ofBits, add, sub, mul, div, lt, le, ne, ofInt}
+use Rattle.bitpack.specs.Padding.{badPadding}
+use Rattle.digits.specs.Digits.{number, digits}
+use Rattle.error.specs.Answer.{place}
+use Rattle.error.specs.Checks.{badValue}
+use Rattle.float.specs.Bytes.{ofLeBytes}
+use Rattle.float.specs.Constants.{pi}
+use Rattle.float.specs.SquareRoot.{rootBits, nearestRoot, dropped, rootPattern, squareRoot}
+use Rattle.float.specs.Units.{unit, mag}
+use Rattle.lists.specs.Chunks.{chunks}
+use Rattle.packed.specs.Fields.{boundsOf, projectionsOf}
+use Rattle.packed.specs.Layout.{radiiBytes, indicesBytes, signsBytes}
+use Rattle.packed.specs.Reading.{radiiOf, indicesOf, signsOf}
+use Rattle.polar.specs.Exact.{exactTerm, exactPolar, sizeTerm, polarSize, directionTerm, directionSum}
+use Rattle.polar.specs.Polar.{term, polarSumOf, laid, decodedPairs}
+use Rattle.qjl.specs.Exact.{exactResidual, residualSize}
+use Rattle.qjl.specs.Score.{root, scaleOf, signSumOf, residualOf}
+use Rattle.rotation.specs.Exact.{exactRotated}
+use Rattle.rotation.specs.Rotation.{inverseRoot, scaled, hadamardOf, rotated, unrotated}
+use Rattle.rounding.specs.Butterfly.{from, entry, stage, stages}
+use Rattle.rounding.specs.Rows.{projected, exactProjected, projectedSizes}
+use Rattle.rounding.specs.Sums.{running, products, exactTotal, exactProducts, turnedEach, sum, absoluteSum, weighted}
+use Rattle.rounding.specs.Value.{val}
+use Rattle.setup.specs.Checks.{badDirection}
+use Rattle.turbo.specs.Distance.{apart, cutAtZero, l2DistanceEstimateOf}
+use Rattle.turbo.specs.Estimates.{innerProductEstimateOf}
+use Rattle.turbo_decode.specs.Decode.{decodeApproximateOf}
+use Rattle.turbo_order.specs.Scores.{scoreFrom, exactBy, sizeBy, perOne, perRadius, boundBy, scoreOf}
+use Rattle.anchors.specs.Anchors.{Anchors}
+
+pub anchors : Anchors
+unfolding ne ones onesIn trailingZeros ofBits add sub mul div lt le ofInt badPadding number digits place badValue ofLeBytes pi rootBits nearestRoot dropped rootPattern squareRoot unit mag chunks boundsOf projectionsOf radiiBytes indicesBytes signsBytes radiiOf indicesOf signsOf exactTerm exactPolar sizeTerm polarSize directionTerm directionSum term polarSumOf laid decodedPairs exactResidual residualSize root scaleOf signSumOf residualOf exactRotated inverseRoot scaled hadamardOf rotated unrotated from entry stage stages projected exactProjected projectedSizes running products exactTotal exactProducts turnedEach sum absoluteSum weighted val badDirection apart cutAtZero l2DistanceEstimateOf innerProductEstimateOf decodeApproximateOf scoreFrom exactBy sizeBy perOne perRadius boundBy scoreOf
+anchors = record {
+  p12-score = refl;
+  p12-exact = record { even = refl };
+  p12-bound = refl;
+  p12-distance = refl;
+  p12-decoded = refl;
+  p13-score = refl;
+  p13-exact = record { even = refl };
+  p13-bound = refl;
+  rotated-exact = refl;
+  query-size = refl;
+  polar-exact = record { even = refl };
+  polar-size = refl;
+  direction-size = refl;
+  projected-exact = record { even = refl };
+  projected-size = refl;
+  residual-exact = record { even = refl };
+  residual-size = refl;
+}

@@ -1,0 +1,110 @@
+-- A loop that goes through bytes w at a time and stops at the first part whose value offends: its start, one turn and its two ends; and the first
+-- radius that offends of a payload, of what was compressed, and of a list that a function went over. Assumes nothing.
+use Prim.Native.Nat.{ℕ, suc, _+_, _*_, _/_, _^_, _≤_, _<_}
+use mathlib.Core.Path.{_≡_, refl, sym, ap, _∙_}
+use mathlib.Core.Bool.{Bool, true, false, cond}
+use mathlib.Core.List.{List, [], _∷_, map}
+use native.Mathlib.Nat.{mul-zero, mod-eq-of-lt}
+use native.Mathlib.Omega.{arith}
+use lib.ListN.{length, getD, take, drop}
+use lib.Ieee.{Float, binary32, sub}
+use Rattle.error.specs.Answer.{place}
+use Rattle.error.proofs.Places.{place-start, place-skip, place-here, place-end}
+use Rattle.digits.proofs.Laws.{length-digits, number-digits}
+use Rattle.float.proofs.Round.{roundUnsigned-lt}
+use Rattle.lists.specs.Chunks.{chunks}
+use Rattle.radius.specs.Codec.{widthOf, radiiFor}
+use Rattle.radius.specs.Firsts.{firstBadPayloadOf, readBack, firstBadReadBackOf}
+use Rattle.radius.specs.Inner.{badKept}
+use Rattle.radius.specs.Linear.{spanOf, quantized, linearBytes, restored, linearRadius}
+use Rattle.radius.specs.Radii.{badRadius, rangeOf}
+use Rattle.lists.proofs.Chunks.{chunks-getD, chunks-length, chunks-joined}
+use Rattle.radius.proofs.Fill.{next-place}
+use Rattle.radius.proofs.RoundTrip.{Floats, floats-back}
+use Rattle.radius.specs.declared.Range.{Range}
+use Rattle.radius.specs.declared.RadiusCodecProfileV1.{RadiusCodecProfileV1}
+use Rattle.radius.specs.declared.RadiusCodecProfileV1.the-variants.{F32, BlockLinearU16, BlockLogU8}
+
+-- ---- after i parts, of which none offends, the next one starts at `at`
+
+pub record Scanned {B : Type 0} (bad : B → Bool) (f : List ℕ → B) (w : ℕ) (bytes : List ℕ) (count i at : ℕ) : Type 0 where
+  pub within : i ≤ count
+  pub start : at ≡ w * i
+  pub clean : place bad (map f (chunks w count bytes)) ≡ i + place bad (drop i (map f (chunks w count bytes)))
+
+module _ {B : Type 0} (bad : B → Bool) (f : List ℕ → B) (w : ℕ) (bytes : List ℕ) (count : ℕ) where
+  pub scanned-start : Scanned bad f w bytes count 0 0
+  scanned-start = record { within = omega arith; start = sym (mul-zero w); clean = place-start bad (map f (chunks w count bytes)) }
+
+  module _ (x : B) (i at : ℕ) (h : i < count) (s : Scanned bad f w bytes count i at) (e : x ≡ f (take w (drop at bytes))) where
+    -- the value at hand is the one that is asked about
+    here : getD (map f (chunks w count bytes)) i x ≡ x
+    here = chunks-getD f w count i bytes x h ∙ ap (λ (k : ℕ). f (take w (drop k bytes))) (sym (s .start)) ∙ sym e
+
+    below : i < length (map f (chunks w count bytes))
+    below = rw chunks-length h
+
+    pub scanned-next : bad x ≡ false → Scanned bad f w bytes count (i + 1) (at + w)
+    scanned-next good = record { within = omega arith; start = next-place w i at (s .start); clean = place-skip bad _ i x below (ap bad here ∙ good) (s .clean) }
+
+    pub scanned-here : bad x ≡ true → i ≡ place bad (map f (chunks w count bytes))
+    scanned-here offends = sym (place-here bad _ i x below (ap bad here ∙ offends) (s .clean))
+
+  pub scanned-end : (i at : ℕ) → count ≤ i → Scanned bad f w bytes count i at → i ≡ place bad (map f (chunks w count bytes))
+  scanned-end i at h s = sym (place-end bad _ i (rw chunks-length h) (s .clean))
+
+-- ---- of a payload of whole radii
+
+whole-count : (profile : RadiusCodecProfileV1) (n count : ℕ) → n ≡ widthOf profile * count → n / widthOf profile ≡ count
+whole-count F32 n count h = omega arith
+whole-count BlockLinearU16 n count h = omega arith
+whole-count BlockLogU8 n count h = omega arith
+
+pub first-bad-whole : (profile : RadiusCodecProfileV1) (range : Range) (payload : List ℕ) (count : ℕ) → length payload ≡ widthOf profile * count → firstBadPayloadOf payload profile range ≡ place badRadius (radiiFor profile count range payload)
+unfolding firstBadPayloadOf
+first-bad-whole profile range payload count h = ap (λ (n : ℕ). place badRadius (radiiFor profile n range payload)) (whole-count profile (length payload) count h)
+
+-- ---- of what was compressed
+
+place-map : {A B : Type 0} (bad : B → Bool) (f : A → B) (before : A → Bool) → ((x : A) → bad (f x) ≡ before x) → (xs : List A) → place bad (map f xs) ≡ place before xs
+unfolding place
+place-map bad f before same [] = refl
+place-map bad f before same (x ∷ xs) = ap (λ (t : Bool). cond t 0 (suc (place bad (map f xs)))) (same x) ∙ ap (λ (n : ℕ). cond (before x) 0 (suc n)) (place-map bad f before same xs)
+
+pub length-linearBytes : (range : Range) (r : Float) → length (linearBytes range r) ≡ 2
+unfolding linearBytes
+length-linearBytes range r = length-digits 256 2 (quantized (range .min) (spanOf range) r)
+
+-- the number of a radius takes two bytes
+quantized-small : (lo span r : Float) → quantized lo span r < 256 ^ 2
+unfolding quantized
+quantized-small lo span r = roundUnsigned-lt 16 _
+
+-- the radius that a number stands for needs no bytes between
+linear-kept : (range : Range) (r : Float) → linearRadius range (linearBytes range r) ≡ restored (range .min) (sub binary32 (range .max) (range .min)) (quantized (range .min) (spanOf range) r)
+unfolding linearRadius linearBytes
+linear-kept range r =
+    let n = quantized (range .min) (spanOf range) r in
+    ap (restored (range .min) (sub binary32 (range .max) (range .min))) (number-digits 256 2 n (omega arith) ∙ mod-eq-of-lt (quantized-small (range .min) (spanOf range) r))
+
+module _ (radii : List Float) where
+  pub first-bad-floats-back : Floats radii → firstBadReadBackOf radii F32 ≡ place badRadius radii
+  unfolding firstBadReadBackOf readBack
+  first-bad-floats-back f = ap (place badRadius) (floats-back radii f)
+
+  pub first-bad-linear-back : firstBadReadBackOf radii BlockLinearU16 ≡ place (badKept (rangeOf radii)) radii
+  unfolding firstBadReadBackOf readBack
+  first-bad-linear-back =
+      let range = rangeOf radii in
+      ap (place badRadius) (chunks-joined (linearBytes range) 2 (length-linearBytes range) (linearRadius range) radii)
+      ∙ place-map badRadius (λ r. linearRadius range (linearBytes range r)) (badKept range) (λ r. ap badRadius (linear-kept range r)) radii
+
+  pub first-bad-log-back : firstBadReadBackOf radii BlockLogU8 ≡ 0
+  unfolding firstBadReadBackOf readBack place
+  first-bad-log-back = refl
+
+-- ---- no payload of the profile that is refused has a radius
+
+pub first-bad-log : (payload : List ℕ) (range : Range) → firstBadPayloadOf payload BlockLogU8 range ≡ 0
+unfolding firstBadPayloadOf place
+first-bad-log payload range = refl

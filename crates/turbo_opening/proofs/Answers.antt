@@ -1,0 +1,105 @@
+-- The answers of the calls, case by case, from what their checks find; and what a record has that is opened. Assumes nothing.
+use Prim.Native.Nat.{ℕ}
+use mathlib.Core.Path.{_≡_, sym, ap, _∙_}
+use mathlib.Core.Bool.{false}
+use mathlib.Core.List.{List}
+use borrow.Author.Tests.{eqb-true, eq-eqb, ne-eqb, not-false}
+use Rattle.error.specs.Answer.{value, refused, first, accepted}
+use Rattle.error.specs.Checks.{differs}
+use Rattle.error.proofs.Chains.{or-false, first-all, first-value, append-left, append-right, append-passed, append-refused, first-passed}
+use Rattle.setup.specs.declared.Setup.{Setup}
+use Rattle.setup.specs.Checks.{scalarChecks}
+use Rattle.setup.specs.Setups.{polarBitsOf, countedProjectionsOf}
+use Rattle.packed.specs.declared.Header.{Header}
+use Rattle.packed.specs.Fields.{dimOf, bitsOf, projectionsOf}
+use Rattle.packed.specs.Layout.{headerOf}
+use Rattle.packed.specs.Reading.{recordChecks, readRecordOf}
+use Rattle.packed.specs.Accepted.{Accepted}
+use Rattle.packed.proofs.Accepted.{read-accepts, read-header}
+use Rattle.turbo_opening.specs.Opening.{matchChecks, openChecks, openRecordOf}
+use Rattle.turbo_opening.specs.Inner.{openedOf}
+
+-- ---- the scalars come first
+
+module _ (s : Setup) (bytes : List ℕ) where
+  pub open-scalars : {n p : ℕ} → first (scalarChecks s) accepted ≡ refused n p → openRecordOf s bytes ≡ refused n p
+  unfolding openRecordOf
+  open-scalars e = append-refused (scalarChecks s) (openChecks s bytes) tt (value (headerOf bytes)) e
+
+  pub open-usable : first (scalarChecks s) accepted ≡ accepted → openRecordOf s bytes ≡ openedOf s bytes
+  unfolding openRecordOf openedOf
+  open-usable e = append-passed (scalarChecks s) (openChecks s bytes) tt (value (headerOf bytes)) e
+
+-- ---- opening a record
+
+module _ (s : Setup) (bytes : List ℕ) where
+  pub open-refused : {n p : ℕ} → readRecordOf bytes ≡ refused n p → openedOf s bytes ≡ refused n p
+  unfolding readRecordOf openedOf
+  open-refused e = append-refused (recordChecks bytes) (matchChecks s bytes) (headerOf bytes) (value (headerOf bytes)) e
+
+  module _ {h : Header} (read : readRecordOf bytes ≡ value h) where
+    open-rest : openedOf s bytes ≡ first (matchChecks s bytes) (value (headerOf bytes))
+    unfolding readRecordOf openedOf
+    open-rest = append-passed (recordChecks bytes) (matchChecks s bytes) (headerOf bytes) (value (headerOf bytes)) read
+
+    dim-is : h .dim ≡ dimOf bytes
+    unfolding headerOf
+    dim-is = ap (λ (k : Header). k .dim) (read-header bytes read)
+
+    bits-is : h .bits ≡ bitsOf bytes
+    unfolding headerOf
+    bits-is = ap (λ (k : Header). k .bits) (read-header bytes read)
+
+    projections-is : h .projections ≡ projectionsOf bytes
+    unfolding headerOf
+    projections-is = ap (λ (k : Header). k .projections) (read-header bytes read)
+
+    pub open-dim : (h .dim ≡ s .dim → ⊥) → openedOf s bytes ≡ refused 5 (h .dim)
+    open-dim other = open-rest ∙ simp (ne-eqb (dimOf bytes) (s .dim) (λ e. other (dim-is ∙ e))) (ap (refused 5) (sym dim-is))
+
+    module _ (same : h .dim ≡ s .dim) where
+      pub open-bits : {b : ℕ} → b ≡ polarBitsOf s → (h .bits ≡ b → ⊥) → openedOf s bytes ≡ refused 20 0
+      open-bits is other = open-rest ∙ simp (eq-eqb (dimOf bytes) (s .dim) (sym dim-is ∙ same), ne-eqb (bitsOf bytes) (polarBitsOf s) (λ e. other (bits-is ∙ e ∙ sym is)))
+
+      module _ {b : ℕ} (is : b ≡ polarBitsOf s) (alike : h .bits ≡ b) where
+        pub open-projections : {m : ℕ} → m ≡ countedProjectionsOf s → (h .projections ≡ m → ⊥) → openedOf s bytes ≡ refused 20 0
+        open-projections counted other =
+            open-rest
+            ∙ simp (eq-eqb (dimOf bytes) (s .dim) (sym dim-is ∙ same), eq-eqb (bitsOf bytes) (polarBitsOf s) (sym bits-is ∙ alike ∙ is), ne-eqb (projectionsOf bytes) (countedProjectionsOf s) (λ e. other (projections-is ∙ e ∙ sym counted)))
+
+        pub open-value : {m : ℕ} → m ≡ countedProjectionsOf s → h .projections ≡ m → openedOf s bytes ≡ value h
+        open-value counted equal =
+            open-rest
+            ∙ simp (eq-eqb (dimOf bytes) (s .dim) (sym dim-is ∙ same), eq-eqb (bitsOf bytes) (polarBitsOf s) (sym bits-is ∙ alike ∙ is), eq-eqb (projectionsOf bytes) (countedProjectionsOf s) (sym projections-is ∙ equal ∙ counted)) (ap value (sym (read-header bytes read)))
+
+-- ---- what an opened record has
+
+differs-equal : (a b : ℕ) → differs a b ≡ false → a ≡ b
+differs-equal a b e = eqb-true a b (not-false _ e)
+
+module _ (s : Setup) (bytes : List ℕ) {h : Header} (opened : openedOf s bytes ≡ value h) where
+  -- it is read
+  pub opened-read : readRecordOf bytes ≡ value (headerOf bytes)
+  unfolding readRecordOf openedOf
+  opened-read = first-passed (recordChecks bytes) (value (headerOf bytes)) (append-left (recordChecks bytes) (matchChecks s bytes) (value (headerOf bytes)) opened)
+
+  pub opened-header : h ≡ headerOf bytes
+  unfolding openedOf
+  opened-header = sym (first-value (openChecks s bytes) (headerOf bytes) opened)
+
+  -- with the header that was answered
+  pub opened-as-read : readRecordOf bytes ≡ value h
+  opened-as-read = opened-read ∙ ap value (sym opened-header)
+
+  pub opened-accepted : Accepted bytes
+  opened-accepted = read-accepts bytes opened-read
+
+  -- it is the setup's
+  pub opened-dim : dimOf bytes ≡ s .dim
+  unfolding openedOf
+  opened-dim = differs-equal _ _ (first-all (matchChecks s bytes) (value (headerOf bytes)) (append-right (recordChecks bytes) (matchChecks s bytes) (value (headerOf bytes)) opened) .0)
+
+  pub opened-projections : projectionsOf bytes ≡ countedProjectionsOf s
+  unfolding openedOf
+  opened-projections =
+      differs-equal _ _ (or-false (differs (bitsOf bytes) (polarBitsOf s)) (differs (projectionsOf bytes) (countedProjectionsOf s)) (first-all (matchChecks s bytes) (value (headerOf bytes)) (append-right (recordChecks bytes) (matchChecks s bytes) (value (headerOf bytes)) opened) .1 .0) .1)

@@ -1,0 +1,34 @@
+-- A record under a setup: read, and held against the setup. Document 01: '.. record reading, 5, 20'. Assumes nothing.
+use Prim.Native.Nat.{ℕ}
+use mathlib.Core.Bool.{_||_}
+use mathlib.Core.List.{List, [], _∷_, _++_}
+use Rattle.error.specs.Answer.{Answer, value, Check, check, first}
+use Rattle.error.specs.Checks.{differs, wrongInput}
+use Rattle.setup.specs.declared.Setup.{Setup}
+use Rattle.setup.specs.Checks.{scalarChecks}
+use Rattle.setup.specs.Setups.{polarBitsOf, countedProjectionsOf}
+use Rattle.packed.specs.declared.Header.{Header}
+use Rattle.packed.specs.Fields.{dimOf, bitsOf, projectionsOf}
+use Rattle.packed.specs.Layout.{headerOf}
+use Rattle.packed.specs.Reading.{recordChecks, radiiOf, indicesOf, signsOf}
+use Rattle.turbo_order.specs.Scores.{Content}
+
+-- what a record holds, as read from its bytes
+abbrev pub contentOf : List ℕ → Content
+contentOf bytes = record { radii = radiiOf bytes; indices = indicesOf bytes; signs = signsOf bytes }
+
+-- '20: a record's bits or projections are not the setup's. Place 0.' Without signs its projections count as 0
+abbrev pub wrongProfile : Setup → List ℕ → Check
+wrongProfile s bytes = check (differs (bitsOf bytes) (polarBitsOf s) || differs (projectionsOf bytes) (countedProjectionsOf s)) 20 0
+
+-- '5: .. a record's dimension, differs from the setup's. Place: the .. dimension found.'; then 20
+abbrev pub matchChecks : Setup → List ℕ → List Check
+matchChecks s bytes = wrongInput (dimOf bytes) (s .dim) ∷ wrongProfile s bytes ∷ []
+
+-- 'record reading, 5, 20'
+abbrev pub openChecks : Setup → List ℕ → List Check
+openChecks s bytes = recordChecks bytes ++ matchChecks s bytes
+
+-- the setup's scalars, 'record reading, 5, 20'; the value is the header of a record that is the setup's
+unfoldable pub openRecordOf : Setup → List ℕ → Answer Header
+openRecordOf s bytes = first (scalarChecks s ++ openChecks s bytes) (value (headerOf bytes))

@@ -1,0 +1,54 @@
+// A record under a setup: read, and held against the setup.
+// Ported from turbo-quant/src/turbo.rs (`validate_for`) and changed: the code is a record's bytes, and an error is a number and a place.
+// A header holds a `radius::Range`, so that crate is named beside those whose calls are made.
+
+use error::DIMENSION_MISMATCH;
+use error::Outcome;
+use error::PROFILE_MISMATCH;
+use packed::Reading;
+use setup::Setup;
+ghost use mathlib.Core.Path.{_≡_};
+ghost use Rattle.packed.specs.Reading.{saysReading};
+ghost use Rattle.turbo_opening.specs.Opening.{openRecordOf};
+ghost use Rattle.turbo_opening.specs.Inner.{openedOf};
+
+// Reads a record and holds it against a setup: its header, where nothing offends.
+pub fn open_record(setup: Setup, bytes: &[u8]) -> Reading
+    ensures { λ r. ⌜ saysReading r ≡ openRecordOf setup (now (bytes .entry)) ⌝ }
+{
+    let checked = setup::check_scalars(setup);
+    if let Outcome::Refused { number, place } = checked {
+        return Reading::Refused { number, place };
+    }
+    hold_against(setup, bytes)
+}
+
+// The same under a setup whose scalars have passed.
+fn hold_against(setup: Setup, bytes: &[u8]) -> Reading
+    ensures { λ r. ⌜ saysReading r ≡ openedOf setup (now (bytes .entry)) ⌝ }
+{
+    match packed::read_record(bytes) {
+        Reading::Read(header) => {
+            if header.dim != setup.dim {
+                return Reading::Refused {
+                    number: DIMENSION_MISMATCH,
+                    place: header.dim,
+                };
+            }
+            if header.bits != setup::polar_bits(setup) {
+                return Reading::Refused {
+                    number: PROFILE_MISMATCH,
+                    place: 0,
+                };
+            }
+            if header.projections != setup::counted_projections(setup) {
+                return Reading::Refused {
+                    number: PROFILE_MISMATCH,
+                    place: 0,
+                };
+            }
+            Reading::Read(header)
+        }
+        Reading::Refused { number, place } => Reading::Refused { number, place },
+    }
+}

@@ -1,0 +1,33 @@
+-- What private functions of this crate ask of their callers and tell them: a query that is rotated and projected, judged and handed to two outputs; no public
+-- promise is stated by these. Assumes nothing.
+use Prim.Native.Nat.{ℕ, _≤_}
+use mathlib.Core.Path.{_≡_}
+use mathlib.Core.List.{List, [], _∷_}
+use lib.ListN.{length}
+use lib.Ieee.{Float}
+use Rattle.error.specs.Answer.{Answer, value, Check, first, each, accepted, after}
+use Rattle.error.specs.Checks.{wrongRoom, badValue}
+use Rattle.rotation.specs.Checks.{rotationChecks}
+use Rattle.qjl.specs.Inner.{Rowed}
+
+-- 'rotated 11, projected 11', then 6 for either output: n values are needed in the first, m in the second
+abbrev pub handedChecks : ℕ → ℕ → List Float → List Float → ℕ → ℕ → List Check
+handedChecks n m rotated projected room space =
+    each badValue 11 rotated
+    ∷ each badValue 11 projected
+    ∷ wrongRoom room n
+    ∷ wrongRoom space m
+    ∷ []
+
+-- what the call says, and what either output holds afterwards: both values, or what they held before
+pub record Handed (n m : ℕ) (rotated projected out other : List Float) (said : Answer (Unit {0})) (out′ other′ : List Float) : Type 0 where
+  pub answer : said ≡ first (handedChecks n m rotated projected (length out) (length other)) accepted
+  pub rotated-after : out′ ≡ after (first (handedChecks n m rotated projected (length out) (length other)) (value rotated)) out
+  pub projected-after : other′ ≡ after (first (handedChecks n m rotated projected (length out) (length other)) (value projected)) other
+
+-- a rotation of n values and a projection on m rows refuse nothing
+pub record Queryable (n m : ℕ) (signs matrix query : List Float) : Type 0 where
+  pub small : n ≤ 4096
+  pub few : m ≤ 4096
+  pub turnable : first (rotationChecks n signs (length query) n) accepted ≡ accepted
+  pub rowed : Rowed n matrix query m

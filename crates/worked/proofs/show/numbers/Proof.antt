@@ -1,0 +1,22 @@
+-- `worked::show::numbers` ends and stays within the list. Assumes nothing.
+use Prim.Native.Nat.{_≤_, _-_}
+use lib.ListN.{length}
+use borrow.Author.Needs.{needs}
+use Rattle.worked.proofs.show.numbers.Statement.{statement}
+use Rattle.worked.proofs.show.numbers.Tie as tie
+
+pub numbers-spec : {M : Type 1} → statement M
+numbers-spec =
+    tie.close
+    (tie.spec
+    (λ list i₀ i. i ≤ length list)
+    (λ list i₀ i. length list - i)
+    (λ c κs. search needs)
+    (λ c. search needs)
+    (λ c. search needs)
+    (λ c. search needs)
+    (λ c κs. search needs)
+    (λ c. search needs)
+    (λ c. search needs)
+    (λ c. search needs)
+    (λ c. search needs))

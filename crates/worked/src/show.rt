@@ -1,0 +1,174 @@
+// An answer in its place in the text: each function copies the text up to the next `|`, and then prints the answer, a space before each of its items.
+use error::Length;
+use error::Outcome;
+use error::Scored;
+use polar::Angle;
+
+// Copies the text up to the next `|` or its end, and at most 4,096 bytes.
+pub(crate) fn text() {
+    let mut left: usize = 4096;
+    while 0 < left {
+        if !copied() {
+            return;
+        }
+        left -= 1;
+    }
+}
+
+// Copies a byte of the text, unless it is a `|` or there is none.
+fn copied() -> bool {
+    let mut one = [0u8; 1];
+    if io::read_full(0, &mut one) == 0 {
+        return false;
+    }
+    if one[0] == b'|' {
+        return false;
+    }
+    io::write_all(1, &one)
+}
+
+// A refusal's number and place.
+pub(crate) fn refusal(number: u32, place: usize) {
+    text();
+    io::write_all(1, b" refused");
+    decimal(number as usize);
+    io::write_all(1, b" at");
+    decimal(place);
+}
+
+// The bytes that a call wrote, hexadecimal, or its refusal.
+pub(crate) fn bytes(outcome: Outcome, written: &[u8]) {
+    match outcome {
+        Outcome::Done => byte_list(written),
+        Outcome::Refused { number, place } => refusal(number, place),
+    }
+}
+
+// The floats that a call wrote, as patterns, or its refusal.
+pub(crate) fn floats(outcome: Outcome, written: &[f32]) {
+    match outcome {
+        Outcome::Done => float_list(written),
+        Outcome::Refused { number, place } => refusal(number, place),
+    }
+}
+
+// The first index that a call wrote, or its refusal.
+pub(crate) fn indices(outcome: Outcome, written: &[u16; 1]) {
+    match outcome {
+        Outcome::Done => number(wide(written[0])),
+        Outcome::Refused { number, place } => refusal(number, place),
+    }
+}
+
+// The signs that a call wrote, + or -, or its refusal.
+pub(crate) fn signs(outcome: Outcome, written: &[i8]) {
+    match outcome {
+        Outcome::Done => sign_list(written),
+        Outcome::Refused { number, place } => refusal(number, place),
+    }
+}
+
+// A score's pattern, or its refusal.
+pub(crate) fn score(answer: Scored) {
+    match answer {
+        Scored::Score(x) => float(x),
+        Scored::Refused { number, place } => refusal(number, place),
+    }
+}
+
+// A length, or its refusal.
+pub(crate) fn length(answer: Length) {
+    match answer {
+        Length::Bytes(n) => number(n),
+        Length::Refused { number, place } => refusal(number, place),
+    }
+}
+
+// An angle's pattern, or its refusal.
+pub(crate) fn angle(answer: Angle) {
+    match answer {
+        Angle::Radians(x) => float(x),
+        Angle::Refused { number, place } => refusal(number, place),
+    }
+}
+
+pub(crate) fn float(x: f32) {
+    let one = [x];
+    float_list(&one);
+}
+
+fn wide(index: u16) -> usize {
+    index as usize
+}
+
+fn number(n: usize) {
+    let one = [n];
+    numbers(&one);
+}
+
+pub(crate) fn byte_list(list: &[u8]) {
+    text();
+    let mut i = 0;
+    while i < list.len() {
+        byte(list[i]);
+        i += 1;
+    }
+}
+
+fn float_list(list: &[f32]) {
+    text();
+    let mut i = 0;
+    while i < list.len() {
+        pattern(list[i]);
+        i += 1;
+    }
+}
+
+fn sign_list(list: &[i8]) {
+    text();
+    let mut i = 0;
+    while i < list.len() {
+        sign(list[i]);
+        i += 1;
+    }
+}
+
+pub(crate) fn numbers(list: &[usize]) {
+    text();
+    let mut i = 0;
+    while i < list.len() {
+        decimal(list[i]);
+        i += 1;
+    }
+}
+
+// One item: a byte, a float's pattern, a sign (`?` stands for what is none), a number.
+fn byte(b: u8) {
+    io::write_all(1, b" ");
+    io::print_hex(1, b as u64, 2);
+}
+
+fn pattern(x: f32) {
+    io::write_all(1, b" ");
+    io::print_hex(1, float::to_bits(x) as u64, 8);
+}
+
+fn sign(s: i8) {
+    let two = [b' ', mark(s)];
+    io::write_all(1, &two);
+}
+
+fn mark(s: i8) -> u8 {
+    if s == 1 {
+        return b'+';
+    }
+    if s == -1 {
+        return b'-';
+    }
+    b'?'
+}
+
+fn decimal(n: usize) {
+    io::write_all(1, b" ");
+    io::print_decimal(1, n as u64);
+}
