@@ -7,44 +7,74 @@
 A line of the list is `call name=value .. => rust VALUE | plain VALUE | refused NUMBER PLACE`.
 From each call come the first few values and the first few refusals of every number, told
 apart by mode, by radius form and by what offended. Every number that a call can give must be
-among them. The form of a case is described in crates/replay/src/frame.rt.
+among them. A record that is read stands in the list once for each call that reads it. The form
+of a case is described in crates/replay/src/frame.rt.
 """
 import struct
 import sys
 
+# The calls in the order in which `replay` knows them, and the refusals that each can give.
 CALLS = {
     "packed_len": {1, 19},
-    "pack_indices": {1, 15, 6},
-    "unpack_indices": {1, 19, 13, 14, 6},
-    "pack_signs": {10, 6},
-    "unpack_signs": {13, 14, 6},
+    "encoded_bytes": {18},
     "validate_padding_zero": {13, 14},
     "codebook_uniform": {1, 17},
     "codebook_levels": {1, 17},
     "codebook_quantize": {1, 17, 11},
     "codebook_midpoint": {1, 17, 15},
-    "compress": {16, 18, 6},
-    "decompress": {18, 13, 17, 16, 6},
     "root": set(),
     "dequantize_angle": {1, 15},
     "seeds": set(),
+    "read_record": {13, 18, 2, 3, 4, 1, 8, 17, 16, 14},
+    "radii_part": {13, 18, 2, 3, 4, 1, 8, 17, 16, 14},
+    "indices_part": {13, 18, 2, 3, 4, 1, 8, 17, 16, 14},
+    "signs_part": {13, 18, 2, 3, 4, 1, 8, 17, 16, 14},
+    "pack_indices": {1, 15, 6},
+    "pack_signs": {10, 6},
+    "compress": {16, 18, 6},
+    "write_record": {18, 2, 3, 4, 1, 8, 5, 16, 15, 10, 6},
+    "unpack_indices": {1, 19, 13, 14, 6},
+    "read_indices": {13, 18, 2, 3, 4, 1, 8, 17, 16, 14},
+    "unpack_signs": {13, 14, 6},
+    "read_signs": {13, 18, 2, 3, 4, 1, 8, 17, 16, 14},
+    "decompress": {18, 13, 17, 16, 6},
+    "read_radii": {13, 18, 2, 3, 4, 1, 8, 17, 16, 14},
     "apply": {2, 3, 4, 5, 10, 6},
     "apply_inverse": {2, 3, 4, 5, 10, 6},
+    "score_prepared": {2, 3, 1, 8, 4, 5, 7, 11, 13, 18, 17, 16, 14, 20, 12},
     "setup": {2, 3, 1, 8, 4, 5, 10, 7, 9},
     "sketch": {2, 3, 1, 8, 4, 5, 10, 7, 9, 11, 6},
     "prepare_query": {2, 3, 1, 8, 4, 5, 10, 7, 9, 11, 6},
+    "decode": {2, 3, 1, 8, 4, 5, 10, 7, 9, 13, 18, 17, 16, 14, 20, 6},
     "sketch_score": {2, 3, 1, 8, 4, 5, 10, 7, 9, 11, 12},
-    "write_record": {18, 2, 3, 4, 1, 8, 5, 16, 15, 10, 6},
-    "read_record": {13, 18, 2, 3, 4, 1, 8, 17, 16, 14},
     "score": {2, 3, 1, 8, 4, 5, 10, 7, 9, 11, 13, 18, 17, 16, 14, 20, 12},
     "distance": {2, 3, 1, 8, 4, 5, 10, 7, 9, 11, 13, 18, 17, 16, 14, 20, 12},
-    "decode": {2, 3, 1, 8, 4, 5, 10, 7, 9, 13, 18, 17, 16, 14, 20, 6},
-    "score_prepared": {2, 3, 1, 8, 4, 5, 7, 11, 13, 18, 17, 16, 14, 20, 12},
 }
-# The lists of a case, by their places in it, and the bytes of an element.
-SIGNS, DIRECTIONS, MATRIX, VECTOR, FLOATS, INDICES, SKETCH, BYTES, PROJECTED = range(9)
-FORMS = {INDICES: "H", SKETCH: "b", BYTES: "B"}
-MOST = 64
+# The calls that a line of `read_record` stands for.
+READERS = [call for call in CALLS if call.startswith("read_") or call.endswith("_part")]
+# The lists of a case, by their places in it, the form of an element, and the mark of one that is not written.
+SIGNS, DIRECTIONS, MATRIX, VECTOR, FLOATS, INDICES, SKETCH, BYTES, PROJECTED, PART = range(10)
+FORMS = {INDICES: "H", SKETCH: "b", BYTES: "B", PART: "B"}
+MARKS = {FLOATS: 0xC0E80000, INDICES: 0xA5A5, SKETCH: 0x5A, BYTES: 0xA5, PROJECTED: 0xC0E80000}
+# The lists that a call writes, and the field with the length that is lent; 3 where there is none.
+WRITES = {
+    "pack_indices": {BYTES: "out"},
+    "pack_signs": {BYTES: "out"},
+    "compress": {BYTES: "out"},
+    "write_record": {BYTES: "out"},
+    "unpack_indices": {INDICES: "out"},
+    "read_indices": {INDICES: ""},
+    "unpack_signs": {SKETCH: "out"},
+    "read_signs": {SKETCH: ""},
+    "sketch": {SKETCH: "out"},
+    "decompress": {FLOATS: "out"},
+    "apply": {FLOATS: "out"},
+    "apply_inverse": {FLOATS: "out"},
+    "read_radii": {FLOATS: ""},
+    "decode": {FLOATS: "out"},
+    "prepare_query": {FLOATS: "out_rotated", PROJECTED: "out_projected"},
+}
+MOST, NAME = 64, 24
 VALUES, SETUP_VALUES, REFUSALS = 6, 2, 1
 
 
@@ -132,22 +162,8 @@ def small(fields):
     return True
 
 
-def encode(call, fields, answer):
-    lists = {}
-    kind, *told = answer.split()
-    number, place = (int(told[0]), int(told[1])) if kind == "refused" else (0, 0)
-    profile = ["f32", "linear", "log"].index(fields.get("profile", "f32"))
-    mode = ["polar", "residual"].index(fields.get("mode", "polar"))
-    three = [0, 0, 0]
-    for name in ("count", "used_bits", "dim"):
-        three[0] = int(fields.get(name, three[0]))
-    if "index" in fields:
-        three[0] = int(fields["index"])
-    if "seed" in fields:
-        three[0] = int(fields["seed"], 16)
-    three[1] = int(fields.get("projections", 0))
-    floats = [int(fields.get(name, "0"), 16) for name in ("min", "max", "value")]
-    rooms = [int(fields.get("out", fields.get("out_rotated", "0"))), int(fields.get("out_projected", "0"))]
+def inputs(call, fields):
+    """The lists that a call is lent to read."""
     turns = numbers if call in ("pack_signs", "write_record") else patterns
     places = {
         "indices": (INDICES, numbers),
@@ -165,54 +181,88 @@ def encode(call, fields, answer):
         "rotated": (VECTOR, patterns),
         "projected": (PROJECTED, patterns),
     }
-    for name, (list_, read) in places.items():
-        if name in fields:
-            lists[list_] = read(fields[name])
-    if call == "unpack_signs":
-        rooms[1] = rooms[0]
-    if call == "read_record":
-        rooms = [3, 3]
-    if kind != "refused":
-        what, *parts = told
-        if what == "number":
-            three[2] = int(parts[0])
-        elif what in ("float", "floats"):
-            lists[FLOATS] = patterns(parts[0])
-        elif what == "bytes":
-            lists[BYTES] = octets(parts[0])
-        elif what == "numbers":
-            lists[INDICES] = numbers(parts[0])
-        elif what == "signs":
-            lists[SKETCH] = numbers(parts[0])
-        elif what == "codebook":
-            three[2] = int(parts[0])
-            lists[FLOATS] = patterns(",".join(parts[1:]))
-        elif what == "radii":
-            lists[FLOATS] = patterns(",".join(parts[:2]))
-            lists[BYTES] = octets(parts[2])
-        elif what == "seeds":
-            three[1:] = [int(part, 16) for part in parts]
-        elif what == "prepared":
-            lists[FLOATS], lists[PROJECTED] = map(patterns, parts)
-        elif what == "record":
-            lists[FLOATS], lists[INDICES], lists[SKETCH] = (
-                patterns(parts[0]),
-                numbers(parts[1]),
-                numbers(parts[2]),
-            )
-            rooms = [len(lists[FLOATS]), len(lists[SKETCH])]
-        else:
-            assert what == "done", what
-    head = struct.pack("<BBBBQ3Q3I", number, mode, profile, int(fields.get("bits", "0")), place, *three, *floats)
+    return {list_: read(fields[name]) for name, (list_, read) in places.items() if name in fields}
+
+
+def part(call, record):
+    """A part of a record that is not refused, by document 01's layout."""
+    pairs, bits = int.from_bytes(record[1:5], "little") // 2, record[5]
+    linear, residual = record[0] & 1, record[0] >> 1
+    rows = int.from_bytes(record[6 + 8 * linear :][:4], "little") if residual else 0
+    start = 6 + 8 * linear + 4 * residual
+    sizes = [pairs * (2 if linear else 4), (pairs * bits + 7) // 8, (rows + 7) // 8]
+    assert start + sum(sizes) == len(record)
+    place = ["radii_part", "indices_part", "signs_part"].index(call)
+    start += sum(sizes[:place])
+    return record[start : start + sizes[place]]
+
+
+def told(call, what, parts, three, answer, lists):
+    """Puts a value into a case: into its third number, the floats of its answer, and its lists."""
+    if call.endswith("_part"):
+        lists[PART] = part(call, lists[BYTES])
+    elif what == "number":
+        three[2] = int(parts[0])
+    elif what == "float":
+        answer[0] = int(parts[0], 16)
+    elif what == "floats":
+        lists[FLOATS] = patterns(parts[0])
+    elif what == "bytes":
+        lists[BYTES] = octets(parts[0])
+    elif what == "numbers":
+        lists[INDICES] = numbers(parts[0])
+    elif what == "signs":
+        lists[SKETCH] = numbers(parts[0])
+    elif what == "codebook":
+        three[2] = int(parts[0])
+        answer[:] = patterns(",".join(parts[1:]))
+    elif what == "radii":
+        answer[:] = patterns(",".join(parts[:2]))
+        lists[BYTES] = octets(parts[2])
+    elif what == "seeds":
+        three[1:] = [int(item, 16) for item in parts]
+    elif what == "prepared":
+        lists[FLOATS], lists[PROJECTED] = map(patterns, parts)
+    elif what == "record":
+        values = {"read_radii": (FLOATS, patterns), "read_indices": (INDICES, numbers), "read_signs": (SKETCH, numbers)}
+        if call in values:
+            list_, read = values[call]
+            lists[list_] = read(parts[list_ - FLOATS])
+    else:
+        assert what == "done", what
+
+
+def encode(call, fields, text):
+    lists = inputs(call, fields)
+    kind, *said = text.split()
+    number, place = (int(said[0]), int(said[1])) if kind == "refused" else (0, 0)
+    profile = ["f32", "linear", "log"].index(fields.get("profile", "f32"))
+    mode = ["polar", "residual"].index(fields.get("mode", "polar"))
+    three = [0, int(fields.get("projections", 0)), 0]
+    for name in ("count", "used_bits", "dim", "index"):
+        three[0] = int(fields.get(name, three[0]))
+    if "seed" in fields:
+        three[0] = int(fields["seed"], 16)
+    floats = [int(fields.get(name, "0"), 16) for name in ("min", "max", "value")]
+    answer = [0, 0]
+    if kind == "refused":
+        for list_, room in WRITES.get(call, {}).items():
+            lists[list_] = [MARKS[list_]] * int(fields.get(room, 3))
+    else:
+        told(call, said[0], said[1:], three, answer, lists)
+        for list_, room in WRITES.get(call, {}).items():
+            assert len(lists[list_]) == int(fields.get(room, len(lists[list_])))
+    head = struct.pack("<BBBBQ3Q3I2I", number, mode, profile, int(fields.get("bits", "0")), place, *three, *floats, *answer)
     body, table = b"", b""
-    for list_ in range(9):
-        items = lists.get(list_, [])
+    for list_ in range(10):
+        items, form = lists.get(list_, []), FORMS.get(list_, "I")
         assert len(items) <= MOST
-        assert list_ != SKETCH or set(items) <= {-128, -2, -1, 0, 1, 2, 3, 127}
-        table += struct.pack("<HB", 80 + len(body), len(items))
-        body += struct.pack(f"<{len(items)}{FORMS.get(list_, 'I')}", *items)
-    case = head + table + bytes(rooms) + bytes(3) + body
-    assert len(head) == 48 and len(case) <= 1024
+        assert list_ != SKETCH or set(items) <= {-128, -2, -1, 0, 1, 2, 3, MARKS[SKETCH], 127}
+        body += bytes(-len(body) % 4)
+        table += struct.pack("<HH", (96 + len(body)) // struct.calcsize(form), len(items))
+        body += struct.pack(f"<{len(items)}{form}", *items)
+    case = head + table + body
+    assert len(head) == 56 and len(case) <= 512
     return case
 
 
@@ -244,20 +294,22 @@ def main():
         if known and len(about) >= limit // 2:
             continue
         about.add((classes(fields), asked))
-        numbers_of[call].add(number)
-        chosen[call].append(encode(call, fields, answer))
+        for each in READERS if call == "read_record" else [call]:
+            numbers_of[each].add(number)
+            chosen[each].append(encode(each, fields, answer))
     for call, wanted in CALLS.items():
         assert numbers_of[call] - {0} == wanted, (call, wanted ^ numbers_of[call])
         assert 0 in numbers_of[call]
+    total = sum(map(len, chosen.values()))
     with open(f"{sys.argv[1]}/stdin", "wb") as out:
-        for cases in chosen.values():
-            out.write(struct.pack("<H", len(cases)))
+        for call, cases in chosen.items():
+            out.write(f"{call}:".ljust(NAME).encode() + struct.pack("<H", len(cases)))
             for case in cases:
                 out.write(struct.pack("<H", len(case)) + case)
+        out.write("all:".ljust(NAME).encode())
     with open(f"{sys.argv[1]}/stdout", "w") as out:
-        for call, cases in chosen.items():
-            out.write(f"{call}: {len(cases)} cases, 0 differ\n")
-        out.write(f"{sum(map(len, chosen.values()))} cases, 0 differ\n")
+        for call, count in [*((call, len(cases)) for call, cases in chosen.items()), ("all", total)]:
+            out.write(f"{call}:".ljust(NAME) + f"{count} cases, 0 differ\n")
 
 
 main()

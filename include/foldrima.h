@@ -1,18 +1,46 @@
 /*
- * The C functions of the proved port of turbo-quant, one for each public call.
+ * Foldrima: the C functions of the proved port of turbo-quant, one for each public call. For 64-bit x86 only: libcapi.a is an archive for x86-64 Linux.
  *
- * A signature here is that of the function of the same name in crates/capi; a test of host/foldrima holds the two against each other.
+ * A signature here is that of the function of the same name in crates/capi; a test of host/foldrima holds the two, and the numbers below, against the
+ * sources.
  *
- * Slices. A slice is a pointer and a length in elements. Lend a valid, aligned pointer also where the length is 0. Memory that a call writes (a pointer
- * that is not const) must overlap nothing else that the call is lent.
+ * Slices. A slice is a pointer and a length in elements. The pointer is valid and aligned for so many elements. Where the length is 0 it may be
+ * anything, NULL too: nothing is read or written through it (tested for every slice of every call). All other pointers (number, place, value, min, max,
+ * start, count and the header's) must not be NULL. Memory that a call writes (a pointer that is not const) must overlap nothing else that it is lent.
  *
  * Answers. *number is the refusal's number (FOLDRIMA_..) and *place its place; both are 0 where nothing is refused, and no refusal has the number 0. A
  * refusal writes to no other memory: *value and every output keep what they held.
  *
- * Outputs. A lent output must have exactly the needed length, else 6 with the needed length as the place, after all other checks.
+ * Outputs. What a call writes to need not be initialised: it is written whole, or not at all. An output must have exactly the needed length, else 6 with
+ * the needed length as the place, after all other checks. So a call with an output of length 0 tells the needed length, unless something else is refused
+ * or 0 was right; beforehand:
  *
- * Numbers for cases. mode: 0 is PolarOnly, every other number PolarWithQjl. profile: 0 is F32, 1 BlockLinearU16, every other number BlockLogU8, which is
- * refused (18).
+ *     pack_indices                    foldrima_packed_len(indices_len, bits, ..)
+ *     unpack_indices, unpack_signs    count
+ *     pack_signs                      foldrima_packed_len(signs_len, 1, ..)
+ *     apply, apply_inverse            dim
+ *     sketch                          projections; 0 in PolarOnly
+ *     prepare_query                   rotated: dim; projected: projections, 0 in PolarOnly
+ *     decode_approximate              dim
+ *     compress                        4 * radii_len for F32, 2 * radii_len for BlockLinearU16
+ *     decompress                      count
+ *     write_record                    the sum of 6; 8 for BlockLinearU16; 4 for PolarWithQjl; 2 * dim for F32 or dim for BlockLinearU16;
+ *                                     foldrima_packed_len(dim / 2, bits, ..); and foldrima_packed_len(projections, 1, ..) for PolarWithQjl
+ *     read_radii, read_indices        dim / 2, with dim from foldrima_read_record
+ *     read_signs                      projections from foldrima_read_record
+ *
+ * Memory and threads. No call allocates, and none keeps anything after it returns, a pointer neither: there is no state, so calls may run in any number
+ * of threads at once, as long as none writes what another is lent. A call takes at most 96 KB of stack, whatever it is lent (host/c/stack.c measures it
+ * at the largest setup).
+ *
+ * Modes and profiles. They are numbers here, since an enum can't cross to C, and every number of a uint8_t means one: a mode other than 0 counts as 1,
+ * PolarWithQjl, and a profile other than 0 and 1 as BlockLogU8, which every call that takes a profile refuses (18; in foldrima_compress 16 comes
+ * before). Document 01 has no refusal for a number that names nothing, and a call answers for everything it can be given (docs/DECISIONS.md, 31).
+ *
+ * The float mode. Every answer rests on the mode that a thread starts with: round to nearest, subnormals kept (MXCSR: rounding control, FTZ and DAZ all
+ * clear), exceptions masked. No call looks at it. Some numerical libraries switch flush-to-zero on, and then an answer may be wrong with no refusal:
+ * dim 2, 1 bit, query (2^-130, 0), radius 2^100, index 1 is scored 0, where the exact score is 6.59e-10 and its bound 1.6e-14. Restore the mode before a
+ * call. (The Rust package of host/foldrima looks at it before every call.)
  *
  * Setups. A setup is mode, dim, bits (the total) and projections, and lent beside them signs (dim entries, each -1 or 1), directions (cosine and sine of
  * the angle of each index, 2 * 2^polar bits entries) and matrix (projections * dim entries, row by row; none in PolarOnly). Polar bits are the total,
@@ -27,6 +55,19 @@
 #ifdef __cplusplus
 extern "C" {
 #endif
+
+#if !defined(__x86_64__) || defined(__ILP32__)
+#error "libcapi.a is for 64-bit x86"
+#endif
+
+/* ---- modes and profiles */
+
+#define FOLDRIMA_POLAR_ONLY 0        /* no residual sketch */
+#define FOLDRIMA_POLAR_WITH_QJL 1    /* with one; so is every other number */
+
+#define FOLDRIMA_F32 0               /* a radius is its four bytes */
+#define FOLDRIMA_BLOCK_LINEAR_U16 1  /* a radius is sixteen bits within a range */
+#define FOLDRIMA_BLOCK_LOG_U8 2      /* refused (18); so is every other number */
 
 /* ---- the refusals */
 
@@ -168,7 +209,8 @@ void foldrima_write_record(uint8_t profile, size_t dim, uint8_t bits, uint8_t mo
                            const uint16_t *indices, size_t indices_len, const int8_t *signs, size_t signs_len, uint8_t *out, size_t out_len,
                            uint32_t *number, size_t *place);
 
-/* Reads a record's header: 13, 18, 2, 3, 4, 1, 13, 8, 13, 17, 16, 14 for the indices, 14 for the signs. */
+/* Reads a record's header: 13, 18, 2, 3, 4, 1, 13, 8, 13, 17, 16, 14 for the indices, 14 for the signs. mode and profile come back as 0 or 1; bits are
+ * the polar bits. Where the radii are F32 there is no range: min and max are 0 and 0. Where there are no signs, mode is PolarOnly and projections 0. */
 void foldrima_read_record(const uint8_t *bytes, size_t bytes_len, uint32_t *number, size_t *place, uint8_t *mode, uint8_t *profile, size_t *dim,
                           uint8_t *bits, size_t *projections, float *min, float *max);
 
@@ -178,7 +220,7 @@ void foldrima_radii_part(const uint8_t *bytes, size_t bytes_len, size_t *start, 
 /* Where the indices stand; start and count are 0 where the record is refused. */
 void foldrima_indices_part(const uint8_t *bytes, size_t bytes_len, size_t *start, size_t *count);
 
-/* Where the signs stand; start and count are 0 where the record is refused, and count is 0 where it has none. */
+/* Where the signs stand; start and count are 0 where the record is refused. Where it has no signs, start is its length and count 0. */
 void foldrima_signs_part(const uint8_t *bytes, size_t bytes_len, size_t *start, size_t *count);
 
 /* The radii of a record (dimension / 2): the reading's refusals, 6. */
@@ -187,7 +229,7 @@ void foldrima_read_radii(const uint8_t *bytes, size_t bytes_len, float *out, siz
 /* The indices of a record (dimension / 2): the reading's refusals, 6. */
 void foldrima_read_indices(const uint8_t *bytes, size_t bytes_len, uint16_t *out, size_t out_len, uint32_t *number, size_t *place);
 
-/* The signs of a record (its projections, or none): the reading's refusals, 6. */
+/* The signs of a record (its projections; none where it has no signs): the reading's refusals, 6. */
 void foldrima_read_signs(const uint8_t *bytes, size_t bytes_len, int8_t *out, size_t out_len, uint32_t *number, size_t *place);
 
 #ifdef __cplusplus

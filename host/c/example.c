@@ -21,21 +21,20 @@ int main(void)
     /* Dimension 2, 1 bit: one radius, one index. */
     const float radius[1] = {1.0f};
     const uint16_t index[1] = {1};
-    const int8_t none[1] = {0};
     uint8_t record[11];
-    foldrima_write_record(0, 2, 1, 0, 0, radius, 1, index, 1, none, 0, record, 11, &number, &place);
+    foldrima_write_record(FOLDRIMA_F32, 2, 1, FOLDRIMA_POLAR_ONLY, 0, radius, 1, index, 1, NULL, 0, record, 11, &number, &place);
     printf("record: %u %zu,", number, place);
     for (int i = 0; i < 11; i++)
         printf(" %02X", record[i]);
 
     /* Indices 0 and 1 stand for the angles -PI and 0. */
-    const float signs[2] = {1.0f, 1.0f}, directions[4] = {-1.0f, 0.0f, 1.0f, 0.0f}, matrix[1] = {0.0f}, query[2] = {3.0f, 4.0f};
+    const float signs[2] = {1.0f, 1.0f}, directions[4] = {-1.0f, 0.0f, 1.0f, 0.0f}, query[2] = {3.0f, 4.0f};
     float score = -1.0f;
-    foldrima_inner_product_estimate(0, 2, 1, 0, signs, 2, directions, 4, matrix, 0, query, 2, record, 11, &number, &place, &score);
+    foldrima_inner_product_estimate(FOLDRIMA_POLAR_ONLY, 2, 1, 0, signs, 2, directions, 4, NULL, 0, query, 2, record, 11, &number, &place, &score);
     printf("\nscore: %u %zu, %.6f\n", number, place, score);
 
     /* A record cut short: 13 at the length found, and the score stays. */
-    foldrima_inner_product_estimate(0, 2, 1, 0, signs, 2, directions, 4, matrix, 0, query, 2, record, 10, &number, &place, &score);
+    foldrima_inner_product_estimate(FOLDRIMA_POLAR_ONLY, 2, 1, 0, signs, 2, directions, 4, NULL, 0, query, 2, record, 10, &number, &place, &score);
     printf("refused: %u %zu, %.6f\n", number, place, score);
-    return 0;
+    return number == FOLDRIMA_MALFORMED_LENGTH ? 0 : 1;
 }

@@ -8,6 +8,13 @@ mod clock;
 mod inputs;
 #[cfg(feature = "capi")]
 mod port;
+/// Without the feature there is no port.
+#[cfg(not(feature = "capi"))]
+mod port {
+    pub fn call<'a>(_: &str, _: &'a crate::Inputs) -> Option<crate::Call<'a>> {
+        None
+    }
+}
 
 use std::{hint::black_box, time::Duration};
 
@@ -23,184 +30,108 @@ struct Row<'a> {
     port: Option<Call<'a>>,
 }
 
-/// The names of the rows; the port's side is asked for by the same names.
-fn rows<'a>(inputs: &'a Inputs) -> Vec<Row<'a>> {
-    let mut rows: Vec<Row<'a>> = Vec::new();
-    let mut add = |name: &'static str, rust: Call<'a>| {
-        #[cfg(feature = "capi")]
-        let port = port::call(name, inputs);
-        #[cfg(not(feature = "capi"))]
-        let port = None;
-        rows.push(Row { name, rust, port });
-    };
+/// The rows so far; the port's side is asked for by the same names.
+struct Rows<'a> {
+    inputs: &'a Inputs,
+    rows: Vec<Row<'a>>,
+}
 
-    const PACK: [&str; 3] = ["pack 4096 x 3 bits", "pack 4096 x 8 bits", "pack 4096 x 12 bits"];
-    const UNPACK: [&str; 3] =
-        ["unpack 4096 x 3 bits", "unpack 4096 x 8 bits", "unpack 4096 x 12 bits"];
-    for (i, wide) in inputs.indices.iter().enumerate() {
-        add(
-            PACK[i],
-            Box::new(move || {
-                let packed = oracle::bitpack::pack_indices(black_box(&wide.items), wide.bits);
-                black_box(packed.unwrap());
-            }),
-        );
+impl<'a> Rows<'a> {
+    /// A row by its name and the Rust's call.
+    fn add<T>(&mut self, name: &'static str, mut rust: impl FnMut() -> T + 'a) {
+        let port = port::call(name, self.inputs);
+        let rust = Box::new(move || drop(black_box(rust())));
+        self.rows.push(Row { name, rust, port });
     }
-    for (i, wide) in inputs.indices.iter().enumerate() {
-        add(
-            UNPACK[i],
-            Box::new(move || {
-                let (bytes, count) = (black_box(&wide.packed), wide.items.len());
-                black_box(oracle::bitpack::unpack_indices(bytes, count, wide.bits).unwrap());
-            }),
-        );
-    }
-    add(
-        "pack signs 4096",
-        Box::new(|| {
-            black_box(oracle::bitpack::pack_signs(black_box(&inputs.signs)).unwrap());
-        }),
-    );
-    add(
-        "unpack signs 4096",
-        Box::new(|| {
-            let bytes = black_box(&inputs.packed_signs);
-            black_box(oracle::bitpack::unpack_signs(bytes, inputs.signs.len()).unwrap());
-        }),
-    );
-    add(
-        "compress linear 2048",
-        Box::new(|| {
-            let linear = oracle::radius::RadiusCodecProfileV1::BlockLinearU16;
-            let radii = black_box(&inputs.radii);
-            black_box(oracle::radius::CompressedRadiiV1::compress(radii, linear).unwrap());
-        }),
-    );
-    add(
-        "decompress linear 2048",
-        Box::new(|| {
-            black_box(black_box(&inputs.compressed).decompress().unwrap());
-        }),
-    );
 
-    const APPLY: [&str; 2] = ["apply 256", "apply 4096"];
-    for (i, turn) in inputs.rotations.iter().enumerate() {
+    /// Such a row for each of several inputs.
+    fn each<I, T, F: FnMut() -> T + 'a>(
+        &mut self,
+        names: &[&'static str],
+        inputs: &'a [I],
+        call: impl Fn(&'a I) -> F,
+    ) {
+        for (name, input) in names.iter().zip(inputs) {
+            self.add(name, call(input));
+        }
+    }
+}
+
+fn rows(inputs: &Inputs) -> Vec<Row<'_>> {
+    let mut rows = Rows { inputs, rows: Vec::new() };
+    let names = ["pack 4096 x 3 bits", "pack 4096 x 8 bits", "pack 4096 x 12 bits"];
+    rows.each(&names, &inputs.indices, |wide| {
+        move || oracle::bitpack::pack_indices(black_box(&wide.items), wide.bits).unwrap()
+    });
+    let names = ["unpack 4096 x 3 bits", "unpack 4096 x 8 bits", "unpack 4096 x 12 bits"];
+    rows.each(&names, &inputs.indices, |wide| {
+        move || {
+            let (bytes, count) = (black_box(&wide.packed), wide.items.len());
+            oracle::bitpack::unpack_indices(bytes, count, wide.bits).unwrap()
+        }
+    });
+    rows.add("pack signs 4096", || oracle::bitpack::pack_signs(black_box(&inputs.signs)).unwrap());
+    rows.add("unpack signs 4096", || {
+        let bytes = black_box(&inputs.packed_signs);
+        oracle::bitpack::unpack_signs(bytes, inputs.signs.len()).unwrap()
+    });
+    rows.add("compress linear 2048", || {
+        let linear = oracle::radius::RadiusCodecProfileV1::BlockLinearU16;
+        let radii = black_box(&inputs.radii);
+        oracle::radius::CompressedRadiiV1::compress(radii, linear).unwrap()
+    });
+    rows.add("decompress linear 2048", || black_box(&inputs.compressed).decompress().unwrap());
+
+    rows.each(&["apply 256", "apply 4096"], &inputs.rotations, |turn| {
         let mut output = vec![0.0f32; turn.input.len()];
-        add(
-            APPLY[i],
-            Box::new(move || {
-                turn.rotation.apply(black_box(&turn.input), &mut output).unwrap();
-                black_box(&output);
-            }),
-        );
-    }
-    const SKETCH: [&str; 2] = ["sketch 256 x 64", "sketch 1024 x 256"];
-    const PROJECT: [&str; 2] = ["project 256 x 64", "project 1024 x 256"];
-    for (i, wide) in inputs.sketches.iter().enumerate() {
-        add(
-            SKETCH[i],
-            Box::new(move || {
-                black_box(wide.qjl.sketch(black_box(&wide.vector)).unwrap());
-            }),
-        );
-    }
-    for (i, wide) in inputs.sketches.iter().enumerate() {
-        add(
-            PROJECT[i],
-            Box::new(move || {
-                black_box(wide.qjl.project_query(black_box(&wide.vector)).unwrap());
-            }),
-        );
-    }
+        move || {
+            turn.rotation.apply(black_box(&turn.input), &mut output).unwrap();
+            black_box(&output);
+        }
+    });
+    rows.each(&["sketch 256 x 64", "sketch 1024 x 256"], &inputs.sketches, |wide| {
+        move || wide.qjl.sketch(black_box(&wide.vector)).unwrap()
+    });
+    rows.each(&["project 256 x 64", "project 1024 x 256"], &inputs.sketches, |wide| {
+        move || wide.qjl.project_query(black_box(&wide.vector)).unwrap()
+    });
+    rows.each(&["prepare 256 x 64", "prepare 1024 x 256"], &inputs.sketches, |wide| {
+        move || wide.quantizer.prepare_query(black_box(&wide.vector)).unwrap()
+    });
+    rows.each(&["sketch score 256 x 64", "sketch score 1024 x 256"], &inputs.sketches, |wide| {
+        move || {
+            let (sketch, query) = (black_box(&wide.sketch), black_box(&wide.vector));
+            wide.qjl.inner_product_estimate(sketch, query).unwrap()
+        }
+    });
 
-    const PREPARE: [&str; 2] = ["prepare 256 x 64", "prepare 1024 x 256"];
-    const SKETCH_SCORE: [&str; 2] = ["sketch score 256 x 64", "sketch score 1024 x 256"];
-    for (i, wide) in inputs.sketches.iter().enumerate() {
-        add(
-            PREPARE[i],
-            Box::new(move || {
-                black_box(wide.quantizer.prepare_query(black_box(&wide.vector)).unwrap());
-            }),
-        );
-    }
-    for (i, wide) in inputs.sketches.iter().enumerate() {
-        add(
-            SKETCH_SCORE[i],
-            Box::new(move || {
-                let (sketch, query) = (black_box(&wide.sketch), black_box(&wide.vector));
-                black_box(wide.qjl.inner_product_estimate(sketch, query).unwrap());
-            }),
-        );
-    }
-
-    let turbo = &inputs.turbo;
-    add(
-        "prepare query",
-        Box::new(move || {
-            black_box(turbo.quantizer.prepare_query(black_box(&turbo.query)).unwrap());
-        }),
-    );
-    add(
-        "score",
-        Box::new(move || {
-            let (code, query) = (black_box(&turbo.code), black_box(&turbo.query));
-            black_box(turbo.quantizer.inner_product_estimate(code, query).unwrap());
-        }),
-    );
-    add(
-        "prepared score",
-        Box::new(move || {
-            let (code, query) = (black_box(&turbo.code), black_box(&turbo.prepared));
-            black_box(turbo.quantizer.inner_product_estimate_prepared(code, query).unwrap());
-        }),
-    );
-    add(
-        "distance",
-        Box::new(move || {
-            let (code, query) = (black_box(&turbo.code), black_box(&turbo.query));
-            black_box(turbo.quantizer.l2_distance_estimate(code, query).unwrap());
-        }),
-    );
-    add(
-        "decode",
-        Box::new(move || {
-            black_box(turbo.quantizer.decode_approximate(black_box(&turbo.code)).unwrap());
-        }),
-    );
+    let (turbo, rust) = (&inputs.turbo, &inputs.turbo.quantizer);
+    rows.add("prepare query", || rust.prepare_query(black_box(&turbo.query)).unwrap());
+    rows.add("score", || {
+        rust.inner_product_estimate(black_box(&turbo.code), black_box(&turbo.query)).unwrap()
+    });
+    rows.add("prepared score", || {
+        let (code, query) = (black_box(&turbo.code), black_box(&turbo.prepared));
+        rust.inner_product_estimate_prepared(code, query).unwrap()
+    });
+    rows.add("distance", || {
+        rust.l2_distance_estimate(black_box(&turbo.code), black_box(&turbo.query)).unwrap()
+    });
+    rows.add("decode", || rust.decode_approximate(black_box(&turbo.code)).unwrap());
 
     // The port scores from a record's bytes; the Rust's nearest form is a packed code.
-    add(
-        "score, packed",
-        Box::new(move || {
-            let code = black_box(&turbo.packed).unpack().unwrap();
-            let query = black_box(&turbo.query);
-            black_box(turbo.quantizer.inner_product_estimate(&code, query).unwrap());
-        }),
-    );
-    add(
-        "prepared score, packed",
-        Box::new(move || {
-            let code = black_box(&turbo.packed).unpack().unwrap();
-            let query = black_box(&turbo.prepared);
-            black_box(turbo.quantizer.inner_product_estimate_prepared(&code, query).unwrap());
-        }),
-    );
-    add(
-        "distance, packed",
-        Box::new(move || {
-            let code = black_box(&turbo.packed).unpack().unwrap();
-            let query = black_box(&turbo.query);
-            black_box(turbo.quantizer.l2_distance_estimate(&code, query).unwrap());
-        }),
-    );
-    add(
-        "decode, packed",
-        Box::new(move || {
-            let code = black_box(&turbo.packed).unpack().unwrap();
-            black_box(turbo.quantizer.decode_approximate(&code).unwrap());
-        }),
-    );
-    rows
+    let code = || black_box(&turbo.packed).unpack().unwrap();
+    rows.add("score, packed", move || {
+        rust.inner_product_estimate(&code(), black_box(&turbo.query)).unwrap()
+    });
+    rows.add("prepared score, packed", move || {
+        rust.inner_product_estimate_prepared(&code(), black_box(&turbo.prepared)).unwrap()
+    });
+    rows.add("distance, packed", move || {
+        rust.l2_distance_estimate(&code(), black_box(&turbo.query)).unwrap()
+    });
+    rows.add("decode, packed", move || rust.decode_approximate(&code()).unwrap());
+    rows.rows
 }
 
 /// How many calls take about this long.

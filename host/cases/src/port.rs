@@ -5,10 +5,10 @@
 //! the guards must have kept it; after a refusal all of the output must have, and the
 //! place of a scalar too.
 
-use foldrima::raw;
+use foldrima::{call, call_under, raw};
 
 use crate::{
-    case::{Case, Mode, Profile, Setup, Value},
+    case::{Case, Mode, Profile, Value},
     expect::Given,
     paper::Refusal,
     record,
@@ -33,7 +33,7 @@ impl<T: Copy + PartialEq> Lent<T> {
         Self { items: vec![fill; len + 2 * GUARD], fill }
     }
 
-    fn at(&mut self) -> *mut T {
+    fn as_mut_ptr(&mut self) -> *mut T {
         self.items[GUARD..].as_mut_ptr()
     }
 
@@ -109,108 +109,68 @@ fn profile_code(profile: Profile) -> u8 {
     }
 }
 
-/// Calls a C function that takes a setup: its scalars and parts, then the rest.
-macro_rules! under {
-    ($call:ident, $setup:expr, $($rest:expr),* $(,)?) => {{
-        let setup: &Setup = $setup;
-        unsafe {
-            raw::$call(
-                mode_code(setup.mode),
-                setup.dim,
-                setup.bits,
-                setup.projections,
-                setup.signs.as_ptr(),
-                setup.signs.len(),
-                setup.directions.as_ptr(),
-                setup.directions.len(),
-                setup.matrix.as_ptr(),
-                setup.matrix.len(),
-                $($rest),*
-            )
-        }
-    }};
-}
-
 /// What the port answers.
 pub fn answer(case: &Case) -> Given {
     let mut told = Told::new();
-    let (number, place) = (told.number.at(), told.place.at());
+    let (number, place) = (told.number.as_mut_ptr(), told.place.as_mut_ptr());
     match case {
         Case::PackedLen { count, bits } => {
             let mut value = Lent::new(1, usize::MAX);
-            unsafe { raw::foldrima_packed_len(*count, *bits, number, place, value.at()) };
+            let to = value.as_mut_ptr();
+            unsafe { call!(foldrima_packed_len(*count, *bits, number, place, to)) };
             told.given(&[&value], || Value::Number(value.first() as u64))
         }
         Case::PackIndices { indices, bits, out } => {
             let mut out = Lent::new(*out, BYTE);
-            let (items, count, to, len) = (indices.as_ptr(), indices.len(), out.at(), out.len());
-            unsafe {
-                raw::foldrima_pack_indices(items, count, *bits, to, len, number, place);
-            }
+            unsafe { call!(foldrima_pack_indices([indices], *bits, [mut out], number, place)) };
             told.given(&[&out], || Value::Bytes(out.found().to_vec()))
         }
         Case::UnpackIndices { bytes, count, bits, out } => {
             let mut out = Lent::new(*out, SHORT);
-            let (from, size, to, len) = (bytes.as_ptr(), bytes.len(), out.at(), out.len());
             unsafe {
-                raw::foldrima_unpack_indices(from, size, *count, *bits, to, len, number, place);
-            }
+                call!(foldrima_unpack_indices([bytes], *count, *bits, [mut out], number, place))
+            };
             told.given(&[&out], || Value::Numbers(out.found().to_vec()))
         }
         Case::PackSigns { signs, out } => {
             let mut out = Lent::new(*out, BYTE);
-            let (items, count, to, len) = (signs.as_ptr(), signs.len(), out.at(), out.len());
-            unsafe { raw::foldrima_pack_signs(items, count, to, len, number, place) };
+            unsafe { call!(foldrima_pack_signs([signs], [mut out], number, place)) };
             told.given(&[&out], || Value::Bytes(out.found().to_vec()))
         }
         Case::UnpackSigns { bytes, count, out } => {
             let mut out = Lent::new(*out, SIGN);
-            let (from, size, to, len) = (bytes.as_ptr(), bytes.len(), out.at(), out.len());
-            unsafe { raw::foldrima_unpack_signs(from, size, *count, to, len, number, place) };
+            unsafe { call!(foldrima_unpack_signs([bytes], *count, [mut out], number, place)) };
             told.given(&[&out], || Value::Signs(out.found().to_vec()))
         }
         Case::ValidatePadding { bytes, used_bits } => {
-            let (from, size) = (bytes.as_ptr(), bytes.len());
-            unsafe { raw::foldrima_validate_padding_zero(from, size, *used_bits, number, place) };
+            unsafe { call!(foldrima_validate_padding_zero([bytes], *used_bits, number, place)) };
             told.given(&[], || Value::Done)
         }
         Case::CodebookUniform { bits, min, max } => {
-            unsafe { raw::foldrima_uniform(*bits, *min, *max, number, place) };
+            unsafe { call!(foldrima_uniform(*bits, *min, *max, number, place)) };
             told.given(&[], || Value::Codebook { bits: *bits, min: *min, max: *max })
         }
         Case::CodebookLevels { bits, min, max } => {
             let mut value = Lent::new(1, u32::MAX);
-            unsafe { raw::foldrima_levels(*bits, *min, *max, number, place, value.at()) };
+            let to = value.as_mut_ptr();
+            unsafe { call!(foldrima_levels(*bits, *min, *max, number, place, to)) };
             told.given(&[&value], || Value::Number(value.first().into()))
         }
         Case::CodebookQuantize { bits, min, max, value: x } => {
             let mut value = Lent::new(1, SHORT);
-            unsafe { raw::foldrima_quantize(*bits, *min, *max, *x, number, place, value.at()) };
+            let to = value.as_mut_ptr();
+            unsafe { call!(foldrima_quantize(*bits, *min, *max, *x, number, place, to)) };
             told.given(&[&value], || Value::Number(value.first().into()))
         }
-        Case::CodebookMidpoint { bits, min, max, index } => {
-            let mut value = Lent::new(1, FLOAT);
-            let (to, index) = (value.at(), *index);
-            unsafe {
-                raw::foldrima_dequantize_midpoint(*bits, *min, *max, index, number, place, to);
-            }
-            told.given(&[&value], || Value::Float(value.first()))
-        }
+        Case::CodebookMidpoint { bits, min, max, index } => float(&mut told, |to| unsafe {
+            call!(foldrima_dequantize_midpoint(*bits, *min, *max, *index, number, place, to))
+        }),
         Case::Compress { radii, profile, out } => {
-            let mut out = Lent::new(*out, BYTE);
+            let (profile, mut out) = (profile_code(*profile), Lent::new(*out, BYTE));
             let (mut min, mut max) = (Lent::new(1, FLOAT), Lent::new(1, FLOAT));
+            let (least, most) = (min.as_mut_ptr(), max.as_mut_ptr());
             unsafe {
-                raw::foldrima_compress(
-                    radii.as_ptr(),
-                    radii.len(),
-                    profile_code(*profile),
-                    out.at(),
-                    out.len(),
-                    number,
-                    place,
-                    min.at(),
-                    max.at(),
-                )
+                call!(foldrima_compress([radii], profile, [mut out], number, place, least, most))
             };
             told.given(&[&out, &min, &max], || Value::Radii {
                 min: min.first(),
@@ -219,187 +179,148 @@ pub fn answer(case: &Case) -> Given {
             })
         }
         Case::Decompress { profile, count, min, max, payload, out } => {
-            let mut out = Lent::new(*out, FLOAT);
+            let (profile, mut out) = (profile_code(*profile), Lent::new(*out, FLOAT));
             unsafe {
-                raw::foldrima_decompress(
-                    profile_code(*profile),
+                call!(foldrima_decompress(
+                    profile,
                     *count,
                     *min,
                     *max,
-                    payload.as_ptr(),
-                    payload.len(),
-                    out.at(),
-                    out.len(),
+                    [payload],
+                    [mut out],
                     number,
-                    place,
-                )
+                    place
+                ))
             };
             told.given(&[&out], || Value::Floats(out.found().to_vec()))
         }
         Case::EncodedBytes { profile, payload } => {
             let mut value = Lent::new(1, usize::MAX);
-            let (code, from, size) = (profile_code(*profile), payload.as_ptr(), payload.len());
-            unsafe {
-                raw::foldrima_encoded_bytes(code, from, size, number, place, value.at());
-            }
+            let (profile, to) = (profile_code(*profile), value.as_mut_ptr());
+            unsafe { call!(foldrima_encoded_bytes(profile, [payload], number, place, to)) };
             told.given(&[&value], || Value::Number(value.first() as u64))
         }
         Case::Root { value } => plain(Value::Float(unsafe { raw::foldrima_sqrt(*value) })),
-        Case::Angle { bits, index } => {
-            let mut value = Lent::new(1, FLOAT);
-            unsafe { raw::foldrima_dequantize_angle(*bits, *index, number, place, value.at()) };
-            told.given(&[&value], || Value::Float(value.first()))
-        }
+        Case::Angle { bits, index } => float(&mut told, |to| unsafe {
+            call!(foldrima_dequantize_angle(*bits, *index, number, place, to))
+        }),
         Case::Seeds { seed } => plain(Value::Seeds {
             rotation: unsafe { raw::foldrima_hadamard_seed(*seed) },
             matrix: unsafe { raw::foldrima_matrix_seed(*seed) },
         }),
         Case::Apply { inverse, dim, signs, input, out } => {
             let mut out = Lent::new(*out, FLOAT);
-            let call = if *inverse { raw::foldrima_apply_inverse } else { raw::foldrima_apply };
             unsafe {
-                call(
-                    *dim,
-                    signs.as_ptr(),
-                    signs.len(),
-                    input.as_ptr(),
-                    input.len(),
-                    out.at(),
-                    out.len(),
-                    number,
-                    place,
-                )
+                if *inverse {
+                    call!(foldrima_apply_inverse(*dim, [signs], [input], [mut out], number, place))
+                } else {
+                    call!(foldrima_apply(*dim, [signs], [input], [mut out], number, place))
+                }
             };
             told.given(&[&out], || Value::Floats(out.found().to_vec()))
         }
         Case::SetupCheck { setup } => {
-            under!(foldrima_check_setup, setup, number, place);
+            let mode = mode_code(setup.mode);
+            unsafe { call_under!(setup, mode, foldrima_check_setup(number, place)) };
             told.given(&[], || Value::Done)
         }
         Case::Sketch { setup, vector, out } => {
-            let mut out = Lent::new(*out, SIGN);
-            let (from, size, to, len) = (vector.as_ptr(), vector.len(), out.at(), out.len());
-            under!(foldrima_sketch, setup, from, size, to, len, number, place);
+            let (mode, mut out) = (mode_code(setup.mode), Lent::new(*out, SIGN));
+            unsafe {
+                call_under!(setup, mode, foldrima_sketch([vector], [mut out], number, place))
+            };
             told.given(&[&out], || Value::Signs(out.found().to_vec()))
         }
         Case::Prepare { setup, query, rotated, projected } => {
+            let mode = mode_code(setup.mode);
             let mut rotated = Lent::new(*rotated, FLOAT);
             let mut projected = Lent::new(*projected, FLOAT);
-            under!(
-                foldrima_prepare_query,
-                setup,
-                query.as_ptr(),
-                query.len(),
-                rotated.at(),
-                rotated.len(),
-                projected.at(),
-                projected.len(),
-                number,
-                place,
-            );
+            unsafe {
+                call_under!(
+                    setup,
+                    mode,
+                    foldrima_prepare_query([query], [mut rotated], [mut projected], number, place)
+                )
+            };
             told.given(&[&rotated, &projected], || Value::Prepared {
                 rotated: rotated.found().to_vec(),
                 projected: projected.found().to_vec(),
             })
         }
-        Case::SketchScore { setup, query, signs } => {
-            let mut value = Lent::new(1, FLOAT);
-            let (from, size, items, count) =
-                (query.as_ptr(), query.len(), signs.as_ptr(), signs.len());
-            let to = value.at();
-            under!(foldrima_sketch_score, setup, from, size, items, count, number, place, to);
-            told.given(&[&value], || Value::Float(value.first()))
-        }
+        Case::SketchScore { setup, query, signs } => float(&mut told, |to| unsafe {
+            let mode = mode_code(setup.mode);
+            call_under!(setup, mode, foldrima_sketch_score([query], [signs], number, place, to))
+        }),
         Case::WriteRecord { profile, dim, bits, mode, projections, radii, indices, signs, out } => {
             let mut out = Lent::new(*out, BYTE);
             unsafe {
-                raw::foldrima_write_record(
+                call!(foldrima_write_record(
                     profile_code(*profile),
                     *dim,
                     *bits,
                     mode_code(*mode),
                     *projections,
-                    radii.as_ptr(),
-                    radii.len(),
-                    indices.as_ptr(),
-                    indices.len(),
-                    signs.as_ptr(),
-                    signs.len(),
-                    out.at(),
-                    out.len(),
+                    [radii],
+                    [indices],
+                    [signs],
+                    [mut out],
                     number,
-                    place,
-                )
+                    place
+                ))
             };
             told.given(&[&out], || Value::Bytes(out.found().to_vec()))
         }
         Case::ReadRecord { record } => read(record),
-        Case::Score { setup, query, record } => {
-            let mut value = Lent::new(1, FLOAT);
-            let (from, size, bytes, count) =
-                (query.as_ptr(), query.len(), record.as_ptr(), record.len());
-            let to = value.at();
-            under!(
-                foldrima_inner_product_estimate,
+        Case::Score { setup, query, record } => float(&mut told, |to| unsafe {
+            call_under!(
                 setup,
-                from,
-                size,
-                bytes,
-                count,
-                number,
-                place,
-                to
-            );
-            told.given(&[&value], || Value::Float(value.first()))
-        }
-        Case::Distance { setup, query, record } => {
-            let mut value = Lent::new(1, FLOAT);
-            let (from, size, bytes, count) =
-                (query.as_ptr(), query.len(), record.as_ptr(), record.len());
-            let to = value.at();
-            under!(
-                foldrima_l2_distance_estimate,
+                mode_code(setup.mode),
+                foldrima_inner_product_estimate([query], [record], number, place, to)
+            )
+        }),
+        Case::Distance { setup, query, record } => float(&mut told, |to| unsafe {
+            call_under!(
                 setup,
-                from,
-                size,
-                bytes,
-                count,
-                number,
-                place,
-                to
-            );
-            told.given(&[&value], || Value::Float(value.first()))
-        }
+                mode_code(setup.mode),
+                foldrima_l2_distance_estimate([query], [record], number, place, to)
+            )
+        }),
         Case::Decode { setup, record, out } => {
-            let mut out = Lent::new(*out, FLOAT);
-            let (from, size, to, len) = (record.as_ptr(), record.len(), out.at(), out.len());
-            under!(foldrima_decode_approximate, setup, from, size, to, len, number, place);
+            let (mode, mut out) = (mode_code(setup.mode), Lent::new(*out, FLOAT));
+            unsafe {
+                call_under!(
+                    setup,
+                    mode,
+                    foldrima_decode_approximate([record], [mut out], number, place)
+                )
+            };
             told.given(&[&out], || Value::Floats(out.found().to_vec()))
         }
         Case::ScorePrepared { setup, rotated, projected, record, .. } => {
-            let mut value = Lent::new(1, FLOAT);
-            unsafe {
-                raw::foldrima_inner_product_estimate_prepared(
+            float(&mut told, |to| unsafe {
+                call!(foldrima_inner_product_estimate_prepared(
                     mode_code(setup.mode),
                     setup.dim,
                     setup.bits,
                     setup.projections,
-                    setup.directions.as_ptr(),
-                    setup.directions.len(),
-                    rotated.as_ptr(),
-                    rotated.len(),
-                    projected.as_ptr(),
-                    projected.len(),
-                    record.as_ptr(),
-                    record.len(),
+                    [setup.directions],
+                    [rotated],
+                    [projected],
+                    [record],
                     number,
                     place,
-                    value.at(),
-                )
-            };
-            told.given(&[&value], || Value::Float(value.first()))
+                    to
+                ))
+            })
         }
     }
+}
+
+/// A call whose value is one float.
+fn float(told: &mut Told, call: impl FnOnce(*mut f32)) -> Given {
+    let mut value = Lent::new(1, FLOAT);
+    call(value.as_mut_ptr());
+    told.given(&[&value], || Value::Float(value.first()))
 }
 
 /// A call that refuses nothing.
@@ -420,15 +341,15 @@ fn read(bytes: &[u8]) -> Given {
         raw::foldrima_read_record(
             from,
             size,
-            told.number.at(),
-            told.place.at(),
-            mode.at(),
-            profile.at(),
-            dim.at(),
-            bits.at(),
-            projections.at(),
-            min.at(),
-            max.at(),
+            told.number.as_mut_ptr(),
+            told.place.as_mut_ptr(),
+            mode.as_mut_ptr(),
+            profile.as_mut_ptr(),
+            dim.as_mut_ptr(),
+            bits.as_mut_ptr(),
+            projections.as_mut_ptr(),
+            min.as_mut_ptr(),
+            max.as_mut_ptr(),
         )
     };
     let lent: [&dyn Kept; 7] = [&mode, &profile, &dim, &bits, &projections, &min, &max];
@@ -436,7 +357,7 @@ fn read(bytes: &[u8]) -> Given {
     let parts = [raw::foldrima_radii_part, raw::foldrima_indices_part, raw::foldrima_signs_part]
         .map(|part| {
             let (mut start, mut count) = (Lent::new(1, usize::MAX), Lent::new(1, usize::MAX));
-            unsafe { part(from, size, start.at(), count.at()) };
+            unsafe { part(from, size, start.as_mut_ptr(), count.as_mut_ptr()) };
             (start.first(), count.first())
         });
     if header.answer.is_err() {
@@ -474,20 +395,18 @@ fn read(bytes: &[u8]) -> Given {
 
 /// The three lists of a record, read into outputs of these lengths.
 fn values(bytes: &[u8], lens: (usize, usize, usize)) -> ([Given; 3], Value) {
-    let (from, size) = (bytes.as_ptr(), bytes.len());
     let mut radii = Lent::new(lens.0, FLOAT);
     let mut indices = Lent::new(lens.1, SHORT);
     let mut signs = Lent::new(lens.2, SIGN);
     let mut told = [Told::new(), Told::new(), Told::new()];
     let [a, b, c] = &mut told;
+    let [x, y, z] = [a, b, c].map(|told| (told.number.as_mut_ptr(), told.place.as_mut_ptr()));
     unsafe {
-        let (to, len) = (radii.at(), radii.len());
-        raw::foldrima_read_radii(from, size, to, len, a.number.at(), a.place.at());
-        let (to, len) = (indices.at(), indices.len());
-        raw::foldrima_read_indices(from, size, to, len, b.number.at(), b.place.at());
-        let (to, len) = (signs.at(), signs.len());
-        raw::foldrima_read_signs(from, size, to, len, c.number.at(), c.place.at());
+        call!(foldrima_read_radii([bytes], [mut radii], x.0, x.1));
+        call!(foldrima_read_indices([bytes], [mut indices], y.0, y.1));
+        call!(foldrima_read_signs([bytes], [mut signs], z.0, z.1));
     }
+    let [a, b, c] = &told;
     let given = [
         a.given(&[&radii], || Value::Done),
         b.given(&[&indices], || Value::Done),

@@ -90,6 +90,12 @@ fn packing_accepts_what_unpacking_refuses() {
     let code = PolarCode::from_parts(4, 1, radii, &[0, 0]).unwrap();
     let packed = PackedPolarCode::from_polar(&code, Profile::BlockLinearU16).unwrap();
     assert!(packed.unpack().is_err());
+    // So a code that unpacks may be packed again and then refused.
+    let linear = Profile::BlockLinearU16;
+    let payload = [0x81, 1, 0xFF, 0xFF];
+    let code = thin::turbo_code(linear, 4, 1, 0.0, f32::MAX, &payload, &[0], None).unwrap();
+    let again = PackedPolarCode::from_polar(&code.polar_code, linear).unwrap();
+    assert!(again.unpack().is_err());
 }
 
 #[test]

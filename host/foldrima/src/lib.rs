@@ -2,8 +2,11 @@
 //! library, under the Rust's names. Outputs are lent and must have exactly the needed
 //! length; a refused call writes to none of them.
 //!
+//! The library's answers rest on the float mode that a thread starts with: round to
+//! nearest, subnormals kept. A call panics in a thread that has changed it.
+//!
 //! ```
-//! use foldrima::{Refusal, Setup, TurboMode};
+//! use foldrima::{refusal, Refusal, Setup, TurboMode};
 //!
 //! # fn main() -> Result<(), Refusal> {
 //! let signs = [1.0, 1.0]; // drawn by a generator that is seeded with `hadamard_seed`
@@ -18,15 +21,22 @@
 //! let score = setup.inner_product_estimate_prepared(&rotated, &projected, &record)?;
 //! assert!(score > 3.66 && score < 3.67);
 //! let cut = setup.inner_product_estimate_prepared(&rotated, &projected, &record[..9]);
-//! assert_eq!(cut, Err(Refusal { number: 13, place: 9 }));
+//! let refused = Refusal { number: refusal::MALFORMED_LENGTH, place: 9 };
+//! assert_eq!(cut, Err(refused));
+//! assert_eq!(refused.to_string(), "refused (13): byte length wrong; the length found: 9");
 //! # Ok(())
 //! # }
 //! ```
 
+#[cfg(not(all(target_arch = "x86_64", target_pointer_width = "64")))]
+compile_error!("libcapi.a is for 64-bit x86");
+
 pub mod raw;
+pub mod refusal;
 
 mod bits;
 mod codebook;
+mod environment;
 mod radii;
 mod record;
 mod setup;
@@ -40,22 +50,8 @@ pub use record::{
     indices_part, radii_part, read_indices, read_radii, read_record, read_signs, signs_part,
     write_record, Header,
 };
+pub use refusal::Refusal;
 pub use setup::{apply, apply_inverse, Setup};
-
-/// Why a call gave no value: document 01's number, and the place that it names.
-#[derive(Debug, Clone, Copy, PartialEq, Eq, Hash)]
-pub struct Refusal {
-    pub number: u32,
-    pub place: usize,
-}
-
-impl std::fmt::Display for Refusal {
-    fn fmt(&self, f: &mut std::fmt::Formatter) -> std::fmt::Result {
-        write!(f, "refused with {} at {}", self.number, self.place)
-    }
-}
-
-impl std::error::Error for Refusal {}
 
 /// Whether a residual sketch goes with the polar code.
 #[derive(Debug, Clone, Copy, PartialEq, Eq, Hash)]
@@ -77,10 +73,19 @@ pub enum RadiusCodecProfileV1 {
 /// Makes a call with room for its number and place, and reads them as an answer.
 #[inline]
 fn asked(call: impl FnOnce(*mut u32, *mut usize)) -> Result<(), Refusal> {
+    environment::look();
     let (mut number, mut place) = (0, 0);
     call(&mut number, &mut place);
     match number {
         0 => Ok(()),
         _ => Err(Refusal { number, place }),
     }
+}
+
+/// The same for a call with room for a value.
+#[inline]
+fn valued<T: Default>(call: impl FnOnce(*mut u32, *mut usize, *mut T)) -> Result<T, Refusal> {
+    let mut value = T::default();
+    asked(|number, place| call(number, place, &mut value))?;
+    Ok(value)
 }

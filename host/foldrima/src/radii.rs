@@ -1,6 +1,6 @@
 //! Radii in bytes and back.
 
-use crate::{asked, raw, RadiusCodecProfileV1, Refusal};
+use crate::{asked, call, valued, RadiusCodecProfileV1, Refusal};
 
 /// The least and the greatest radius of a linear payload; 0 and 0 for `F32`.
 #[derive(Debug, Clone, Copy, PartialEq)]
@@ -15,21 +15,12 @@ pub fn compress(
     profile: RadiusCodecProfileV1,
     out: &mut [u8],
 ) -> Result<Range, Refusal> {
-    let mut range = Range { min: 0.0, max: 0.0 };
+    let (mut min, mut max) = (0.0, 0.0);
     asked(|number, place| unsafe {
-        raw::foldrima_compress(
-            radii.as_ptr(),
-            radii.len(),
-            profile as u8,
-            out.as_mut_ptr(),
-            out.len(),
-            number,
-            place,
-            &mut range.min,
-            &mut range.max,
-        )
+        let (min, max) = (&mut min, &mut max);
+        call!(foldrima_compress([radii], profile as u8, [mut out], number, place, min, max))
     })?;
-    Ok(range)
+    Ok(Range { min, max })
 }
 
 /// Decompresses `count` radii.
@@ -40,34 +31,15 @@ pub fn decompress(
     payload: &[u8],
     out: &mut [f32],
 ) -> Result<(), Refusal> {
+    let (profile, Range { min, max }) = (profile as u8, range);
     asked(|number, place| unsafe {
-        raw::foldrima_decompress(
-            profile as u8,
-            count,
-            range.min,
-            range.max,
-            payload.as_ptr(),
-            payload.len(),
-            out.as_mut_ptr(),
-            out.len(),
-            number,
-            place,
-        )
+        call!(foldrima_decompress(profile, count, min, max, [payload], [mut out], number, place))
     })
 }
 
 /// The bytes of a payload with the range that goes with it.
 pub fn encoded_bytes(profile: RadiusCodecProfileV1, payload: &[u8]) -> Result<usize, Refusal> {
-    let mut value = 0;
-    asked(|number, place| unsafe {
-        raw::foldrima_encoded_bytes(
-            profile as u8,
-            payload.as_ptr(),
-            payload.len(),
-            number,
-            place,
-            &mut value,
-        )
-    })?;
-    Ok(value)
+    valued(|number, place, value| unsafe {
+        call!(foldrima_encoded_bytes(profile as u8, [payload], number, place, value))
+    })
 }

@@ -132,7 +132,7 @@ extern "C" {
     );
 }
 
-// Rotation, setup, sketch.
+// Rotation.
 extern "C" {
     pub fn foldrima_apply(
         dim: usize,
@@ -155,57 +155,6 @@ extern "C" {
         output_len: usize,
         number: *mut u32,
         place: *mut usize,
-    );
-    pub fn foldrima_check_setup(
-        mode: u8,
-        dim: usize,
-        bits: u8,
-        projections: usize,
-        signs: *const f32,
-        signs_len: usize,
-        directions: *const f32,
-        directions_len: usize,
-        matrix: *const f32,
-        matrix_len: usize,
-        number: *mut u32,
-        place: *mut usize,
-    );
-    pub fn foldrima_sketch(
-        mode: u8,
-        dim: usize,
-        bits: u8,
-        projections: usize,
-        signs: *const f32,
-        signs_len: usize,
-        directions: *const f32,
-        directions_len: usize,
-        matrix: *const f32,
-        matrix_len: usize,
-        vector: *const f32,
-        vector_len: usize,
-        out: *mut i8,
-        out_len: usize,
-        number: *mut u32,
-        place: *mut usize,
-    );
-    pub fn foldrima_sketch_score(
-        mode: u8,
-        dim: usize,
-        bits: u8,
-        projections: usize,
-        signs: *const f32,
-        signs_len: usize,
-        directions: *const f32,
-        directions_len: usize,
-        matrix: *const f32,
-        matrix_len: usize,
-        query: *const f32,
-        query_len: usize,
-        sketch: *const i8,
-        sketch_len: usize,
-        number: *mut u32,
-        place: *mut usize,
-        value: *mut f32,
     );
 }
 
@@ -285,47 +234,8 @@ extern "C" {
     );
 }
 
-// Queries, scores, distances, decoding.
+// Scores by a prepared query.
 extern "C" {
-    pub fn foldrima_prepare_query(
-        mode: u8,
-        dim: usize,
-        bits: u8,
-        projections: usize,
-        signs: *const f32,
-        signs_len: usize,
-        directions: *const f32,
-        directions_len: usize,
-        matrix: *const f32,
-        matrix_len: usize,
-        query: *const f32,
-        query_len: usize,
-        rotated: *mut f32,
-        rotated_len: usize,
-        projected: *mut f32,
-        projected_len: usize,
-        number: *mut u32,
-        place: *mut usize,
-    );
-    pub fn foldrima_inner_product_estimate(
-        mode: u8,
-        dim: usize,
-        bits: u8,
-        projections: usize,
-        signs: *const f32,
-        signs_len: usize,
-        directions: *const f32,
-        directions_len: usize,
-        matrix: *const f32,
-        matrix_len: usize,
-        query: *const f32,
-        query_len: usize,
-        bytes: *const u8,
-        bytes_len: usize,
-        number: *mut u32,
-        place: *mut usize,
-        value: *mut f32,
-    );
     pub fn foldrima_inner_product_estimate_prepared(
         mode: u8,
         dim: usize,
@@ -343,17 +253,63 @@ extern "C" {
         place: *mut usize,
         value: *mut f32,
     );
-    pub fn foldrima_l2_distance_estimate(
-        mode: u8,
-        dim: usize,
-        bits: u8,
-        projections: usize,
-        signs: *const f32,
-        signs_len: usize,
-        directions: *const f32,
-        directions_len: usize,
-        matrix: *const f32,
-        matrix_len: usize,
+}
+
+/// Declares calls that take a setup: its scalars and tables, then the rest.
+macro_rules! under_a_setup {
+    ($(fn $name:ident($($rest:tt)*);)*) => {
+        extern "C" {
+            $(pub fn $name(
+                mode: u8,
+                dim: usize,
+                bits: u8,
+                projections: usize,
+                signs: *const f32,
+                signs_len: usize,
+                directions: *const f32,
+                directions_len: usize,
+                matrix: *const f32,
+                matrix_len: usize,
+                $($rest)*
+            );)*
+        }
+    };
+}
+
+// Setup, sketch, queries, scores, distances, decoding.
+under_a_setup! {
+    fn foldrima_check_setup(
+        number: *mut u32,
+        place: *mut usize,
+    );
+    fn foldrima_sketch(
+        vector: *const f32,
+        vector_len: usize,
+        out: *mut i8,
+        out_len: usize,
+        number: *mut u32,
+        place: *mut usize,
+    );
+    fn foldrima_sketch_score(
+        query: *const f32,
+        query_len: usize,
+        sketch: *const i8,
+        sketch_len: usize,
+        number: *mut u32,
+        place: *mut usize,
+        value: *mut f32,
+    );
+    fn foldrima_prepare_query(
+        query: *const f32,
+        query_len: usize,
+        rotated: *mut f32,
+        rotated_len: usize,
+        projected: *mut f32,
+        projected_len: usize,
+        number: *mut u32,
+        place: *mut usize,
+    );
+    fn foldrima_inner_product_estimate(
         query: *const f32,
         query_len: usize,
         bytes: *const u8,
@@ -362,17 +318,16 @@ extern "C" {
         place: *mut usize,
         value: *mut f32,
     );
-    pub fn foldrima_decode_approximate(
-        mode: u8,
-        dim: usize,
-        bits: u8,
-        projections: usize,
-        signs: *const f32,
-        signs_len: usize,
-        directions: *const f32,
-        directions_len: usize,
-        matrix: *const f32,
-        matrix_len: usize,
+    fn foldrima_l2_distance_estimate(
+        query: *const f32,
+        query_len: usize,
+        bytes: *const u8,
+        bytes_len: usize,
+        number: *mut u32,
+        place: *mut usize,
+        value: *mut f32,
+    );
+    fn foldrima_decode_approximate(
         bytes: *const u8,
         bytes_len: usize,
         out: *mut f32,
@@ -380,4 +335,42 @@ extern "C" {
         number: *mut u32,
         place: *mut usize,
     );
+}
+
+/// A C function's call: `[items]` stands for a slice, its pointer and its length, and
+/// `[mut items]` for one that is written.
+#[macro_export]
+macro_rules! call {
+    (@ $name:ident ($($done:expr,)*)) => {
+        $crate::raw::$name($($done),*)
+    };
+    (@ $name:ident ($($done:expr,)*) [mut $items:expr], $($rest:tt)*) => {
+        $crate::call!(@ $name ($($done,)* $items.as_mut_ptr(), $items.len(),) $($rest)*)
+    };
+    (@ $name:ident ($($done:expr,)*) [$items:expr], $($rest:tt)*) => {
+        $crate::call!(@ $name ($($done,)* $items.as_ptr(), $items.len(),) $($rest)*)
+    };
+    (@ $name:ident ($($done:expr,)*) $one:expr, $($rest:tt)*) => {
+        $crate::call!(@ $name ($($done,)* $one,) $($rest)*)
+    };
+    ($name:ident($($all:tt)*)) => {
+        $crate::call!(@ $name () $($all)*,)
+    };
+}
+
+/// The same for a function that takes a setup first; its mode is given as a number.
+#[macro_export]
+macro_rules! call_under {
+    ($setup:expr, $mode:expr, $name:ident($($rest:tt)*)) => {
+        $crate::call!($name(
+            $mode,
+            $setup.dim,
+            $setup.bits,
+            $setup.projections,
+            [$setup.signs],
+            [$setup.directions],
+            [$setup.matrix],
+            $($rest)*
+        ))
+    };
 }

@@ -1,6 +1,6 @@
 //! Records: written, read, and their three parts.
 
-use crate::{asked, raw, RadiusCodecProfileV1, Range, Refusal, TurboMode};
+use crate::{asked, call, environment::look, raw, RadiusCodecProfileV1, Range, Refusal, TurboMode};
 
 /// What an accepted record says of itself.
 #[derive(Debug, Clone, Copy, PartialEq)]
@@ -28,23 +28,19 @@ pub fn write_record(
     out: &mut [u8],
 ) -> Result<(), Refusal> {
     asked(|number, place| unsafe {
-        raw::foldrima_write_record(
+        call!(foldrima_write_record(
             profile as u8,
             dim,
             bits,
             mode as u8,
             projections,
-            radii.as_ptr(),
-            radii.len(),
-            indices.as_ptr(),
-            indices.len(),
-            signs.as_ptr(),
-            signs.len(),
-            out.as_mut_ptr(),
-            out.len(),
+            [radii],
+            [indices],
+            [signs],
+            [mut out],
             number,
-            place,
-        )
+            place
+        ))
     })
 }
 
@@ -53,9 +49,8 @@ pub fn read_record(bytes: &[u8]) -> Result<Header, Refusal> {
     let (mut mode, mut profile, mut dim, mut bits, mut projections) = (0, 0, 0, 0, 0);
     let mut range = Range { min: 0.0, max: 0.0 };
     asked(|number, place| unsafe {
-        raw::foldrima_read_record(
-            bytes.as_ptr(),
-            bytes.len(),
+        call!(foldrima_read_record(
+            [bytes],
             number,
             place,
             &mut mode,
@@ -64,8 +59,8 @@ pub fn read_record(bytes: &[u8]) -> Result<Header, Refusal> {
             &mut bits,
             &mut projections,
             &mut range.min,
-            &mut range.max,
-        )
+            &mut range.max
+        ))
     })?;
     let mode = if mode == 0 { TurboMode::PolarOnly } else { TurboMode::PolarWithQjl };
     let profile = match profile {
@@ -78,6 +73,7 @@ pub fn read_record(bytes: &[u8]) -> Result<Header, Refusal> {
 type Part = unsafe extern "C" fn(*const u8, usize, *mut usize, *mut usize);
 
 fn part(bytes: &[u8], find: Part) -> &[u8] {
+    look();
     let (mut start, mut count) = (0, 0);
     unsafe { find(bytes.as_ptr(), bytes.len(), &mut start, &mut count) };
     &bytes[start..start + count]
@@ -100,24 +96,17 @@ pub fn signs_part(bytes: &[u8]) -> &[u8] {
 
 /// The radii of a record, one for each pair.
 pub fn read_radii(bytes: &[u8], out: &mut [f32]) -> Result<(), Refusal> {
-    asked(|number, place| unsafe {
-        let (to, len) = (out.as_mut_ptr(), out.len());
-        raw::foldrima_read_radii(bytes.as_ptr(), bytes.len(), to, len, number, place)
-    })
+    asked(|number, place| unsafe { call!(foldrima_read_radii([bytes], [mut out], number, place)) })
 }
 
 /// The indices of a record, one for each pair.
 pub fn read_indices(bytes: &[u8], out: &mut [u16]) -> Result<(), Refusal> {
     asked(|number, place| unsafe {
-        let (to, len) = (out.as_mut_ptr(), out.len());
-        raw::foldrima_read_indices(bytes.as_ptr(), bytes.len(), to, len, number, place)
+        call!(foldrima_read_indices([bytes], [mut out], number, place))
     })
 }
 
 /// The signs of a record, one for each projection.
 pub fn read_signs(bytes: &[u8], out: &mut [i8]) -> Result<(), Refusal> {
-    asked(|number, place| unsafe {
-        let (to, len) = (out.as_mut_ptr(), out.len());
-        raw::foldrima_read_signs(bytes.as_ptr(), bytes.len(), to, len, number, place)
-    })
+    asked(|number, place| unsafe { call!(foldrima_read_signs([bytes], [mut out], number, place)) })
 }

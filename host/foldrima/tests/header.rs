@@ -1,5 +1,6 @@
 //! The declarations of `raw.rs`, of the C header and of the port's sources are the same,
-//! as far as header and sources stand beside this folder.
+//! and so are the numbers of refusals, modes and profiles, as far as header and sources
+//! stand beside this folder.
 
 use std::{collections::BTreeMap, fs, path::Path};
 
@@ -25,9 +26,18 @@ fn found(text: &str, start: &str, types: impl Fn(&str) -> Vec<String>) -> Signat
 }
 
 fn declared() -> Signatures {
-    found(include_str!("../src/raw.rs"), "pub fn ", |one| {
-        vec![one.split_once(": ").unwrap().1.to_string()]
-    })
+    let text = include_str!("../src/raw.rs").replace("$($rest)*", "");
+    let types = |one: &str| vec![one.split_once(": ").unwrap().1.to_string()];
+    let full = |all: Signatures| -> Signatures {
+        all.into_iter().map(|(name, signature)| (format!("foldrima_{name}"), signature)).collect()
+    };
+    let mut all = full(found(&text, "pub fn foldrima_", types));
+    // Those under a setup, with the parameters that their macro puts first.
+    let (setup, _) = found(&text, "pub fn $", types).remove("name").unwrap();
+    for (name, (rest, answer)) in full(found(&text, "\n    fn foldrima_", types)) {
+        all.insert(name, (setup.iter().cloned().chain(rest).collect(), answer));
+    }
+    all
 }
 
 fn agree(others: &Signatures) {
@@ -38,13 +48,19 @@ fn agree(others: &Signatures) {
     }
 }
 
+/// A file of the repository, where it is at hand.
+fn file(name: &str) -> Option<String> {
+    let path = Path::new(env!("CARGO_MANIFEST_DIR")).join("../..").join(name);
+    let text = fs::read_to_string(path).ok();
+    if text.is_none() {
+        println!("there is no {name}");
+    }
+    text
+}
+
 #[test]
 fn the_header_has_them() {
-    let path = Path::new(env!("CARGO_MANIFEST_DIR")).join("../../include/foldrima.h");
-    let Ok(text) = fs::read_to_string(path) else {
-        println!("there is no header");
-        return;
-    };
+    let Some(text) = file("include/foldrima.h") else { return };
     let rust = |name: &str| match name {
         "float" => "f32".to_string(),
         "size_t" => "usize".to_string(),
@@ -103,4 +119,42 @@ fn the_sources_have_them() {
         }
     });
     agree(&sources);
+}
+
+/// The names that stand between `before` and `between`, and the numbers after that.
+fn numbers(text: &str, before: &str, between: &str) -> BTreeMap<String, u32> {
+    let lines = text.lines().filter_map(|line| line.trim().strip_prefix(before));
+    let pairs = lines.filter_map(|line| line.split_once(between)).map(|(name, rest)| {
+        let number = rest.split(|c: char| !c.is_ascii_digit()).next().unwrap();
+        (name.to_string(), number.parse().unwrap())
+    });
+    pairs.collect()
+}
+
+/// `PolarOnly` as `POLAR_ONLY`.
+fn capitals(name: &str) -> String {
+    let mut all = String::new();
+    for c in name.chars() {
+        if c.is_ascii_uppercase() && !all.is_empty() {
+            all.push('_');
+        }
+        all.push(c.to_ascii_uppercase());
+    }
+    all
+}
+
+#[test]
+fn the_numbers_are_the_same() {
+    let (header, error) = (file("include/foldrima.h"), file("crates/error/src/lib.rt"));
+    let (Some(header), Some(error)) = (header, error) else { return };
+    let Some(codes) = file("crates/capi/src/codes.rt") else { return };
+    let mut wanted = numbers(&error, "pub const ", ": u32 = ");
+    let named = foldrima::refusal::NAMES.map(|(name, number)| (name.to_string(), number));
+    assert_eq!(wanted, BTreeMap::from(named));
+    for (before, count) in [("TurboMode::", 2), ("RadiusCodecProfileV1::", 3)] {
+        let cases = numbers(&codes, before, " => ");
+        assert_eq!(cases.len(), count, "{before}");
+        wanted.extend(cases.into_iter().map(|(name, number)| (capitals(&name), number)));
+    }
+    assert_eq!(numbers(&header, "#define FOLDRIMA_", " "), wanted);
 }

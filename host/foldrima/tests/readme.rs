@@ -1,6 +1,9 @@
 //! The example of the README.
 
 use foldrima::{Refusal, Setup, TurboMode};
+use one_pair::{RECORD, SETUP};
+
+mod one_pair;
 
 fn scores(setup: &Setup, query: &[f32], records: &[&[u8]]) -> Result<Vec<f32>, Refusal> {
     let mut rotated = vec![0.0; setup.dim];
@@ -16,20 +19,12 @@ fn scores(setup: &Setup, query: &[f32], records: &[&[u8]]) -> Result<Vec<f32>, R
 
 #[test]
 fn two_records() {
-    let setup = Setup {
-        mode: TurboMode::PolarOnly,
-        dim: 2,
-        bits: 1,
-        projections: 0,
-        signs: &[1.0, 1.0],
-        directions: &[-1.0, 0.0, 1.0, 0.0],
-        matrix: &[],
-    };
-    let records = [0, 1].map(|index| [0, 2, 0, 0, 0, 1, 0, 0, 0x80, 0x3F, index]);
+    let mut records = [RECORD; 2];
+    records[0][10] = 0;
     let lent: Vec<&[u8]> = records.iter().map(|record| &record[..]).collect();
     let root = 1.0 / 2.0f32.sqrt();
-    assert_eq!(scores(&setup, &[1.0, 3.0], &lent), Ok(vec![-4.0 * root, 4.0 * root]));
+    assert_eq!(scores(&SETUP, &[1.0, 3.0], &lent), Ok(vec![-4.0 * root, 4.0 * root]));
     let cut = [&records[0][..], &records[1][..8]];
     let refused = Err(Refusal { number: 13, place: 8 });
-    assert_eq!(scores(&setup, &[1.0, 3.0], &cut), refused);
+    assert_eq!(scores(&SETUP, &[1.0, 3.0], &cut), refused);
 }

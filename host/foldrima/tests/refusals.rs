@@ -1,10 +1,12 @@
 //! A refusal of each of document 01's kinds, with its place; outputs stay as they were.
 
 use foldrima::{
-    RadiusCodecProfileV1 as Profile, Range, Refusal, ScalarCodebook, Setup, TurboMode as Mode,
+    refusal, RadiusCodecProfileV1 as Profile, Range, Refusal, ScalarCodebook, Setup,
+    TurboMode as Mode,
 };
+use one_pair::RECORD;
 
-const RECORD: [u8; 11] = [0, 2, 0, 0, 0, 1, 0, 0, 0x80, 0x3F, 1];
+mod one_pair;
 
 fn refused<T>(number: u32, place: usize) -> Result<T, Refusal> {
     Err(Refusal { number, place })
@@ -20,7 +22,7 @@ const SETUP: Setup = Setup {
     matrix: &[1.0, 0.0, 0.0, 1.0, 1.0, 1.0],
 };
 
-const ONLY: Setup = Setup { mode: Mode::PolarOnly, bits: 1, projections: 0, matrix: &[], ..SETUP };
+const ONLY: Setup = Setup { signs: &[1.0, -1.0], ..one_pair::SETUP };
 
 #[test]
 fn by_whoever_sets_up() {
@@ -127,4 +129,35 @@ fn by_the_writer_of_a_code() {
     let wider = Setup { bits: 2, directions: &[0.5; 8], ..ONLY };
     assert_eq!(wider.inner_product_estimate(&[1.0; 2], &RECORD), refused(20, 0));
     assert_eq!(wider.decode_approximate(&RECORD, &mut [0.0; 2]), refused(20, 0));
+}
+
+#[test]
+fn in_words() {
+    let said = |number, place| Refusal { number, place }.to_string();
+    for (i, (name, number)) in refusal::NAMES.into_iter().enumerate() {
+        assert_eq!(number as usize, i + 1, "{name}");
+        assert!(said(number, 0).starts_with(&format!("refused ({number}): ")), "{name}");
+    }
+    let odd = "refused (3): odd dimension; the dimension: 7";
+    assert_eq!(said(refusal::ODD_DIMENSION, 7), odd);
+    assert_eq!(said(refusal::ZERO_DIMENSION, 0), "refused (2): dimension 0");
+    assert_eq!(said(21, 5), "refused with the unknown number 21 at 5");
+}
+
+/// The radii of an accepted linear record, as read, have a range that starts higher; within
+/// it the largest would read as infinite. As F32 they can always be written.
+#[test]
+fn a_linear_record_that_is_not_written_again() {
+    let linear = [1, 4, 0, 0, 0, 1, 0, 0, 0, 0, 0xFF, 0xFF, 0x7F, 0x7F, 0x81, 1, 0xFF, 0xFF, 0];
+    let header = foldrima::read_record(&linear).unwrap();
+    assert_eq!((header.profile, header.dim, header.bits), (Profile::BlockLinearU16, 4, 1));
+    let (mut radii, mut indices) = ([0.0; 2], [9; 2]);
+    foldrima::read_radii(&linear, &mut radii).unwrap();
+    foldrima::read_indices(&linear, &mut indices).unwrap();
+    assert_eq!(radii[1], f32::MAX);
+    let again = |profile, out: &mut [u8]| {
+        foldrima::write_record(profile, 4, 1, header.mode, 0, &radii, &indices, &[], out)
+    };
+    assert_eq!(again(header.profile, &mut [0xA5; 19]), refused(16, 1));
+    assert_eq!(again(Profile::F32, &mut [0xA5; 15]), Ok(()));
 }

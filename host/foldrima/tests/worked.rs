@@ -1,8 +1,10 @@
 //! Document 01's worked cases P1 to P13, through the safe calls.
 
 use foldrima::{RadiusCodecProfileV1 as Profile, Range, Refusal, Setup, TurboMode as Mode};
+use one_pair::{RECORD as P12, SETUP};
 
-const P12: [u8; 11] = [0, 2, 0, 0, 0, 1, 0, 0, 0x80, 0x3F, 1];
+mod one_pair;
+
 const P13: [u8; 16] = [2, 2, 0, 0, 0, 1, 3, 0, 0, 0, 0, 0, 0x80, 0x3F, 1, 5];
 
 fn packed(indices: &[u16], bits: u8) -> Vec<u8> {
@@ -97,15 +99,7 @@ fn p12_and_p13_records() {
 fn scores_of_one_pair() {
     // Index 1 of 1 bit points along (1, 0): the polar sum is the first rotated value.
     let root = 1.0 / 2.0f32.sqrt();
-    let setup = Setup {
-        mode: Mode::PolarOnly,
-        dim: 2,
-        bits: 1,
-        projections: 0,
-        signs: &[1.0, 1.0],
-        directions: &[-1.0, 0.0, 1.0, 0.0],
-        matrix: &[],
-    };
+    let setup = SETUP;
     assert_eq!(setup.check(), Ok(()));
     let query = [1.0, 3.0];
     assert_eq!(setup.inner_product_estimate(&query, &P12), Ok(4.0 * root));

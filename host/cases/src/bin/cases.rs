@@ -1,8 +1,4 @@
-//! `cases run` puts cases to the oracle and holds its answers against document 01's
-//! refusals; `cases largest` does so at the limits of a setup; `cases list` prints small
-//! cases with what is expected; `cases replay` prints a few of each kind; `cases differ`
-//! (with the feature `capi`) holds the port against what is expected. Options: --seed N,
-//! --count N (for each call), --call NAME.
+//! The oracle and the port on made-up cases; `cases --help` says how to ask.
 
 use std::collections::BTreeMap;
 
@@ -18,26 +14,51 @@ use cases::{
 /// Longer lines are not worth writing down.
 const LONGEST: usize = 700;
 
+const HELP: &str = "\
+cases COMMAND [--seed N] [--count N] [--call NAME]
+
+  run      puts cases to the Rust and holds its answers against document 01's refusals
+  largest  the same at the limits of a setup, 4,096 x 4,096
+  list     prints small cases with the answer that is expected
+  replay   prints a few of them for each kind of answer
+  differ   holds the port against what is expected; ends with 1 where one differs
+           (built with --features capi, and CAPI_DIR set to the folder of libcapi.a)
+
+  --seed N     where the generator starts (1)
+  --count N    cases for each call (1000)
+  --call NAME  this call alone, of those below (all)
+";
+
 struct Options {
     seed: u64,
     count: usize,
     call: Option<String>,
 }
 
-fn options() -> (String, Options) {
-    let mut found = Options { seed: 1, count: 1000, call: None };
-    let mut args = std::env::args().skip(1);
-    let what = args.next().unwrap_or_else(|| "run".into());
-    while let Some(name) = args.next() {
-        let value = args.next().expect("an option has a value");
-        match name.as_str() {
-            "--seed" => found.seed = value.parse().expect("a seed is a number"),
-            "--count" => found.count = value.parse().expect("a count is a number"),
-            "--call" => found.call = Some(value),
-            other => panic!("no option {other}"),
+impl Options {
+    /// The command and its options, or what is wrong with them.
+    fn read(mut args: impl Iterator<Item = String>) -> Result<(String, Self), String> {
+        let mut found = Self { seed: 1, count: 1000, call: None };
+        let what = args.next().ok_or("no command")?;
+        while let Some(name) = args.next() {
+            let value = args.next().ok_or(format!("{name} has no value"))?;
+            let wrong = format!("{name} takes a number, not {value}");
+            match name.as_str() {
+                "--seed" => found.seed = value.parse().map_err(|_| wrong)?,
+                "--count" => found.count = value.parse().map_err(|_| wrong)?,
+                "--call" if CALLS.contains(&value.as_str()) => found.call = Some(value),
+                "--call" => return Err(format!("no call {value}")),
+                _ => return Err(format!("no option {name}")),
+            }
         }
+        Ok((what, found))
     }
-    (what, found)
+}
+
+/// Ends with one line that says what is wrong.
+fn wrong(why: &str) -> ! {
+    eprintln!("cases: {why}; see cases --help");
+    std::process::exit(2)
 }
 
 /// One line: the case, the Rust's answer, and what document 01 asks for.
@@ -68,7 +89,11 @@ fn kind(answer: &Answer, refused: Option<Refusal>) -> String {
 }
 
 fn main() {
-    let (what, options) = options();
+    if std::env::args().skip(1).any(|word| word == "--help") {
+        print!("{HELP}\ncalls: {}\n", CALLS.join(", "));
+        return;
+    }
+    let (what, options) = Options::read(std::env::args().skip(1)).unwrap_or_else(|why| wrong(&why));
     hush();
     let chosen: Vec<usize> = (0..CALLS.len())
         .filter(|call| options.call.as_deref().is_none_or(|name| CALLS[*call] == name))
@@ -80,7 +105,9 @@ fn main() {
         "largest" => largest(&options),
         #[cfg(feature = "capi")]
         "differ" => differ(&options, &chosen),
-        other => eprintln!("no command {other}: run, largest, list, replay, differ"),
+        #[cfg(not(feature = "capi"))]
+        "differ" => wrong("differ is built with --features capi only"),
+        other => wrong(&format!("no command {other}")),
     }
 }
 

@@ -1,0 +1,135 @@
+/*
+ * How much stack the calls take at the largest setup, dimension and projections 4,096: each runs in a thread whose stack was painted before.
+ *
+ *     cc -O2 -I include host/c/stack.c target/staticlib/libcapi.a -lpthread -lm -o stack && ./stack
+ *
+ * Ends with 1 where a call takes more than the 96 KB that the header names.
+ */
+#include <math.h>
+#include <pthread.h>
+#include <stdio.h>
+#include <stdlib.h>
+#include <string.h>
+
+#include "foldrima.h"
+
+enum { DIM = 4096, PAIRS = DIM / 2, BITS = 16, POLAR = BITS - 1, TABLE = 2 << POLAR, SIZE = 1 << 20, MOST = 96 * 1024 };
+
+static float signs[DIM], directions[TABLE], query[DIM], rotated[DIM], projected[DIM], radii[PAIRS], floats[DIM], *matrix;
+static uint16_t indices[PAIRS];
+static int8_t sketch[DIM];
+static uint8_t payload[4 * PAIRS], packed[2 * PAIRS], record[4 * PAIRS + 2 * PAIRS + DIM];
+static size_t record_len, packed_len;
+static uint32_t number;
+static size_t place;
+
+#define SETUP FOLDRIMA_POLAR_WITH_QJL, DIM, BITS, DIM
+#define TABLES signs, DIM, directions, TABLE, matrix, (size_t)DIM * DIM
+
+static void nothing(void) { number = 0; }
+static void pack(void) { foldrima_pack_indices(indices, PAIRS, POLAR, packed, packed_len, &number, &place); }
+static void unpack(void) { foldrima_unpack_indices(packed, packed_len, PAIRS, POLAR, indices, PAIRS, &number, &place); }
+static void pack_signs(void) { foldrima_pack_signs(sketch, DIM, packed, DIM / 8, &number, &place); }
+static void unpack_signs(void) { foldrima_unpack_signs(packed, DIM / 8, DIM, sketch, DIM, &number, &place); }
+static void apply(void) { foldrima_apply(DIM, signs, DIM, query, DIM, floats, DIM, &number, &place); }
+static void apply_inverse(void) { foldrima_apply_inverse(DIM, signs, DIM, query, DIM, floats, DIM, &number, &place); }
+static void compress(void) { float min, max; foldrima_compress(radii, PAIRS, FOLDRIMA_BLOCK_LINEAR_U16, payload, 2 * PAIRS, &number, &place, &min, &max); }
+static void decompress(void) { foldrima_decompress(FOLDRIMA_BLOCK_LINEAR_U16, PAIRS, 0.0f, 1.0f, payload, 2 * PAIRS, radii, PAIRS, &number, &place); }
+static void codebook(void) { uint16_t value; foldrima_quantize(BITS, 0.0f, 1.0f, 0.5f, &number, &place, &value); }
+static void check_setup(void) { foldrima_check_setup(SETUP, TABLES, &number, &place); }
+static void make_sketch(void) { foldrima_sketch(SETUP, TABLES, query, DIM, sketch, DIM, &number, &place); }
+static void sketch_score(void) { float value; foldrima_sketch_score(SETUP, TABLES, query, DIM, sketch, DIM, &number, &place, &value); }
+static void prepare(void) { foldrima_prepare_query(SETUP, TABLES, query, DIM, rotated, DIM, projected, DIM, &number, &place); }
+static void write_record(void)
+{
+    foldrima_write_record(FOLDRIMA_BLOCK_LINEAR_U16, DIM, POLAR, FOLDRIMA_POLAR_WITH_QJL, DIM, radii, PAIRS, indices, PAIRS, sketch, DIM, record,
+                          record_len, &number, &place);
+}
+static void read_record(void)
+{
+    uint8_t mode, profile, bits;
+    size_t dim, projections;
+    float min, max;
+    foldrima_read_record(record, record_len, &number, &place, &mode, &profile, &dim, &bits, &projections, &min, &max);
+}
+static void radii_part(void) { size_t start, count; foldrima_radii_part(record, record_len, &start, &count); }
+static void read_radii(void) { foldrima_read_radii(record, record_len, floats, PAIRS, &number, &place); }
+static void read_indices(void) { foldrima_read_indices(record, record_len, indices, PAIRS, &number, &place); }
+static void read_signs(void) { foldrima_read_signs(record, record_len, sketch, DIM, &number, &place); }
+static void score(void) { float value; foldrima_inner_product_estimate(SETUP, TABLES, query, DIM, record, record_len, &number, &place, &value); }
+static void prepared_score(void)
+{
+    float value;
+    foldrima_inner_product_estimate_prepared(SETUP, directions, TABLE, rotated, DIM, projected, DIM, record, record_len, &number, &place, &value);
+}
+static void distance(void) { float value; foldrima_l2_distance_estimate(SETUP, TABLES, query, DIM, record, record_len, &number, &place, &value); }
+static void decode(void) { foldrima_decode_approximate(SETUP, TABLES, record, record_len, floats, DIM, &number, &place); }
+
+static void *run(void *call)
+{
+    (*(void (**)(void))call)();
+    return NULL;
+}
+
+/* How many bytes of a painted stack a thread has written to that makes this call. */
+static size_t used(unsigned char *stack, void (*call)(void))
+{
+    pthread_attr_t attributes;
+    pthread_t thread;
+    size_t kept = 0;
+    memset(stack, 0xA5, SIZE);
+    pthread_attr_init(&attributes);
+    if (pthread_attr_setstack(&attributes, stack, SIZE) || pthread_create(&thread, &attributes, run, &call)) {
+        fprintf(stderr, "no thread\n");
+        exit(2);
+    }
+    pthread_join(thread, NULL);
+    while (stack[kept] == 0xA5)
+        kept++;
+    return SIZE - kept;
+}
+
+int main(void)
+{
+    static const struct { const char *name; void (*call)(void); } calls[] = {
+        {"pack_indices", pack}, {"unpack_indices", unpack}, {"pack_signs", pack_signs}, {"unpack_signs", unpack_signs}, {"apply", apply},
+        {"apply_inverse", apply_inverse}, {"compress", compress}, {"decompress", decompress}, {"quantize", codebook}, {"check_setup", check_setup},
+        {"sketch", make_sketch}, {"sketch_score", sketch_score}, {"prepare_query", prepare}, {"write_record", write_record},
+        {"read_record", read_record}, {"radii_part", radii_part}, {"read_radii", read_radii}, {"read_indices", read_indices},
+        {"read_signs", read_signs}, {"inner_product_estimate", score}, {"inner_product_estimate_prepared", prepared_score},
+        {"l2_distance_estimate", distance}, {"decode_approximate", decode},
+    };
+    unsigned char *stack = aligned_alloc(4096, SIZE);
+    int failed = 0;
+    matrix = malloc(sizeof(float) * DIM * DIM);
+    if (!stack || !matrix)
+        return 2;
+    for (size_t i = 0; i < (size_t)DIM * DIM; i++)
+        matrix[i] = i % 3 ? 0.5f : -0.25f;
+    for (size_t i = 0; i < TABLE / 2; i++) {
+        float angle;
+        foldrima_dequantize_angle(POLAR, (uint16_t)i, &number, &place, &angle);
+        directions[2 * i] = cosf(angle);
+        directions[2 * i + 1] = sinf(angle);
+    }
+    for (size_t i = 0; i < DIM; i++) {
+        signs[i] = i % 3 ? 1.0f : -1.0f;
+        sketch[i] = i % 5 ? 1 : -1;
+        query[i] = (float)i / DIM;
+        radii[i / 2] = 1.0f + (float)(i / 2);
+        indices[i / 2] = (uint16_t)(i / 2);
+    }
+    foldrima_packed_len(PAIRS, POLAR, &number, &place, &packed_len);
+    record_len = 0;
+    foldrima_write_record(FOLDRIMA_BLOCK_LINEAR_U16, DIM, POLAR, FOLDRIMA_POLAR_WITH_QJL, DIM, radii, PAIRS, indices, PAIRS, sketch, DIM, record, 0,
+                          &number, &place);
+    record_len = place;
+    write_record();
+    const size_t thread = used(stack, nothing);
+    for (size_t i = 0; i < sizeof calls / sizeof *calls; i++) {
+        const size_t bytes = used(stack, calls[i].call) - thread;
+        failed |= number != 0 || bytes > MOST;
+        printf("%-34s %6zu bytes%s%s\n", calls[i].name, bytes, number ? ", REFUSED" : "", bytes > MOST ? ", TOO MANY" : "");
+    }
+    return failed;
+}
