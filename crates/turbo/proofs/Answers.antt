@@ -24,8 +24,8 @@ use Rattle.turbo_order.specs.Scores.{accountOf, polarPart, scoreFrom, scoreOf}
 use Rattle.turbo_query.specs.Query.{rotatedQuery, projectedQuery, preparedChecks, queryChecks, prepareChecks, prepareRotatedOf, prepareProjectedOf}
 use Rattle.turbo_opening.specs.Opening.{contentOf, openChecks}
 use Rattle.turbo.specs.Scoring.{recordScore, recordScoreChecks}
-use Rattle.turbo.specs.Inner.{joined, recordScoreOf, lengthsAndValues}
-use Rattle.turbo.specs.Estimates.{readingChecks, innerProductEstimatePhasedOf, estimate, scoredChecks, estimateChecks, innerProductEstimateOf, readyChecks, innerProductEstimatePreparedOf}
+use Rattle.turbo.specs.Inner.{joined, recordScoreOf}
+use Rattle.turbo.specs.Estimates.{readingChecks, innerProductEstimatePhasedOf, estimate, scoredChecks, estimateChecks, innerProductEstimateOf, readyChecks, innerProductEstimatePreparedOf, lengthsAndValues}
 use Rattle.turbo.specs.Distance.{apart, cutAtZero, distance, l2DistanceEstimateOf}
 use Rattle.turbo.proofs.Demand.{scored-estimate}
 

@@ -24,8 +24,7 @@ use Rattle.setup.proofs.Accepted.{setup-scalars, setup-directions}
 use Rattle.qjl.specs.Sketch.{vectorChecks}
 use Rattle.qjl.proofs.Answers.{vector-setup, vector-rowed}
 use Rattle.turbo_query.specs.Query.{rotatedQuery, projectedQuery, preparedChecks, queryChecks, prepareChecks, prepareRotatedOf, prepareProjectedOf}
-use Rattle.turbo.specs.Estimates.{readyChecks, innerProductEstimateOf, innerProductEstimatePreparedOf}
-use Rattle.turbo.specs.Inner.{lengthsAndValues}
+use Rattle.turbo.specs.Estimates.{readyChecks, innerProductEstimateOf, innerProductEstimatePreparedOf, lengthsAndValues}
 use Rattle.turbo.proofs.Answers.{estimate-passed, ready-rest, prepared-passed}
 use Rattle.rounding.proofs.Rows.{projected-length}
 

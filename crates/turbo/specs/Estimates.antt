@@ -51,16 +51,18 @@ innerProductEstimatePhasedOf s l query bytes = first (queryChecks s l query) (va
 
 -- ---- by a prepared query, which needs neither signs nor matrix
 
--- of the setup the scalars and the directions; then the two lengths, and 11 for either
-abbrev pub readyChecks : Setup → List Float → List Float → List Float → List Check
-readyChecks s directions rotated projected =
-    scalarChecks s
-    ++ directionChecks s directions
-    ++ (wrongInput (length rotated) (s .dim)
+-- the two lengths, then 11 for either
+abbrev pub lengthsAndValues : Setup → List Float → List Float → List Check
+lengthsAndValues s rotated projected =
+    wrongInput (length rotated) (s .dim)
     ∷ wrongInput (length projected) (countedProjectionsOf s)
     ∷ each badValue 11 rotated
     ∷ each badValue 11 projected
-    ∷ [])
+    ∷ []
+
+-- of the setup the scalars and the directions, then what is asked of the query
+abbrev pub readyChecks : Setup → List Float → List Float → List Float → List Check
+readyChecks s directions rotated projected = scalarChecks s ++ directionChecks s directions ++ lengthsAndValues s rotated projected
 
 unfoldable pub innerProductEstimatePreparedOf : Setup → List Float → List Float → List Float → List ℕ → Answer Float
 innerProductEstimatePreparedOf s directions rotated projected bytes =

@@ -1,13 +1,10 @@
 -- What private functions of this crate tell their callers; no public promise is stated by these. Assumes nothing.
 use Prim.Native.Nat.{ℕ}
 use mathlib.Core.Path.{_≡_}
-use mathlib.Core.List.{List, [], _∷_}
-use lib.ListN.{length}
+use mathlib.Core.List.{List}
 use lib.Ieee.{Float}
-use Rattle.error.specs.Answer.{Answer, value, refused, Check, first, each}
-use Rattle.error.specs.Checks.{wrongInput, badValue}
+use Rattle.error.specs.Answer.{Answer, value, refused, first}
 use Rattle.setup.specs.declared.Setup.{Setup}
-use Rattle.setup.specs.Setups.{countedProjectionsOf}
 use Rattle.packed.specs.Reading.{readRecordOf}
 use Rattle.turbo.specs.declared.Measured.{Measured}
 use Rattle.turbo.specs.declared.Measured.the-variants.{Score, BeforeReading, FromReading}
@@ -33,12 +30,3 @@ joined (refused n p) = refused n p
 -- the answer from record reading on
 unfoldable pub recordScoreOf : Setup → List Float → List Float → List Float → List ℕ → Answer Float
 recordScoreOf s directions rotated projected bytes = first (recordScoreChecks s directions rotated projected bytes) (value (recordScore s directions rotated projected bytes))
-
--- the checks of a prepared query that follow those of its setup
-abbrev pub lengthsAndValues : Setup → List Float → List Float → List Check
-lengthsAndValues s rotated projected =
-    wrongInput (length rotated) (s .dim)
-    ∷ wrongInput (length projected) (countedProjectionsOf s)
-    ∷ each badValue 11 rotated
-    ∷ each badValue 11 projected
-    ∷ []

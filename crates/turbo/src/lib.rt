@@ -23,9 +23,9 @@ ghost use Rattle.packed.specs.Fields.{projectionsOf};
 ghost use Rattle.packed.specs.Reading.{readRecordOf, radiiOf, indicesOf, signsOf};
 ghost use Rattle.turbo_opening.specs.Inner.{openedOf};
 ghost use Rattle.turbo.specs.Scoring.{recordScore};
-ghost use Rattle.turbo.specs.Estimates.{innerProductEstimateOf, saysPhased, innerProductEstimatePhasedOf, readyChecks, innerProductEstimatePreparedOf};
+ghost use Rattle.turbo.specs.Estimates.{innerProductEstimateOf, saysPhased, innerProductEstimatePhasedOf, readyChecks, innerProductEstimatePreparedOf, lengthsAndValues};
 ghost use Rattle.turbo.specs.Distance.{squaredNorm, cutAtZero, l2DistanceEstimateOf};
-ghost use Rattle.turbo.specs.Inner.{saysMeasured, HeaderRead, joined, recordScoreOf, lengthsAndValues};
+ghost use Rattle.turbo.specs.Inner.{saysMeasured, HeaderRead, joined, recordScoreOf};
 ghost use Rattle.turbo.specs.Order.{Demand};
 
 // A score with its value, or a refusal with its phase: before the record is read, or from its reading on.
