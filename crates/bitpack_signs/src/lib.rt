@@ -8,7 +8,7 @@ ghost use Prim.Native.Nat.{_+_, _-_, _*_, _<_, _≤_};
 ghost use mathlib.Core.Path.{_≡_};
 ghost use mathlib.Core.List.{_++_, map};
 ghost use lib.ListN.{length, take, drop};
-ghost use Rattle.error.specs.Answer.{place, done, after};
+ghost use Rattle.error.specs.Answer.{done, after};
 ghost use Rattle.error.specs.Outcomes.{says};
 ghost use Rattle.error.specs.Sweep.{clear};
 ghost use Rattle.digits.specs.Digits.{number, digits};
@@ -93,7 +93,7 @@ fn all_signs(signs: &[i8]) -> bool
 
 // The place of the first number that is neither -1 nor 1, found one by one, or how many numbers there are.
 fn find_no_sign(signs: &[i8]) -> usize
-    ensures { λ r. ⌜ r ≡ place badSketchSign (now (signs .entry)) ⌝ }
+    ensures { λ r. ⌜ r ≡ firstBadSketchSignOf (now (signs .entry)) ⌝ }
 {
     let mut i = 0;
     while i < signs.len() {

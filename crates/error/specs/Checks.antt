@@ -1,11 +1,11 @@
 -- The checks that more than one crate makes, as document 01 numbers them. Of two lengths the one that was found comes first. Assumes nothing.
 use Prim.Native.Nat.{ℕ, _^_}
 use mathlib.Core.Bool.{Bool, not, _||_}
-use mathlib.Core.List.{[], _∷_}
+use mathlib.Core.List.{List, [], _∷_}
 use lib.Dec.{leb, ltb, eqb}
 use lib.Ieee.{Float}
 use lib.Ieee.Scale.{finite}
-use Rattle.error.specs.Answer.{Answer, value, Check, check, first}
+use Rattle.error.specs.Answer.{Answer, value, Check, check, first, place}
 
 -- whether two numbers are not equal
 abbrev pub differs : ℕ → ℕ → Bool
@@ -30,6 +30,10 @@ wrongIndex bits index = check (leb (2 ^ bits) index) 15 0
 -- '11: a value is not finite', and '9: a matrix entry is not finite'
 unfoldable pub badValue : Float → Bool
 badValue x = not (finite x)
+
+-- the index of the first value that is not finite, or their number where there is none
+abbrev pub firstNonFiniteOf : List Float → ℕ
+firstNonFiniteOf values = place badValue values
 
 -- '12: a score or distance is not finite. Place 0.'
 abbrev pub wrongScore : Float → Check

@@ -3,8 +3,7 @@
 // Ported from turbo-quant/src/error.rs and changed: an error is a number and a place.
 
 ghost use mathlib.Core.Path.{_≡_};
-ghost use Rattle.error.specs.Answer.{place};
-ghost use Rattle.error.specs.Checks.{badValue, finiteScoreOf};
+ghost use Rattle.error.specs.Checks.{badValue, firstNonFiniteOf, finiteScoreOf};
 ghost use Rattle.error.specs.Outcomes.{saysScore};
 ghost use Rattle.error.specs.Sweep.{clear};
 
@@ -62,6 +61,7 @@ pub enum Length {
     Bytes(usize),
     Refused { number: u32, place: usize },
 }
+
 // A score or a distance with its value, or a refusal.
 pub enum Scored {
     Score(f32),
@@ -98,7 +98,7 @@ pub fn all_finite(values: &[f32]) -> bool
 
 // The index of the first value that is not finite, or their number where there is none.
 pub fn first_non_finite(values: &[f32]) -> usize
-    ensures { λ r. ⌜ r ≡ place badValue (now (values .entry)) ⌝ }
+    ensures { λ r. ⌜ r ≡ firstNonFiniteOf (now (values .entry)) ⌝ }
 {
     if all_finite(values) {
         return values.len();
@@ -108,7 +108,7 @@ pub fn first_non_finite(values: &[f32]) -> usize
 
 // The index of the first value that is not finite, one by one, or their number where there is none.
 fn find_non_finite(values: &[f32]) -> usize
-    ensures { λ r. ⌜ r ≡ place badValue (now (values .entry)) ⌝ }
+    ensures { λ r. ⌜ r ≡ firstNonFiniteOf (now (values .entry)) ⌝ }
 {
     let mut i = 0;
     while i < values.len() {

@@ -11,6 +11,10 @@ posZero = fin false 0 (pos 0)
 abbrev pub one : Bool → Float
 one s = fin s 1 (pos 0)
 
+-- 2.0
+abbrev pub two : Float
+two = fin false 1 (pos 1)
+
 -- 'PI is 40490FDB.' (document 01)
 unfoldable pub pi : Float
 pi = ofBits binary32 0x4049_0FDB

@@ -20,7 +20,7 @@ use Rattle.setup.specs.declared.TurboMode.the-variants.{PolarOnly, PolarWithQjl
 use Rattle.packed.specs.declared.Header.{Header}
 use Rattle.radius.specs.Radii.{badRadius}
 use Rattle.packed.specs.Fields.{mapOf, hasRange, hasSigns, dimOf, bitsOf, boundsOf, projectionsOf}
-use Rattle.packed.specs.Layout.{headerLength, totalOf, headerOf}
+use Rattle.packed.specs.Layout.{headerLength, recordLength, headerOf}
 use Rattle.packed.specs.Radii.{badBounds, badBoundsFor}
 use Rattle.packed.specs.Reading.{radiiOf, badPolarBits, recordChecks, readRecordOf}
 use Rattle.setup.specs.Checks.{badProjections}
@@ -88,7 +88,7 @@ module _ (bytes : List ℕ) {header : Header} (read : readRecordOf bytes ≡ val
         residual-bits = bits .1 .1;
         header = ltb-false (length bytes) (headerLength (mapOf bytes)) (all .1 .1 .1 .1 .1 .1 .0);
         projections = projections-told (hasSigns (mapOf bytes)) (projectionsOf bytes) (all .1 .1 .1 .1 .1 .1 .1 .0);
-        total = differs-same (length bytes) (totalOf bytes) (all .1 .1 .1 .1 .1 .1 .1 .1 .0);
+        total = differs-same (length bytes) (recordLength bytes) (all .1 .1 .1 .1 .1 .1 .1 .1 .0);
         bounds = bounds-told (hasRange (mapOf bytes)) (boundsOf bytes) (all .1 .1 .1 .1 .1 .1 .1 .1 .1 .0);
         radii = each-clear badRadius (radiiOf bytes) nan (all .1 .1 .1 .1 .1 .1 .1 .1 .1 .1 .0);
         indices = all .1 .1 .1 .1 .1 .1 .1 .1 .1 .1 .1 .0;
@@ -121,7 +121,7 @@ accepted-reads bytes a =
                   (
                     projections-pass (hasSigns (mapOf bytes)) (projectionsOf bytes) (a .projections),
                     (
-                      differs-not (length bytes) (totalOf bytes) (a .total),
+                      differs-not (length bytes) (recordLength bytes) (a .total),
                       (
                         bounds-pass (hasRange (mapOf bytes)) (boundsOf bytes) (a .bounds),
                         (

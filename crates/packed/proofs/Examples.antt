@@ -2,6 +2,7 @@
 -- in the order of the checks. Bytes are hexadecimal, as there. Assumes nothing.
 use Prim.Native.Nat.{ℕ}
 use mathlib.Core.Path.{_≡_, refl}
+use mathlib.Core.Bool.{false}
 use mathlib.Core.List.{List, [], _∷_}
 use lib.Count.{ones, onesIn}
 use lib.IntN.{pos, negsuc}
@@ -11,8 +12,8 @@ use Rattle.digits.specs.Digits.{number, digits}
 use Rattle.float.specs.Bytes.{ofLeBytes}
 use Rattle.bitpack.specs.Padding.{badPadding}
 use Rattle.lists.specs.Chunks.{chunks}
-use Rattle.radius.specs.Radii.{zeroFloat, oneFloat}
-use Rattle.radius.specs.Linear.{restored, linearRadius}
+use Rattle.float.specs.Constants.{posZero, one}
+use Rattle.radius.specs.Linear.{radiusOf, linearRadius}
 use Rattle.radius.specs.declared.RadiusCodecProfileV1.the-variants.{F32}
 use Rattle.setup.specs.declared.TurboMode.the-variants.{PolarOnly, PolarWithQjl}
 use Rattle.packed.specs.Fields.{boundsOf, projectionsOf}
@@ -23,11 +24,11 @@ use Rattle.packed.specs.Reading.{radiiOf, indicesOf, signsOf, readRecord
 abbrev pub bytes12 : List ℕ
 bytes12 = 0x00 ∷ 0x02 ∷ 0x00 ∷ 0x00 ∷ 0x00 ∷ 0x01 ∷ 0x00 ∷ 0x00 ∷ 0x80 ∷ 0x3F ∷ 0x01 ∷ []
 
-pub p12 : readRecordOf bytes12 ≡ value (record { mode = PolarOnly; profile = F32; dim = 2; bits = 1; projections = 0; range = record { min = zeroFloat; max = zeroFloat }; «radii_start» = 6; «indices_start» = 10; «signs_start» = 11; end = 11 })
+pub p12 : readRecordOf bytes12 ≡ value (record { mode = PolarOnly; profile = F32; dim = 2; bits = 1; projections = 0; range = record { min = posZero; max = posZero }; «radii_start» = 6; «indices_start» = 10; «signs_start» = 11; end = 11 })
 unfolding readRecordOf headerOf radiiOf radiiBytes indicesBytes signsBytes boundsOf projectionsOf number ones onesIn place chunks ofLeBytes ofBits lt badPadding
 p12 = refl
 
-pub p12-radii : radiiOf bytes12 ≡ oneFloat ∷ []
+pub p12-radii : radiiOf bytes12 ≡ one false ∷ []
 unfolding radiiOf radiiBytes boundsOf number chunks ofLeBytes ofBits
 p12-radii = refl
 
@@ -43,11 +44,11 @@ p12-signs = refl
 abbrev pub bytes13 : List ℕ
 bytes13 = 0x02 ∷ 0x02 ∷ 0x00 ∷ 0x00 ∷ 0x00 ∷ 0x01 ∷ 0x03 ∷ 0x00 ∷ 0x00 ∷ 0x00 ∷ 0x00 ∷ 0x00 ∷ 0x80 ∷ 0x3F ∷ 0x01 ∷ 0x05 ∷ []
 
-pub p13 : readRecordOf bytes13 ≡ value (record { mode = PolarWithQjl; profile = F32; dim = 2; bits = 1; projections = 3; range = record { min = zeroFloat; max = zeroFloat }; «radii_start» = 10; «indices_start» = 14; «signs_start» = 15; end = 16 })
+pub p13 : readRecordOf bytes13 ≡ value (record { mode = PolarWithQjl; profile = F32; dim = 2; bits = 1; projections = 3; range = record { min = posZero; max = posZero }; «radii_start» = 10; «indices_start» = 14; «signs_start» = 15; end = 16 })
 unfolding readRecordOf headerOf radiiOf radiiBytes indicesBytes signsBytes boundsOf projectionsOf number ones onesIn place chunks ofLeBytes ofBits lt badPadding
 p13 = refl
 
-pub p13-radii : radiiOf bytes13 ≡ oneFloat ∷ []
+pub p13-radii : radiiOf bytes13 ≡ one false ∷ []
 unfolding radiiOf radiiBytes boundsOf number chunks ofLeBytes ofBits
 p13-radii = refl
 
@@ -66,12 +67,12 @@ linear rest = 0x01 ∷ 0x02 ∷ 0x00 ∷ 0x00 ∷ 0x00 ∷ 0x01 ∷ rest
 
 -- 'min 1.5 × 2^104, max the largest f32, value 65,535': 16
 pub infinite-radius : readRecordOf (linear (0x00 ∷ 0x00 ∷ 0xC0 ∷ 0x73 ∷ 0xFF ∷ 0xFF ∷ 0x7F ∷ 0x7F ∷ 0xFF ∷ 0xFF ∷ 0x01 ∷ [])) ≡ refused 16 0
-unfolding readRecordOf radiiOf radiiBytes boundsOf projectionsOf number ones onesIn place chunks ofLeBytes ofBits lt restored linearRadius add sub mul div ofInt
+unfolding readRecordOf radiiOf radiiBytes boundsOf projectionsOf number ones onesIn place chunks ofLeBytes ofBits lt radiusOf linearRadius add sub mul div ofInt
 infinite-radius = refl
 
 -- the value 0 of the same range is fine
 pub finite-radius : radiiOf (linear (0x00 ∷ 0x00 ∷ 0xC0 ∷ 0x73 ∷ 0xFF ∷ 0xFF ∷ 0x7F ∷ 0x7F ∷ 0x00 ∷ 0x00 ∷ 0x01 ∷ [])) ≡ ofBits binary32 0x73C0_0000 ∷ []
-unfolding radiiOf radiiBytes boundsOf number chunks ofLeBytes ofBits restored linearRadius add sub mul div ofInt
+unfolding radiiOf radiiBytes boundsOf number chunks ofLeBytes ofBits radiusOf linearRadius add sub mul div ofInt
 finite-radius = refl
 
 -- 'min above max': from 1 to 0

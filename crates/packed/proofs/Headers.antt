@@ -17,7 +17,7 @@ use Rattle.radius.specs.declared.RadiusCodecProfileV1.the-variants.{F32, BlockL
 use Rattle.setup.specs.declared.TurboMode.{TurboMode}
 use Rattle.setup.specs.declared.TurboMode.the-variants.{PolarOnly, PolarWithQjl}
 use Rattle.setup.specs.Setups.{byMode}
-use Rattle.packed.specs.Fields.{mapOf, hasSigns, modeOf, wordAt, projectionsAt, dimOf, bitsOf, projectionsOf}
+use Rattle.packed.specs.Fields.{mapOf, hasSigns, modeOf, wordAt, projectionsStart, dimOf, bitsOf, projectionsOf}
 use Rattle.packed.specs.Layout.{headerLength}
 use Rattle.packed.specs.Reading.{wrongSize, badRecordDimension, badPolarBits, shapeChecks, headerChecks}
 use Rattle.setup.specs.Checks.{badProjections}
@@ -67,7 +67,7 @@ either-most false m e = omega arith
 
 pub projections-most : (bytes : List ℕ) → Usable bytes → projectionsOf bytes ≤ 4096
 unfolding projectionsOf
-projections-most bytes u = either-most (hasSigns (mapOf bytes)) (wordAt bytes (projectionsAt (mapOf bytes))) (u .projections)
+projections-most bytes u = either-most (hasSigns (mapOf bytes)) (wordAt bytes (projectionsStart (mapOf bytes))) (u .projections)
 
 pub width-most : (profile : RadiusCodecProfileV1) → widthOf profile ≤ 4
 width-most F32 = omega arith

@@ -11,7 +11,7 @@ use Rattle.radius.specs.Radii.{badRadius}
 use Rattle.packed.specs.Fields.{mapOf, profileOf, boundsOf, projectionsOf}
 use Rattle.packed.specs.Radii.{badBoundsFor}
 use Rattle.packed.specs.Reading.{radiiOf}
-use Rattle.packed.specs.Layout.{pairsOf, indicesUsed, radiiAt, radiiLength, indicesAt, indicesLength, signsAt, signsLength, totalOf, partAt, radiiBytes, indicesBytes, signsBytes, headerOf}
+use Rattle.packed.specs.Layout.{pairsOf, indicesUsed, radiiStart, radiiLength, indicesStart, indicesLength, signsStart, signsLength, recordLength, partAt, radiiBytes, indicesBytes, signsBytes, headerOf}
 use Rattle.packed.specs.declared.Header.{Header}
 
 -- from a place to the end of a part that starts there
@@ -26,15 +26,15 @@ part-length bytes at long h = length-take-le long (drop at bytes) (rw length-dro
 module _ (bytes : List ℕ) {header : Header} (is : header ≡ headerOf bytes) where
   pub radii-part : take (header .«indices_start» - header .«radii_start») (drop (header .«radii_start») bytes) ≡ radiiBytes bytes
   unfolding headerOf radiiBytes
-  radii-part = ap (λ (h : Header). take (h .«indices_start» - h .«radii_start») (drop (h .«radii_start») bytes)) is ∙ part-between bytes (radiiAt bytes) (radiiLength bytes)
+  radii-part = ap (λ (h : Header). take (h .«indices_start» - h .«radii_start») (drop (h .«radii_start») bytes)) is ∙ part-between bytes (radiiStart bytes) (radiiLength bytes)
 
   pub indices-part : take (header .«signs_start» - header .«indices_start») (drop (header .«indices_start») bytes) ≡ indicesBytes bytes
   unfolding headerOf indicesBytes
-  indices-part = ap (λ (h : Header). take (h .«signs_start» - h .«indices_start») (drop (h .«indices_start») bytes)) is ∙ part-between bytes (indicesAt bytes) (indicesLength bytes)
+  indices-part = ap (λ (h : Header). take (h .«signs_start» - h .«indices_start») (drop (h .«indices_start») bytes)) is ∙ part-between bytes (indicesStart bytes) (indicesLength bytes)
 
   pub signs-part : take (header .end - header .«signs_start») (drop (header .«signs_start») bytes) ≡ signsBytes bytes
   unfolding headerOf signsBytes
-  signs-part = ap (λ (h : Header). take (h .end - h .«signs_start») (drop (h .«signs_start») bytes)) is ∙ part-between bytes (signsAt bytes) (signsLength bytes)
+  signs-part = ap (λ (h : Header). take (h .end - h .«signs_start») (drop (h .«signs_start») bytes)) is ∙ part-between bytes (signsStart bytes) (signsLength bytes)
 
 -- the header's places, in their order
 pub record Ordered (header : Header) (total : ℕ) : Type 0 where
@@ -43,24 +43,24 @@ pub record Ordered (header : Header) (total : ℕ) : Type 0 where
   pub third : header .«signs_start» ≤ header .end
   pub last : header .end ≡ total
 
-pub ordered : (bytes : List ℕ) {header : Header} → header ≡ headerOf bytes → Ordered header (totalOf bytes)
+pub ordered : (bytes : List ℕ) {header : Header} → header ≡ headerOf bytes → Ordered header (recordLength bytes)
 unfolding headerOf
 ordered bytes is = rw is (record { first = omega arith; second = omega arith; third = omega arith; last = omega arith })
 
 -- ---- lengths, in a record of the right length
 
-module _ (bytes : List ℕ) (sized : length bytes ≡ totalOf bytes) where
+module _ (bytes : List ℕ) (sized : length bytes ≡ recordLength bytes) where
   pub length-radii : length (radiiBytes bytes) ≡ radiiLength bytes
   unfolding radiiBytes
-  length-radii = part-length bytes (radiiAt bytes) (radiiLength bytes) (omega (arith, sized))
+  length-radii = part-length bytes (radiiStart bytes) (radiiLength bytes) (omega (arith, sized))
 
   pub length-indices : length (indicesBytes bytes) ≡ indicesLength bytes
   unfolding indicesBytes
-  length-indices = part-length bytes (indicesAt bytes) (indicesLength bytes) (omega (arith, sized))
+  length-indices = part-length bytes (indicesStart bytes) (indicesLength bytes) (omega (arith, sized))
 
   pub length-signs : length (signsBytes bytes) ≡ signsLength bytes
   unfolding signsBytes
-  length-signs = part-length bytes (signsAt bytes) (signsLength bytes) (omega (arith, sized))
+  length-signs = part-length bytes (signsStart bytes) (signsLength bytes) (omega (arith, sized))
 
 -- ---- what the header says, in the record's terms
 

@@ -14,7 +14,7 @@ use Rattle.radius.specs.declared.RadiusCodecProfileV1.the-variants.{F32, BlockL
 use Rattle.lists.proofs.Chunks.{chunks-length}
 use Rattle.radius.specs.Radii.{badRadius}
 use Rattle.packed.specs.Fields.{mapOf, hasRange, profileOf, boundsOf, projectionsOf}
-use Rattle.packed.specs.Layout.{pairsOf, indicesUsed, totalOf, radiiBytes, indicesBytes, signsBytes}
+use Rattle.packed.specs.Layout.{pairsOf, indicesUsed, recordLength, radiiBytes, indicesBytes, signsBytes}
 use Rattle.packed.specs.Radii.{badBoundsFor}
 use Rattle.packed.specs.Reading.{radiiOf, payloadChecks}
 use Rattle.packed.proofs.Parts.{length-indices, length-signs}
@@ -37,10 +37,10 @@ unfolding validatePaddingZeroOf
 padding-only packed used h = simp (eq-eqb _ _ h)
 
 module _ (bytes : List ℕ) where
-  pub payload-size : (length bytes ≡ totalOf bytes → ⊥) → first (payloadChecks bytes) accepted ≡ refused 13 (length bytes)
+  pub payload-size : (length bytes ≡ recordLength bytes → ⊥) → first (payloadChecks bytes) accepted ≡ refused 13 (length bytes)
   payload-size h = simp (ne-eqb _ _ h)
 
-  module _ (sized : length bytes ≡ totalOf bytes) where
+  module _ (sized : length bytes ≡ recordLength bytes) where
     pub payload-bounds : badBoundsFor (profileOf (mapOf bytes)) (boundsOf bytes) ≡ true → first (payloadChecks bytes) accepted ≡ refused 17 0
     payload-bounds h = simp (eq-eqb _ _ sized, h)
 

@@ -17,10 +17,10 @@ use Rattle.float.specs.Bytes.{ofLeBytes}
 use Rattle.digits.specs.Digits.{number, digits}
 use Rattle.digits.proofs.Laws.{Below, length-digits, digits-below}
 use Rattle.bitpack.specs.Signs.{signOfBit, badSketchSign}
-use Rattle.radius.specs.Radii.{zeroFloat}
+use Rattle.float.specs.Constants.{posZero}
 use Rattle.radius.proofs.Radii.{radius-finite, radius-not-nan, radius-not-below}
 use Rattle.radius.specs.Codec.{radiiFor}
-use Rattle.radius.specs.Linear.{restored, linearRadius}
+use Rattle.radius.specs.Linear.{radiusOf, linearRadius}
 use Rattle.radius.specs.declared.Range.{Range}
 use Rattle.radius.specs.declared.RadiusCodecProfileV1.the-variants.{F32, BlockLinearU16}
 use Rattle.lists.proofs.Chunks.{chunks-getD, chunks-length}
@@ -36,12 +36,12 @@ module _ (bytes : List ℕ) (a : Accepted bytes) (i : ℕ) (h : i < length (radi
   pub accepted-not-nan : isNan (getD (radiiOf bytes) i nan) ≡ false
   accepted-not-nan = radius-not-nan (getD (radiiOf bytes) i nan) (a .radii i h)
 
-  pub accepted-not-below : lt (getD (radiiOf bytes) i nan) zeroFloat ≡ false
+  pub accepted-not-below : lt (getD (radiiOf bytes) i nan) posZero ≡ false
   accepted-not-below = radius-not-below (getD (radiiOf bytes) i nan) (a .radii i h)
 
 -- whatever its bytes are, a radius as read is an f32
 either-fits : (t : Bool) (count : ℕ) (range : Range) (payload : List ℕ) (i : ℕ) → i < length (radiiFor (cond t BlockLinearU16 F32) count range payload) → T (fits binary32 (getD (radiiFor (cond t BlockLinearU16 F32) count range payload) i nan))
-unfolding ofLeBytes linearRadius restored
+unfolding ofLeBytes linearRadius radiusOf
 either-fits true count range payload i h =
     let below : i < count = rw chunks-length at h in
     subst (λ (x : Float). T (fits binary32 x)) (sym (chunks-getD (linearRadius range) 2 count i payload nan below)) (add-fits binary32 _ _)

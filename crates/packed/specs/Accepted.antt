@@ -9,7 +9,7 @@ use lib.Ieee.{nan}
 use Rattle.bitpack.specs.Padding.{badPadding}
 use Rattle.radius.specs.Radii.{badRadius}
 use Rattle.packed.specs.Fields.{mapOf, hasRange, hasSigns, dimOf, bitsOf, boundsOf, projectionsOf}
-use Rattle.packed.specs.Layout.{headerLength, indicesUsed, totalOf, indicesBytes, signsBytes}
+use Rattle.packed.specs.Layout.{headerLength, indicesUsed, recordLength, indicesBytes, signsBytes}
 use Rattle.packed.specs.Radii.{badBounds}
 use Rattle.packed.specs.Reading.{radiiOf}
 
@@ -34,7 +34,7 @@ pub record Accepted (bytes : List ℕ) : Type 0 where
   -- '8: in residual mode, projections 0 or above 4,096'
   pub projections : hasSigns (mapOf bytes) ≡ true → (0 < projectionsOf bytes) × (projectionsOf bytes ≤ 4096)
   -- 'total length 13'
-  pub total : length bytes ≡ totalOf bytes
+  pub total : length bytes ≡ recordLength bytes
   -- '17 if a bound is not finite, below zero, or min above max (−0.0 is zero)'
   pub bounds : hasRange (mapOf bytes) ≡ true → badBounds (boundsOf bytes) ≡ false
   -- '16: a radius is NaN, infinite or below zero', as it is read

@@ -8,7 +8,7 @@ use lib.ListN.{getD, take, drop}
 use lib.Ieee.{Float}
 use Rattle.digits.specs.Digits.{number}
 use Rattle.float.specs.Bytes.{ofLeBytes}
-use Rattle.radius.specs.Radii.{zeroFloat}
+use Rattle.float.specs.Constants.{posZero}
 use Rattle.radius.specs.declared.Range.{Range}
 use Rattle.radius.specs.declared.RadiusCodecProfileV1.{RadiusCodecProfileV1}
 use Rattle.radius.specs.declared.RadiusCodecProfileV1.the-variants.{F32, BlockLinearU16}
@@ -60,12 +60,12 @@ bitsOf bytes = getD bytes 5 0
 
 -- the range; F32 radii have none, and 0, 0 stands for it
 unfoldable pub boundsOf : List ℕ → Range
-boundsOf bytes = cond (hasRange (mapOf bytes)) (record { min = floatAt bytes 6; max = floatAt bytes 10 }) (record { min = zeroFloat; max = zeroFloat })
+boundsOf bytes = cond (hasRange (mapOf bytes)) (record { min = floatAt bytes 6; max = floatAt bytes 10 }) (record { min = posZero; max = posZero })
 
 -- where the projections stand, behind the range if there is one
-abbrev pub projectionsAt : ℕ → ℕ
-projectionsAt map = 6 + 8 * rangeBit map
+abbrev pub projectionsStart : ℕ → ℕ
+projectionsStart map = 6 + 8 * rangeBit map
 
 -- the projections; without signs they count as 0
 unfoldable pub projectionsOf : List ℕ → ℕ
-projectionsOf bytes = cond (hasSigns (mapOf bytes)) (wordAt bytes (projectionsAt (mapOf bytes))) 0
+projectionsOf bytes = cond (hasSigns (mapOf bytes)) (wordAt bytes (projectionsStart (mapOf bytes))) 0

@@ -18,14 +18,14 @@ pairsOf bytes = dimOf bytes / 2
 
 -- ---- the three payloads: where each starts, and how long it is
 
-abbrev pub radiiAt : List ℕ → ℕ
-radiiAt bytes = headerLength (mapOf bytes)
+abbrev pub radiiStart : List ℕ → ℕ
+radiiStart bytes = headerLength (mapOf bytes)
 
 abbrev pub radiiLength : List ℕ → ℕ
 radiiLength bytes = widthOf (profileOf (mapOf bytes)) * pairsOf bytes
 
-abbrev pub indicesAt : List ℕ → ℕ
-indicesAt bytes = radiiAt bytes + radiiLength bytes
+abbrev pub indicesStart : List ℕ → ℕ
+indicesStart bytes = radiiStart bytes + radiiLength bytes
 
 -- so many bits of the indices' payload are used
 abbrev pub indicesUsed : List ℕ → ℕ
@@ -34,28 +34,28 @@ indicesUsed bytes = pairsOf bytes * bitsOf bytes
 abbrev pub indicesLength : List ℕ → ℕ
 indicesLength bytes = bytesFor (indicesUsed bytes)
 
-abbrev pub signsAt : List ℕ → ℕ
-signsAt bytes = indicesAt bytes + indicesLength bytes
+abbrev pub signsStart : List ℕ → ℕ
+signsStart bytes = indicesStart bytes + indicesLength bytes
 
 abbrev pub signsLength : List ℕ → ℕ
 signsLength bytes = bytesFor (projectionsOf bytes)
 
 -- the whole record's length
-abbrev pub totalOf : List ℕ → ℕ
-totalOf bytes = signsAt bytes + signsLength bytes
+abbrev pub recordLength : List ℕ → ℕ
+recordLength bytes = signsStart bytes + signsLength bytes
 
 -- so many bytes from a place on
 abbrev pub partAt : List ℕ → ℕ → ℕ → List ℕ
 partAt bytes at long = take long (drop at bytes)
 
 unfoldable pub radiiBytes : List ℕ → List ℕ
-radiiBytes bytes = partAt bytes (radiiAt bytes) (radiiLength bytes)
+radiiBytes bytes = partAt bytes (radiiStart bytes) (radiiLength bytes)
 
 unfoldable pub indicesBytes : List ℕ → List ℕ
-indicesBytes bytes = partAt bytes (indicesAt bytes) (indicesLength bytes)
+indicesBytes bytes = partAt bytes (indicesStart bytes) (indicesLength bytes)
 
 unfoldable pub signsBytes : List ℕ → List ℕ
-signsBytes bytes = partAt bytes (signsAt bytes) (signsLength bytes)
+signsBytes bytes = partAt bytes (signsStart bytes) (signsLength bytes)
 
 -- all of the header by value
 unfoldable pub headerOf : List ℕ → Header
@@ -66,8 +66,8 @@ headerOf bytes = record {
   bits = bitsOf bytes;
   projections = projectionsOf bytes;
   range = boundsOf bytes;
-  «radii_start» = radiiAt bytes;
-  «indices_start» = indicesAt bytes;
-  «signs_start» = signsAt bytes;
-  end = totalOf bytes;
+  «radii_start» = radiiStart bytes;
+  «indices_start» = indicesStart bytes;
+  «signs_start» = signsStart bytes;
+  end = recordLength bytes;
 }

@@ -21,7 +21,7 @@ use Rattle.setup.specs.declared.TurboMode.{TurboMode}
 use Rattle.setup.specs.Checks.{wrongProjections}
 use Rattle.setup.specs.Setups.{byMode}
 use Rattle.packed.specs.Fields.{mapOf, profileOf, modeOf, dimOf, bitsOf, boundsOf, projectionsOf}
-use Rattle.packed.specs.Layout.{headerLength, pairsOf, indicesUsed, totalOf, radiiBytes, indicesBytes, signsBytes, headerOf}
+use Rattle.packed.specs.Layout.{headerLength, pairsOf, indicesUsed, recordLength, radiiBytes, indicesBytes, signsBytes, headerOf}
 use Rattle.packed.specs.Radii.{badBoundsFor}
 use Rattle.packed.specs.declared.Header.{Header}
 use Rattle.packed.specs.declared.Reading.{Reading}
@@ -84,7 +84,7 @@ headerChecks bytes =
 -- reads as infinite is 16'. The place of 14 is a byte's index in its payload
 abbrev pub payloadChecks : List ℕ → List Check
 payloadChecks bytes =
-    wrongSize (differs (length bytes) (totalOf bytes)) bytes
+    wrongSize (differs (length bytes) (recordLength bytes)) bytes
     ∷ check (badBoundsFor (profileOf (mapOf bytes)) (boundsOf bytes)) 17 0
     ∷ each badRadius 16 (radiiOf bytes)
     ∷ wrongPadding (indicesBytes bytes) (indicesUsed bytes)

@@ -191,7 +191,7 @@ fn check_payloads(bytes: &[u8], header: Header) -> Outcome
     }
     let profile = header.profile;
     let range = header.range;
-    if wrong_bounds(profile, range) {
+    if bad_bounds_for(profile, range) {
         return Outcome::Refused {
             number: MALFORMED_RANGE,
             place: 0,
@@ -287,7 +287,7 @@ fn outside_bits(mode: TurboMode, bits: u8) -> bool
 }
 
 // Whether linear radii have a range that is refused.
-fn wrong_bounds(profile: RadiusCodecProfileV1, range: Range) -> bool
+fn bad_bounds_for(profile: RadiusCodecProfileV1, range: Range) -> bool
     ensures { λ r. ⌜ r ≡ badBoundsFor profile range ⌝ }
 {
     match profile {

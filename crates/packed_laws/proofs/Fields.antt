@@ -21,7 +21,7 @@ use Rattle.setup.specs.declared.TurboMode.{TurboMode}
 use Rattle.setup.specs.declared.TurboMode.the-variants.{PolarOnly, PolarWithQjl}
 use Rattle.packed.specs.declared.Code.{Code}
 use Rattle.packed.specs.Fields.{mapOf, profileOf, modeOf, dimOf, bitsOf, boundsOf, projectionsOf}
-use Rattle.packed.specs.Layout.{headerLength, totalOf, headerOf}
+use Rattle.packed.specs.Layout.{headerLength, recordLength, headerOf}
 use Rattle.setup.specs.Checks.{badProjections}
 use Rattle.packed_writing.specs.Writing.{mapFor, headerBytes, indexBytes, signBytes, recordOf}
 use Rattle.setup.specs.Setups.{counted}
@@ -74,7 +74,7 @@ module _ {code : Code} {radii : List Float} {indices : List ℕ} {signs : List �
       ∙ rw (w .radii-long, w .indices-long, w .signs-long) (omega (arith, w .sized))
 
   -- the length that the header tells is the same
-  pub total-written : totalOf bytes ≡ room
+  pub total-written : recordLength bytes ≡ room
   total-written = rw (profile-written, map-written, dim-written, bits-written, projections-written) (sym (w .sized))
 
   -- all of the header by value

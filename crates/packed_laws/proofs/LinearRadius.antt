@@ -17,8 +17,9 @@ use lib.Ieee.Order.{round-mono}
 use Rattle.error.proofs.Chains.{or-false}
 use Rattle.digits.specs.Digits.{number}
 use Rattle.rounding.proofs.Exact.{mul-sign-finite}
-use Rattle.radius.specs.Linear.{restored, linearRadius}
-use Rattle.radius.specs.Radii.{zeroFloat, topFloat, badRadius}
+use Rattle.radius.specs.Linear.{radiusOf, linearRadius}
+use Rattle.float.specs.Constants.{posZero}
+use Rattle.radius.specs.Radii.{topFloat, badRadius}
 use Rattle.radius.specs.declared.Range.{Range}
 use Rattle.radius.proofs.Radii.{radius-finite}
 use Rattle.packed.specs.Radii.{badBounds}
@@ -119,7 +120,7 @@ radius-fine r good = record { not-below = good-not-below r good; number = subst 
 
 module _ (range : Range) (payload : List ℕ) (fit : T (fits binary32 (range .max))) (good : badBounds range ≡ false) (small : number 256 payload ≤ 65535) where
   radius-not-below : NotBelow (linearRadius range payload)
-  unfolding restored linearRadius
+  unfolding radiusOf linearRadius
   radius-not-below =
       let order = or-false (badRadius (range .min) || badRadius (range .max)) (lt (range .max) (range .min)) good in
       let ends = or-false (badRadius (range .min)) (badRadius (range .max)) (order .0) in
@@ -130,7 +131,7 @@ module _ (range : Range) (payload : List ℕ) (fit : T (fits binary32 (range .ma
       sum-not-below (range .min) (mul binary32 (sub binary32 (range .max) (range .min)) (div binary32 (ofInt binary32 (pos (number 256 payload))) topFloat)) least part
 
   -- a linear radius is no NaN and not below zero
-  pub linear-radius-good : (isNan (linearRadius range payload) ≡ false) × (lt (linearRadius range payload) zeroFloat ≡ false)
+  pub linear-radius-good : (isNan (linearRadius range payload) ≡ false) × (lt (linearRadius range payload) posZero ≡ false)
   linear-radius-good = (not-below-number (linearRadius range payload) radius-not-below, not-below-zero (linearRadius range payload) radius-not-below)
 
   -- one that is refused reads as infinite

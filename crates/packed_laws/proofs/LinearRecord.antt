@@ -21,15 +21,17 @@ use Rattle.bitpack.specs.Padding.{wrongPadding}
 use Rattle.bitpack.proofs.Differs.{differs-same}
 use Rattle.error.specs.Checks.{differs}
 use Rattle.radius.specs.Linear.{linearRadius}
-use Rattle.radius.specs.Radii.{zeroFloat, badRadius}
+use Rattle.float.specs.Constants.{posZero}
+use Rattle.radius.specs.Radii.{badRadius}
 use Rattle.radius.specs.declared.Range.{Range}
 use Rattle.lists.proofs.Chunks.{chunks-getD}
 use Rattle.packed.specs.Fields.{mapOf, hasRange, profileOf, floatAt, boundsOf, projectionsOf}
-use Rattle.packed.specs.Layout.{pairsOf, radiiAt, radiiLength, indicesUsed, totalOf, radiiBytes, indicesBytes, signsBytes, headerOf}
+use Rattle.packed.specs.Layout.{pairsOf, radiiStart, radiiLength, indicesUsed, recordLength, radiiBytes, indicesBytes, signsBytes, headerOf}
 use Rattle.packed.specs.Radii.{badBounds, badBoundsFor}
 use Rattle.packed.specs.Reading.{radiiOf, wrongSize, headerChecks, readRecordOf}
 use Rattle.packed.proofs.Parts.{length-radii}
 use Rattle.packed.proofs.Payloads.{length-radiiOf}
+use Rattle.packed_laws.proofs.Ranges.{zero-fits}
 use Rattle.packed_laws.proofs.Parts.{part-length, part-below}
 use Rattle.packed_laws.proofs.LinearRadius.{linear-radius-good, linear-radius-infinite}
 
@@ -44,19 +46,19 @@ max-float : (bytes : List ℕ) → T (fits binary32 (boundsOf bytes .max))
 unfolding boundsOf ofLeBytes
 max-float bytes = go (hasRange (mapOf bytes))
   where
-    go : (t : Bool) → T (fits binary32 ((cond {A = Range} t (record { min = floatAt bytes 6; max = floatAt bytes 10 }) (record { min = zeroFloat; max = zeroFloat })) .max))
+    go : (t : Bool) → T (fits binary32 ((cond {A = Range} t (record { min = floatAt bytes 6; max = floatAt bytes 10 }) (record { min = posZero; max = posZero })) .max))
     go true = ofBits-fits binary32 (number 256 (take 4 (drop 10 bytes)))
-    go false = ofBits-fits binary32 0
+    go false = zero-fits
 
 -- each radius is read from its two bytes by the range: min + (max − min) × (v / 65,535), each step rounded
 pub linear-radii : (bytes : List ℕ) → hasRange (mapOf bytes) ≡ true → (i : ℕ) → i < pairsOf bytes → getD (radiiOf bytes) i nan ≡ linearRadius (boundsOf bytes) (take 2 (drop (2 * i) (radiiBytes bytes)))
 unfolding radiiOf
 linear-radii bytes linear i h = rw linear (chunks-getD (linearRadius (boundsOf bytes)) 2 (pairsOf bytes) i (radiiBytes bytes) nan h)
 
-module _ (bytes : List ℕ) (b : Below 256 bytes) (linear : hasRange (mapOf bytes) ≡ true) (sized : length bytes ≡ totalOf bytes) (bounds : badBounds (boundsOf bytes) ≡ false) (i : ℕ) (h : i < pairsOf bytes) where
+module _ (bytes : List ℕ) (b : Below 256 bytes) (linear : hasRange (mapOf bytes) ≡ true) (sized : length bytes ≡ recordLength bytes) (bounds : badBounds (boundsOf bytes) ≡ false) (i : ℕ) (h : i < pairsOf bytes) where
   radii-below : Below 256 (radiiBytes bytes)
   unfolding radiiBytes
-  radii-below = part-below bytes b (radiiAt bytes) (radiiLength bytes) (omega (arith, sized))
+  radii-below = part-below bytes b (radiiStart bytes) (radiiLength bytes) (omega (arith, sized))
 
   two-small : number 256 (take 2 (drop (2 * i) (radiiBytes bytes))) ≤ 65535
   two-small =
@@ -65,7 +67,7 @@ module _ (bytes : List ℕ) (b : Below 256 bytes) (linear : hasRange (mapOf byte
       two-bytes (take 2 (drop (2 * i) (radiiBytes bytes))) (part-below (radiiBytes bytes) radii-below (2 * i) 2 inside) (part-length (radiiBytes bytes) radii-below (2 * i) 2 inside)
 
   -- whatever the bytes are, a radius of a linear record is no NaN and not below zero
-  pub linear-record-good : (isNan (getD (radiiOf bytes) i nan) ≡ false) × (lt (getD (radiiOf bytes) i nan) zeroFloat ≡ false)
+  pub linear-record-good : (isNan (getD (radiiOf bytes) i nan) ≡ false) × (lt (getD (radiiOf bytes) i nan) posZero ≡ false)
   linear-record-good = rw (linear-radii bytes linear i h) (linear-radius-good (boundsOf bytes) (take 2 (drop (2 * i) (radiiBytes bytes))) (max-float bytes) bounds two-small)
 
   -- one that is refused reads as infinite
@@ -106,13 +108,13 @@ place-offends bad (x ∷ xs) d h = split (λ g. place-offends bad xs d g) (bad x
 pub linear-refused : (bytes : List ℕ) → Below 256 bytes → hasRange (mapOf bytes) ≡ true → (p : ℕ) → readRecordOf bytes ≡ refused 16 p → getD (radiiOf bytes) p nan ≡ inf false
 unfolding readRecordOf
 linear-refused bytes b linear p told =
-    let before = headerChecks bytes ++ (wrongSize (differs (length bytes) (totalOf bytes)) bytes ∷ check (badBoundsFor (profileOf (mapOf bytes)) (boundsOf bytes)) 17 0 ∷ []) in
+    let before = headerChecks bytes ++ (wrongSize (differs (length bytes) (recordLength bytes)) bytes ∷ check (badBoundsFor (profileOf (mapOf bytes)) (boundsOf bytes)) 17 0 ∷ []) in
     let behind = wrongPadding (indicesBytes bytes) (indicesUsed bytes) ∷ wrongPadding (signsBytes bytes) (projectionsOf bytes) ∷ [] in
     let bad = place badRadius (radiiOf bytes) in
     let found = refused-here (headerOf bytes) before (ltb bad (length (radiiOf bytes))) 16 bad behind (tt, (tt, (tt, (tt, (tt, (tt, (tt, (tt, (tt, (tt, tt)))))))))) (tt, (tt, tt)) told in
     let passed = found .0 .1 .1 .1 .1 .1 .1 .1 .1 in
     let below : bad < length (radiiOf bytes) = ltb-true bad (length (radiiOf bytes)) (found .1 .0) in
-    let sized : length bytes ≡ totalOf bytes = differs-same (length bytes) (totalOf bytes) (passed .0) in
+    let sized : length bytes ≡ recordLength bytes = differs-same (length bytes) (recordLength bytes) (passed .0) in
     let bounds : badBounds (boundsOf bytes) ≡ false = rw linear at (passed .1 .0) in
     subst (λ (i : ℕ). getD (radiiOf bytes) i nan ≡ inf false) (found .1 .1)
     (linear-record-infinite bytes b linear sized bounds bad (rw length-radiiOf at below) (place-offends badRadius (radiiOf bytes) nan below))

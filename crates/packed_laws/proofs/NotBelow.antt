@@ -13,7 +13,8 @@ use lib.Ieee.Exact.{HasValue, odd-sign, round-exact}
 use lib.Ieee.Fits.{round-is, up-pos}
 use lib.Ieee.Order.{drop, kept}
 use lib.Ieee.Scale.{finite}
-use Rattle.radius.specs.Radii.{zeroFloat, badRadius}
+use Rattle.float.specs.Constants.{posZero}
+use Rattle.radius.specs.Radii.{badRadius}
 
 abbrev pub NotBelow : Float → Type 0
 NotBelow nan = ⊥
@@ -34,7 +35,7 @@ good-not-below (inf s) e = absurd (true≢false e)
 good-not-below (fin false m x) e = λ p. absurd (false≢true p)
 good-not-below (fin true m x) e = λ p. no-significand m x (let h = ltb-false 0 (m * up x * 1 + 0 * 1 * down x) e in omega (arith, h))
 
-pub not-below-zero : (x : Float) → NotBelow x → lt x zeroFloat ≡ false
+pub not-below-zero : (x : Float) → NotBelow x → lt x posZero ≡ false
 unfolding lt ofBits
 not-below-zero nan n = absurd n
 not-below-zero (inf s) n = n

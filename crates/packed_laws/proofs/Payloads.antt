@@ -30,7 +30,7 @@ use Rattle.setup.specs.declared.TurboMode.{TurboMode}
 use Rattle.setup.specs.declared.TurboMode.the-variants.{PolarOnly, PolarWithQjl}
 use Rattle.packed.specs.declared.Code.{Code}
 use Rattle.packed.specs.Fields.{projectionsOf}
-use Rattle.packed.specs.Layout.{headerLength, pairsOf, indicesUsed, indicesAt, indicesLength, signsAt, signsLength, partAt, radiiBytes, indicesBytes, signsBytes}
+use Rattle.packed.specs.Layout.{headerLength, pairsOf, indicesUsed, indicesStart, indicesLength, signsStart, signsLength, partAt, radiiBytes, indicesBytes, signsBytes}
 use Rattle.packed.specs.Reading.{badPolarBits, radiiOf, indicesOf, signsOf}
 use Rattle.packed_writing.specs.Writing.{mapFor, headerBytes, indexBytes, signBytes, recordOf}
 use Rattle.radius.specs.Firsts.{readBack}
@@ -85,7 +85,7 @@ module _ {code : Code} {radii : List Float} {indices : List ℕ} {signs : List �
   radii-bytes-written = ap radiiBytes (w .made) ∙ radii-back code radii indices signs (w .known) (omega (arith, w .most)) (w .radii-long)
 
   -- where the indices start
-  indices-start : indicesAt bytes ≡ headerLength (mapFor (code .profile) (code .mode)) + widthOf (code .profile) * length radii
+  indices-start : indicesStart bytes ≡ headerLength (mapFor (code .profile) (code .mode)) + widthOf (code .profile) * length radii
   indices-start = rw (profile-written w, map-written w, dim-written w, w .radii-long)
 
   indices-size : indicesUsed bytes ≡ length indices * code .bits
@@ -94,14 +94,14 @@ module _ {code : Code} {radii : List Float} {indices : List ℕ} {signs : List �
   signs-size : projectionsOf bytes ≡ length signs
   signs-size = projections-written w ∙ sym (w .signs-long)
 
-  before-indices : length (headerBytes code (rangeFor (code .profile) radii)) + length (payloadFor (code .profile) radii) ≡ indicesAt bytes
+  before-indices : length (headerBytes code (rangeFor (code .profile) radii)) + length (payloadFor (code .profile) radii) ≡ indicesStart bytes
   before-indices = rw (length-header code (rangeFor (code .profile) radii), length-payloadFor (code .profile) radii (w .known)) (sym indices-start)
 
   pub indices-bytes-written : indicesBytes bytes ≡ indexBytes (code .bits) indices
   unfolding indicesBytes recordOf
   indices-bytes-written =
-      ap (λ (l : List ℕ). partAt l (indicesAt bytes) (indicesLength bytes)) (w .made)
-      ∙ part-third (headerBytes code (rangeFor (code .profile) radii)) (payloadFor (code .profile) radii) (indexBytes (code .bits) indices) (signBytes signs) (indicesAt bytes) (indicesLength bytes)
+      ap (λ (l : List ℕ). partAt l (indicesStart bytes) (indicesLength bytes)) (w .made)
+      ∙ part-third (headerBytes code (rangeFor (code .profile) radii)) (payloadFor (code .profile) radii) (indexBytes (code .bits) indices) (signBytes signs) (indicesStart bytes) (indicesLength bytes)
       before-indices
       (length-digits 256 (bytesFor (length indices * code .bits)) (number (2 ^ code .bits) indices) ∙ ap bytesFor (sym indices-size))
 
@@ -109,8 +109,8 @@ module _ {code : Code} {radii : List Float} {indices : List ℕ} {signs : List �
   unfolding signsBytes recordOf
   signs-bytes-written =
       let sized : length (indexBytes (code .bits) indices) ≡ indicesLength bytes = length-digits 256 (bytesFor (length indices * code .bits)) (number (2 ^ code .bits) indices) ∙ ap bytesFor (sym indices-size) in
-      ap (λ (l : List ℕ). partAt l (signsAt bytes) (signsLength bytes)) (w .made)
-      ∙ part-last (headerBytes code (rangeFor (code .profile) radii)) (payloadFor (code .profile) radii) (indexBytes (code .bits) indices) (signBytes signs) (signsAt bytes) (signsLength bytes)
+      ap (λ (l : List ℕ). partAt l (signsStart bytes) (signsLength bytes)) (w .made)
+      ∙ part-last (headerBytes code (rangeFor (code .profile) radii)) (payloadFor (code .profile) radii) (indexBytes (code .bits) indices) (signBytes signs) (signsStart bytes) (signsLength bytes)
       (rw (before-indices, sized))
       (length-digits 256 (bytesFor (length signs)) _ ∙ ap bytesFor (sym signs-size))
 

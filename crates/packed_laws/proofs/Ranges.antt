@@ -10,7 +10,8 @@ use lib.Dec.{T}
 use lib.ListN.{length, getD}
 use lib.Ieee.{Float, nan, inf, fin, up, down, binary32, fits, lt, ofBits}
 use lib.Ieee.Bits.{ofBits-fits}
-use Rattle.radius.specs.Radii.{zeroFloat, badRadius, least, greatest, rangeOf}
+use Rattle.float.specs.Constants.{posZero}
+use Rattle.radius.specs.Radii.{badRadius, least, greatest, rangeOf}
 use Rattle.radius.proofs.RoundTrip.{Floats}
 use Rattle.packed.specs.Radii.{badBounds}
 
@@ -31,21 +32,26 @@ module _ (P : Float → Type 0) where
   greatest-has m [] p h = p
   greatest-has m (r ∷ rs) p h = greatest-has (cond (lt m r) r m) rs (cond-has (lt m r) (h 0 (omega arith)) p) (λ i g. h (suc i) (suc-le-suc g))
 
-  pub min-has : (rs : List Float) → P zeroFloat → ((i : ℕ) → i < length rs → P (getD rs i nan)) → P (rangeOf rs .min)
+  pub min-has : (rs : List Float) → P posZero → ((i : ℕ) → i < length rs → P (getD rs i nan)) → P (rangeOf rs .min)
   unfolding rangeOf
   min-has [] z h = z
   min-has (r ∷ rs) z h = least-has r rs (h 0 (omega arith)) (λ i g. h (suc i) (suc-le-suc g))
 
-  pub max-has : (rs : List Float) → P zeroFloat → ((i : ℕ) → i < length rs → P (getD rs i nan)) → P (rangeOf rs .max)
+  pub max-has : (rs : List Float) → P posZero → ((i : ℕ) → i < length rs → P (getD rs i nan)) → P (rangeOf rs .max)
   unfolding rangeOf
   max-has [] z h = z
   max-has (r ∷ rs) z h = greatest-has r rs (h 0 (omega arith)) (λ i g. h (suc i) (suc-le-suc g))
 
+-- +0.0 is an f32
+pub zero-fits : T (fits binary32 posZero)
+unfolding ofBits
+zero-fits = ofBits-fits binary32 0
+
 pub min-fits : (rs : List Float) → Floats rs → T (fits binary32 (rangeOf rs .min))
-min-fits rs f = min-has (λ x. T (fits binary32 x)) rs (ofBits-fits binary32 0) (f .at)
+min-fits rs f = min-has (λ x. T (fits binary32 x)) rs zero-fits (f .at)
 
 pub max-fits : (rs : List Float) → Floats rs → T (fits binary32 (rangeOf rs .max))
-max-fits rs f = max-has (λ x. T (fits binary32 x)) rs (ofBits-fits binary32 0) (f .at)
+max-fits rs f = max-has (λ x. T (fits binary32 x)) rs zero-fits (f .at)
 
 -- ---- the greatest is not below the least
 
@@ -72,10 +78,10 @@ ends-order lo hi (r ∷ rs) h = ends-order (cond (lt r lo) r lo) (cond (lt hi r)
 
 range-order : (rs : List Float) → lt (rangeOf rs .max) (rangeOf rs .min) ≡ false
 unfolding rangeOf
-range-order [] = lt-itself zeroFloat
+range-order [] = lt-itself posZero
 range-order (r ∷ rs) = ends-order r r rs (lt-itself r)
 
-zero-good : badRadius zeroFloat ≡ false
+zero-good : badRadius posZero ≡ false
 unfolding lt ofBits
 zero-good = refl
 

@@ -21,8 +21,8 @@ use Rattle.bitpack.proofs.RoundTrip.{pack-bytes, pack-unpack, pack-signs-bytes,
 use Rattle.lists.specs.Chunks.{chunks}
 use Rattle.radius.specs.Radii.{badRadius}
 use Rattle.lists.proofs.Chunks.{chunks-getD, joined-chunks}
-use Rattle.packed.specs.Fields.{mapOf, rangeBit, signsBit, hasRange, hasSigns, profileOf, modeOf, floatAt, dimOf, bitsOf, boundsOf, projectionsAt, projectionsOf}
-use Rattle.packed.specs.Layout.{headerLength, pairsOf, radiiAt, radiiLength, indicesUsed, indicesAt, indicesLength, signsAt, signsLength, partAt, radiiBytes, indicesBytes, signsBytes}
+use Rattle.packed.specs.Fields.{mapOf, rangeBit, signsBit, hasRange, hasSigns, profileOf, modeOf, floatAt, dimOf, bitsOf, boundsOf, projectionsStart, projectionsOf}
+use Rattle.packed.specs.Layout.{headerLength, pairsOf, radiiStart, radiiLength, indicesUsed, indicesStart, indicesLength, signsStart, signsLength, partAt, radiiBytes, indicesBytes, signsBytes}
 use Rattle.packed.specs.Radii.{badBounds}
 use Rattle.packed.specs.Reading.{radiiOf, indicesOf, signsOf}
 use Rattle.packed.specs.Accepted.{Accepted}
@@ -63,11 +63,11 @@ module _ (bytes : List ℕ) (b : Below 256 bytes) (a : Accepted bytes) where
       (rw (float-again bytes b 6 (omega (arith, enough)) (both .0), float-again bytes b 10 (omega (arith, enough)) (both .1)) (sym (part-two bytes 6 4 4)))
   bounds-again false e = rw (bit-none (mapOf bytes) e)
 
-  projections-again : (t : Bool) → hasSigns (mapOf bytes) ≡ t → projectionBytes (modeOf (mapOf bytes)) (projectionsOf bytes) ≡ partAt bytes (projectionsAt (mapOf bytes)) (4 * signsBit (mapOf bytes))
+  projections-again : (t : Bool) → hasSigns (mapOf bytes) ≡ t → projectionBytes (modeOf (mapOf bytes)) (projectionsOf bytes) ≡ partAt bytes (projectionsStart (mapOf bytes)) (4 * signsBit (mapOf bytes))
   unfolding projectionsOf
   projections-again true e =
       let one = bit-one (mapOf bytes / 2) e in
-      rw one (word-again bytes b (projectionsAt (mapOf bytes)) (omega (arith, a .header, one)))
+      rw one (word-again bytes b (projectionsStart (mapOf bytes)) (omega (arith, a .header, one)))
   projections-again false e = rw (bit-none (mapOf bytes / 2) e)
 
   -- the header's bytes are those of its fields
@@ -82,22 +82,22 @@ module _ (bytes : List ℕ) (b : Below 256 bytes) (a : Accepted bytes) where
       ∙ ap (λ (l : List ℕ). l ++ range ++ projections) (sym (six-bytes bytes (a .long)))
       ∙ ap (λ (l : List ℕ). take 6 bytes ++ l ++ projections) (bounds-again (hasRange map) refl)
       ∙ ap (λ (l : List ℕ). take 6 bytes ++ partAt bytes 6 (8 * rangeBit map) ++ l) (projections-again (hasSigns map) refl)
-      ∙ append-assoc (take 6 bytes) (partAt bytes 6 (8 * rangeBit map)) (partAt bytes (projectionsAt map) (4 * signsBit map))
+      ∙ append-assoc (take 6 bytes) (partAt bytes 6 (8 * rangeBit map)) (partAt bytes (projectionsStart map) (4 * signsBit map))
       ∙ sym (header-parts bytes (8 * rangeBit map) (4 * signsBit map))
 
   -- ---- the payloads
 
   radii-below : Below 256 (radiiBytes bytes)
   unfolding radiiBytes
-  radii-below = part-below bytes b (radiiAt bytes) (radiiLength bytes) (omega (arith, a .total))
+  radii-below = part-below bytes b (radiiStart bytes) (radiiLength bytes) (omega (arith, a .total))
 
   indices-below : Below 256 (indicesBytes bytes)
   unfolding indicesBytes
-  indices-below = part-below bytes b (indicesAt bytes) (indicesLength bytes) (omega (arith, a .total))
+  indices-below = part-below bytes b (indicesStart bytes) (indicesLength bytes) (omega (arith, a .total))
 
   signs-below : Below 256 (signsBytes bytes)
   unfolding signsBytes
-  signs-below = part-below bytes b (signsAt bytes) (signsLength bytes) (omega (arith, a .total))
+  signs-below = part-below bytes b (signsStart bytes) (signsLength bytes) (omega (arith, a .total))
 
   indices-unpacked : unpackIndicesOf (indicesBytes bytes) (pairsOf bytes) (bitsOf bytes) (pairsOf bytes) ≡ value (indicesOf bytes)
   unfolding unpackIndicesOf indicesOf
@@ -126,7 +126,7 @@ module _ (bytes : List ℕ) (b : Below 256 bytes) (a : Accepted bytes) where
   unfolding radiiBytes indicesBytes signsBytes
   parts-again =
       rw (header-again, indices-again, signs-again)
-      (four-parts bytes (radiiAt bytes) (radiiLength bytes) (indicesLength bytes) (signsLength bytes) (a .total))
+      (four-parts bytes (radiiStart bytes) (radiiLength bytes) (indicesLength bytes) (signsLength bytes) (a .total))
 
   -- ---- F32 radii
 

@@ -15,7 +15,7 @@ use Rattle.error.specs.Checks.{wrongRoom}
 use Rattle.error.proofs.Answers.{after-value}
 use Rattle.error.proofs.Chains.{append-passed}
 use Rattle.packed.specs.declared.Header.{Header}
-use Rattle.packed.specs.Fields.{mapOf, hasSigns, wordAt, projectionsAt, projectionsOf}
+use Rattle.packed.specs.Fields.{mapOf, hasSigns, wordAt, projectionsStart, projectionsOf}
 use Rattle.packed.specs.Layout.{pairsOf, headerOf}
 use Rattle.packed.specs.Reading.{recordChecks, readRecordOf, radiiOf, indicesOf, signsOf, readRadiiOf, readIndicesOf, readSignsOf}
 use Rattle.packed.proofs.Accepted.{read-accepts, read-header}
@@ -43,7 +43,7 @@ module _ (bytes : List ℕ) {header : Header} (read : readRecordOf bytes ≡ val
   pub read-projections-most : header .projections ≤ 4096
   unfolding projectionsOf
   read-projections-most =
-      let most = most-either (hasSigns (mapOf bytes)) (wordAt bytes (projectionsAt (mapOf bytes))) (read-accepts bytes read .projections) in
+      let most = most-either (hasSigns (mapOf bytes)) (wordAt bytes (projectionsStart (mapOf bytes))) (read-accepts bytes read .projections) in
       let is = header-projections bytes (read-header bytes read) in
       omega (arith, most, is)
 

@@ -22,7 +22,7 @@ use Rattle.radius.proofs.Scan.{length-linearBytes}
 use Rattle.setup.specs.declared.TurboMode.{TurboMode}
 use Rattle.setup.specs.declared.TurboMode.the-variants.{PolarOnly, PolarWithQjl}
 use Rattle.packed.specs.declared.Code.{Code}
-use Rattle.packed.specs.Layout.{headerLength, radiiAt, radiiLength, partAt, radiiBytes}
+use Rattle.packed.specs.Layout.{headerLength, radiiStart, radiiLength, partAt, radiiBytes}
 use Rattle.packed_writing.specs.Writing.{mapFor, headerBytes, indexBytes, signBytes, recordOf}
 use Rattle.packed_writing.proofs.FieldsBack.{profile-back, map-back, dim-back}
 
@@ -56,7 +56,7 @@ module _ (code : Code) (radii : List Float) (indices : List ℕ) (signs : List �
   unfolding radiiBytes
   radii-back =
       let bytes = recordOf code radii indices signs in
-      let at : radiiAt bytes ≡ headerLength (mapFor (code .profile) (code .mode)) = ap headerLength (map-back code radii indices signs) in
+      let at : radiiStart bytes ≡ headerLength (mapFor (code .profile) (code .mode)) = ap headerLength (map-back code radii indices signs) in
       let long : radiiLength bytes ≡ widthOf (code .profile) * length radii = rw (map-back code radii indices signs, profile-back (code .profile) (code .mode) known, dim-back code radii indices signs small, paired) in
       ap (λ (a : ℕ). partAt bytes a (radiiLength bytes)) at
       ∙ ap (λ (l : ℕ). partAt bytes (headerLength (mapFor (code .profile) (code .mode))) l) long

@@ -1,18 +1,17 @@
 -- The angle that an index stands for, each step rounded, and what a call for it answers. 'An angle: 1, 15.' (document 01) Assumes nothing.
 use Prim.Native.Nat.{ℕ, _^_}
-use mathlib.Core.Bool.{false}
 use mathlib.Core.List.{[], _∷_}
 use lib.IntN.{pos}
-use lib.Ieee.{Float, fin, binary32, sub, mul, div, ofInt}
+use lib.Ieee.{Float, binary32, sub, mul, div, ofInt}
 use Rattle.error.specs.Answer.{Answer, value, refused, first}
 use Rattle.error.specs.Checks.{wrongBits, wrongIndex}
-use Rattle.float.specs.Constants.{pi}
+use Rattle.float.specs.Constants.{two, pi}
 use Rattle.polar.specs.declared.Angle.{Angle}
 use Rattle.polar.specs.declared.Angle.the-variants.{Radians, Refused}
 
 -- 2 PI, the product of 2.0 and PI as an f32
 unfoldable pub twicePi : Float
-twicePi = mul binary32 (fin false 1 (pos 1)) pi
+twicePi = mul binary32 two pi
 
 -- 'The angle of index i is (i / levels) × (2 PI) − PI, each step rounded.' The levels are 2^bits.
 unfoldable pub radians : ℕ → ℕ → Float

@@ -13,7 +13,8 @@ use Rattle.error.specs.Answer.{Answer, value, Check, check, first, place}
 use Rattle.error.proofs.Places.{place-le, place-passed}
 use Rattle.float.specs.Bytes.{ofLeBytes}
 use Rattle.lists.specs.Chunks.{chunks}
-use Rattle.radius.specs.Radii.{zeroFloat, badRadius}
+use Rattle.float.specs.Constants.{posZero}
+use Rattle.radius.specs.Radii.{badRadius}
 use Rattle.radius.specs.Codec.{widthOf, compressChecks, payloadFor, compressBytesOf, decompressChecks, radiiFor, decompressOf}
 use Rattle.radius.proofs.Radii.{radius-finite, radius-not-nan, radius-not-below}
 use Rattle.radius.specs.declared.Range.{Range}
@@ -61,7 +62,7 @@ module _ (radii : List Float) (profile : RadiusCodecProfileV1) (room : ℕ) (byt
   pub compressed-not-nan : (i : ℕ) → i < length radii → isNan (getD radii i nan) ≡ false
   compressed-not-nan i h = radius-not-nan (getD radii i nan) (compressed-radius i h)
 
-  pub compressed-not-below : (i : ℕ) → i < length radii → lt (getD radii i nan) zeroFloat ≡ false
+  pub compressed-not-below : (i : ℕ) → i < length radii → lt (getD radii i nan) posZero ≡ false
   compressed-not-below i h = radius-not-below (getD radii i nan) (compressed-radius i h)
 
 -- ---- what decompress reads as F32
@@ -91,5 +92,5 @@ module _ (count : ℕ) (range : Range) (payload : List ℕ) (room : ℕ) (radii 
   pub decompressed-not-nan : (i : ℕ) → i < length radii → isNan (getD radii i nan) ≡ false
   decompressed-not-nan i h = radius-not-nan (getD radii i nan) (decompressed-radius i h)
 
-  pub decompressed-not-below : (i : ℕ) → i < length radii → lt (getD radii i nan) zeroFloat ≡ false
+  pub decompressed-not-below : (i : ℕ) → i < length radii → lt (getD radii i nan) posZero ≡ false
   decompressed-not-below i h = radius-not-below (getD radii i nan) (decompressed-radius i h)

@@ -11,7 +11,7 @@ use Rattle.float.specs.Bytes.{ofLeBytes, toLeBytes}
 use Rattle.float.specs.Rounding.{clamped, roundUnsigned}
 use Rattle.lists.specs.Chunks.{chunks}
 use Rattle.radius.specs.Radii.{least, greatest, rangeOf}
-use Rattle.radius.specs.Linear.{spanOf, quantized, linearBytes, restored, linearRadius}
+use Rattle.radius.specs.Linear.{spanOf, quantized, linearBytes, radiusOf, linearRadius}
 use Rattle.radius.specs.Codec.{compressRangeOf, compressBytesOf, decompressOf, encodedBytesOf}
 use Rattle.radius.specs.declared.Range.{Range}
 use Rattle.radius.specs.declared.RadiusCodecProfileV1.the-variants.{F32, BlockLinearU16, BlockLogU8}
@@ -44,7 +44,7 @@ unfolding flatMap ofBits sub mul div lt place digits roundUnsigned least greates
 compress-narrow = refl
 
 pub decompress-narrow : decompressOf BlockLinearU16 2 (upTo 0x3380_0000) (0x00 ∷ 0x00 ∷ 0x00 ∷ 0x80 ∷ []) 2 ≡ value (float 0x0000_0000 ∷ float 0x3300_0080 ∷ [])
-unfolding ofBits add sub mul div lt ofInt number chunks restored linearRadius decompressOf
+unfolding ofBits add sub mul div lt ofInt number chunks radiusOf linearRadius decompressOf
 decompress-narrow = refl
 
 -- a half goes away from zero: 37000080 × 65,535 is 0.5, and its number is 1
@@ -54,17 +54,17 @@ compress-half = refl
 
 -- 'min 1.5 × 2^104, max the largest f32, value 65,535' reads as infinite
 decompress-infinite : decompressOf BlockLinearU16 1 (between 0x73C0_0000 0x7F7F_FFFF) (0xFF ∷ 0xFF ∷ []) 1 ≡ value (inf false ∷ [])
-unfolding ofBits add sub mul div lt ofInt number chunks restored linearRadius decompressOf
+unfolding ofBits add sub mul div lt ofInt number chunks radiusOf linearRadius decompressOf
 decompress-infinite = refl
 
 -- 'NaNs, from hostile ranges': a width that overflows, times 0
 decompress-nan : decompressOf BlockLinearU16 1 (between 0xFF7F_FFFF 0x7F7F_FFFF) (0x00 ∷ 0x00 ∷ []) 1 ≡ value (nan ∷ [])
-unfolding ofBits add sub mul div lt ofInt number chunks restored linearRadius decompressOf
+unfolding ofBits add sub mul div lt ofInt number chunks radiusOf linearRadius decompressOf
 decompress-nan = refl
 
 -- negative ranges pass: from −2 to −1, the greatest
 decompress-negative : decompressOf BlockLinearU16 1 (between 0xC000_0000 0xBF80_0000) (0xFF ∷ 0xFF ∷ []) 1 ≡ value (float 0xBF80_0000 ∷ [])
-unfolding ofBits add sub mul div lt ofInt number chunks restored linearRadius decompressOf
+unfolding ofBits add sub mul div lt ofInt number chunks radiusOf linearRadius decompressOf
 decompress-negative = refl
 
 -- ---- the two zeros, and no radii

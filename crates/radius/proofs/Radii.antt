@@ -11,14 +11,15 @@ use lib.ListN.{length, getD, drop, drop-of-length-le}
 use lib.Seq.{drop-cons}
 use lib.Ieee.{Float, nan, inf, fin, isNan, lt}
 use lib.Ieee.Scale.{finite}
-use Rattle.radius.specs.Radii.{zeroFloat, badRadius, least, greatest, rangeOf}
+use Rattle.float.specs.Constants.{posZero}
+use Rattle.radius.specs.Radii.{badRadius, least, greatest, rangeOf}
 use Rattle.radius.specs.declared.Range.{Range}
 
 -- the range of what was passed, with these two the least and the greatest of it, and of what is left
 abbrev pub rangeFrom : Float → Float → List Float → Range
 rangeFrom lo hi rs = record { min = least lo rs; max = greatest hi rs }
 
-pub range-none : (rs : List Float) → length rs ≡ 0 → rangeOf rs ≡ record { min = zeroFloat; max = zeroFloat }
+pub range-none : (rs : List Float) → length rs ≡ 0 → rangeOf rs ≡ record { min = posZero; max = posZero }
 unfolding rangeOf
 range-none [] e = refl
 range-none (r ∷ rs) e = absurd (omega (arith, e))
@@ -55,7 +56,7 @@ radius-not-nan nan e = absurd (true≢false e)
 radius-not-nan (inf s) e = refl
 radius-not-nan (fin s m x) e = refl
 
-pub radius-not-below : (r : Float) → badRadius r ≡ false → lt r zeroFloat ≡ false
+pub radius-not-below : (r : Float) → badRadius r ≡ false → lt r posZero ≡ false
 radius-not-below nan e = absurd (true≢false e)
 radius-not-below (inf s) e = absurd (true≢false e)
 radius-not-below (fin s m x) e = e

@@ -16,7 +16,7 @@ use Rattle.lists.specs.Chunks.{chunks}
 use Rattle.radius.specs.Codec.{widthOf, radiiFor}
 use Rattle.radius.specs.Firsts.{firstBadPayloadOf, readBack, firstBadReadBackOf}
 use Rattle.radius.specs.Inner.{badKept}
-use Rattle.radius.specs.Linear.{spanOf, quantized, linearBytes, restored, linearRadius}
+use Rattle.radius.specs.Linear.{spanOf, quantized, linearBytes, radiusOf, linearRadius}
 use Rattle.radius.specs.Radii.{badRadius, rangeOf}
 use Rattle.lists.proofs.Chunks.{chunks-getD, chunks-length, chunks-joined}
 use Rattle.radius.proofs.Fill.{next-place}
@@ -81,11 +81,11 @@ unfolding quantized
 quantized-small lo span r = roundUnsigned-lt 16 _
 
 -- the radius that a number stands for needs no bytes between
-linear-kept : (range : Range) (r : Float) → linearRadius range (linearBytes range r) ≡ restored (range .min) (sub binary32 (range .max) (range .min)) (quantized (range .min) (spanOf range) r)
+linear-kept : (range : Range) (r : Float) → linearRadius range (linearBytes range r) ≡ radiusOf (range .min) (sub binary32 (range .max) (range .min)) (quantized (range .min) (spanOf range) r)
 unfolding linearRadius linearBytes
 linear-kept range r =
     let n = quantized (range .min) (spanOf range) r in
-    ap (restored (range .min) (sub binary32 (range .max) (range .min))) (number-digits 256 2 n (omega arith) ∙ mod-eq-of-lt (quantized-small (range .min) (spanOf range) r))
+    ap (radiusOf (range .min) (sub binary32 (range .max) (range .min))) (number-digits 256 2 n (omega arith) ∙ mod-eq-of-lt (quantized-small (range .min) (spanOf range) r))
 
 module _ (radii : List Float) where
   pub first-bad-floats-back : Floats radii → firstBadReadBackOf radii F32 ≡ place badRadius radii

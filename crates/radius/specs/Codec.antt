@@ -8,7 +8,8 @@ use Rattle.error.specs.Answer.{Answer, value, Check, check, first, each}
 use Rattle.error.specs.Checks.{differs, wrongRoom}
 use Rattle.float.specs.Bytes.{ofLeBytes, toLeBytes}
 use Rattle.lists.specs.Chunks.{chunks}
-use Rattle.radius.specs.Radii.{zeroFloat, badRadius, badRange, rangeOf}
+use Rattle.float.specs.Constants.{posZero}
+use Rattle.radius.specs.Radii.{badRadius, badRange, rangeOf}
 use Rattle.radius.specs.Linear.{linearBytes, linearRadius}
 use Rattle.radius.specs.declared.Range.{Range}
 use Rattle.radius.specs.declared.RadiusCodecProfileV1.{RadiusCodecProfileV1}
@@ -42,9 +43,9 @@ compressChecks radii profile room =
 
 -- the range that goes with the bytes; F32 has none, and gives 0, 0
 abbrev pub rangeFor : RadiusCodecProfileV1 → List Float → Range
-rangeFor F32 radii = record { min = zeroFloat; max = zeroFloat }
+rangeFor F32 radii = record { min = posZero; max = posZero }
 rangeFor BlockLinearU16 radii = rangeOf radii
-rangeFor BlockLogU8 radii = record { min = zeroFloat; max = zeroFloat }
+rangeFor BlockLogU8 radii = record { min = posZero; max = posZero }
 
 -- the bytes of all radii, one after the other; BlockLogU8 is refused before
 abbrev pub payloadFor : RadiusCodecProfileV1 → List Float → List ℕ

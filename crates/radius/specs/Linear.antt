@@ -1,12 +1,13 @@
 -- A radius as a number of 16 bits within a range, and back, each float step rounded once, in the Rust's order. Assumes nothing.
 use Prim.Native.Nat.{ℕ}
-use mathlib.Core.Bool.{cond}
+use mathlib.Core.Bool.{false, cond}
 use mathlib.Core.List.{List}
 use lib.IntN.{pos}
 use lib.Ieee.{Float, binary32, add, sub, mul, div, lt, ofInt}
 use Rattle.digits.specs.Digits.{number, digits}
 use Rattle.float.specs.Rounding.{roundUnsigned, clamped}
-use Rattle.radius.specs.Radii.{zeroFloat, oneFloat, topFloat, epsilonFloat}
+use Rattle.float.specs.Constants.{posZero, one}
+use Rattle.radius.specs.Radii.{topFloat, epsilonFloat}
 use Rattle.radius.specs.declared.Range.{Range}
 
 -- 'Compress divides by max − min, but at least 2^−23'
@@ -15,16 +16,16 @@ spanOf range = let width = sub binary32 (range .max) (range .min) in cond (lt ep
 
 -- 'the product with 65,535 is rounded half away from zero'
 unfoldable pub quantized : Float → Float → Float → ℕ
-quantized lo span r = roundUnsigned 16 (mul binary32 (clamped zeroFloat oneFloat (div binary32 (sub binary32 r lo) span)) topFloat)
+quantized lo span r = roundUnsigned 16 (mul binary32 (clamped posZero (one false) (div binary32 (sub binary32 r lo) span)) topFloat)
 
 -- its two bytes, the least significant first
 unfoldable pub linearBytes : Range → Float → List ℕ
 linearBytes range r = digits 256 2 (quantized (range .min) (spanOf range) r)
 
 -- 'Decompress multiplies by max − min itself.'
-unfoldable pub restored : Float → Float → ℕ → Float
-restored lo width n = add binary32 lo (mul binary32 width (div binary32 (ofInt binary32 (pos n)) topFloat))
+unfoldable pub radiusOf : Float → Float → ℕ → Float
+radiusOf lo width n = add binary32 lo (mul binary32 width (div binary32 (ofInt binary32 (pos n)) topFloat))
 
 -- the radius that two bytes stand for
 unfoldable pub linearRadius : Range → List ℕ → Float
-linearRadius range bytes = restored (range .min) (sub binary32 (range .max) (range .min)) (number 256 bytes)
+linearRadius range bytes = radiusOf (range .min) (sub binary32 (range .max) (range .min)) (number 256 bytes)

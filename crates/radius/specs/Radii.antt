@@ -3,15 +3,10 @@ use mathlib.Core.Bool.{Bool, not, cond, _||_}
 use mathlib.Core.List.{List, [], _∷_}
 use lib.Ieee.{Float, binary32, ofBits, lt}
 use lib.Ieee.Scale.{finite}
+use Rattle.float.specs.Constants.{posZero}
 use Rattle.radius.specs.declared.Range.{Range}
 
--- 0.0, 1.0, 65535.0 and 2^−23 by their patterns
-abbrev pub zeroFloat : Float
-zeroFloat = ofBits binary32 0x0000_0000
-
-abbrev pub oneFloat : Float
-oneFloat = ofBits binary32 0x3F80_0000
-
+-- 65535.0 and 2^−23 by their patterns
 abbrev pub topFloat : Float
 topFloat = ofBits binary32 0x477F_FF00
 
@@ -20,7 +15,7 @@ epsilonFloat = ofBits binary32 0x3400_0000
 
 -- '16: a radius is NaN, infinite or below zero.' −0.0 is not below zero
 abbrev pub badRadius : Float → Bool
-badRadius r = not (finite r) || lt r zeroFloat
+badRadius r = not (finite r) || lt r posZero
 
 -- '17: a bound not finite, or min above max'. Negative ranges pass
 abbrev pub badRange : Range → Bool
@@ -37,5 +32,5 @@ greatest m (r ∷ rs) = greatest (cond (lt m r) r m) rs
 
 -- 'no radii give 0, 0'
 unfoldable pub rangeOf : List Float → Range
-rangeOf [] = record { min = zeroFloat; max = zeroFloat }
+rangeOf [] = record { min = posZero; max = posZero }
 rangeOf (r ∷ rs) = record { min = least r rs; max = greatest r rs }

@@ -18,7 +18,7 @@ ghost use Rattle.digits.specs.Digits.{digits, number};
 ghost use Rattle.float.specs.Bytes.{ofLeBytes, toLeBytes};
 ghost use Rattle.lists.specs.Chunks.{chunks};
 ghost use Rattle.radius.specs.Radii.{badRadius, badRange, rangeOf};
-ghost use Rattle.radius.specs.Linear.{spanOf, quantized, linearBytes, restored, linearRadius};
+ghost use Rattle.radius.specs.Linear.{spanOf, quantized, linearBytes, radiusOf, linearRadius};
 ghost use Rattle.error.specs.Checks.{differs, wrongRoom};
 ghost use Rattle.radius.specs.Codec.{widthOf, compressRangeOf, compressBytesOf, decompressOf, restoreOf, encodedBytesOf};
 ghost use Rattle.radius.specs.Firsts.{firstBadRadiusOf, firstBadPayloadOf, firstBadReadBackOf};
@@ -105,7 +105,7 @@ pub fn decompress(
 {
     match profile {
         RadiusCodecProfileV1::F32 => {
-            if wrong_length(payload.len(), 4, count) {
+            if bad_length(payload.len(), 4, count) {
                 return Outcome::Refused {
                     number: MALFORMED_LENGTH,
                     place: payload.len(),
@@ -128,7 +128,7 @@ pub fn decompress(
             Outcome::Done
         }
         RadiusCodecProfileV1::BlockLinearU16 => {
-            if wrong_length(payload.len(), 2, count) {
+            if bad_length(payload.len(), 2, count) {
                 return Outcome::Refused {
                     number: MALFORMED_LENGTH,
                     place: payload.len(),
@@ -342,7 +342,7 @@ fn quantize(min: f32, span: f32, radius: f32) -> u16
 }
 
 // Whether a number of bytes is other than `count` times `width`, however large that is.
-fn wrong_length(found: usize, width: usize, count: usize) -> bool
+fn bad_length(found: usize, width: usize, count: usize) -> bool
     requires { ⌜ 0 < width ⌝ }
     ensures { λ r. ⌜ r ≡ differs found (width * count) ⌝ }
 {
@@ -354,7 +354,7 @@ fn check_lengths(found: usize, width: usize, count: usize, room: usize) -> Outco
     requires { ⌜ 0 < width ⌝ }
     ensures { λ r. ⌜ says r ≡ first (check (differs found (width * count)) 13 found ∷ wrongRoom room count ∷ []) accepted ⌝ }
 {
-    if wrong_length(found, width, count) {
+    if bad_length(found, width, count) {
         return Outcome::Refused {
             number: MALFORMED_LENGTH,
             place: found,
@@ -461,7 +461,7 @@ fn read_linear(payload: &[u8], range: Range, out: &mut [f32])
 
 // The radius of a number, from `min` at 0 to a `width` above it at 65,535.
 fn radius_of(min: f32, width: f32, n: u16) -> f32
-    ensures { λ r. ⌜ r ≡ restored min width n ⌝ }
+    ensures { λ r. ⌜ r ≡ radiusOf min width n ⌝ }
 {
     min + width * (n as f32 / MOST)
 }

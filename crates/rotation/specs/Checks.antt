@@ -4,10 +4,10 @@ use mathlib.Core.Bool.{Bool, true, false, not, _&&_, _||_}
 use mathlib.Core.List.{List, [], _∷_}
 use lib.Count.{ones}
 use lib.Dec.{ltb, eqb}
-use lib.IntN.{pos}
 use lib.ListN.{length}
-use lib.Ieee.{Float, fin, ne}
-use Rattle.error.specs.Answer.{Check, check, each}
+use lib.Ieee.{Float, ne}
+use Rattle.float.specs.Constants.{one}
+use Rattle.error.specs.Answer.{Check, check, place, each}
 use Rattle.error.specs.Checks.{wrongInput, wrongRoom}
 
 -- '2: dimension 0. Place 0.'
@@ -28,7 +28,11 @@ wrongPower n = check (badPower n) 4 n
 
 -- '10: a sign is neither −1 nor 1. Place: its index.'
 abbrev pub badSign : Float → Bool
-badSign s = ne s (fin true 1 (pos 0)) && ne s (fin false 1 (pos 0))
+badSign s = ne s (one true) && ne s (one false)
+
+-- the index of the first sign that is neither, or their number where there is none
+abbrev pub firstBadSignOf : List Float → ℕ
+firstBadSignOf signs = place badSign signs
 
 -- 'Rotating either way: 2, 3, 4, 5 for the signs, 10, 5 for the input'; 'In every call 6 comes after all input checks.'
 abbrev pub rotationChecks : ℕ → List Float → ℕ → ℕ → List Check

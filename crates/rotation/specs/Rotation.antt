@@ -5,17 +5,17 @@ use mathlib.Core.List.{List, map}
 use lib.Count.{trailingZeros}
 use lib.IntN.{pos}
 use lib.ListN.{length}
-use lib.Ieee.{Float, fin, binary32, add, sub, mul, div, ofInt}
+use lib.Ieee.{Float, binary32, add, sub, mul, div, ofInt}
 use Rattle.error.specs.Answer.{Answer, value, first}
 use Rattle.float.specs.SquareRoot.{squareRoot}
 use Rattle.rounding.specs.Butterfly.{stages}
 use Rattle.rounding.specs.Sums.{products}
-use Rattle.float.specs.Constants.{posZero}
+use Rattle.float.specs.Constants.{posZero, one}
 use Rattle.rotation.specs.Checks.{rotationChecks}
 
 -- '`1 / sqrt(n)`, root and quotient each rounded once'
 unfoldable pub inverseRoot : ℕ → Float
-inverseRoot n = div binary32 (fin false 1 (pos 0)) (squareRoot (ofInt binary32 (pos n)))
+inverseRoot n = div binary32 (one false) (squareRoot (ofInt binary32 (pos n)))
 
 -- each value times the factor
 unfoldable pub scaled : Float → List Float → List Float

@@ -13,12 +13,12 @@ ghost use mathlib.Core.Path.{_≡_};
 ghost use Prim.Native.Nat.{_+_, _*_, _^_, _≤_};
 ghost use lib.ListN.{length};
 ghost use lib.Ieee.{binary32, add, sub};
-ghost use Rattle.error.specs.Answer.{first, place, accepted, done, after};
+ghost use Rattle.error.specs.Answer.{first, accepted, done, after};
 ghost use Rattle.error.specs.Outcomes.{says};
 ghost use Rattle.rounding.specs.Butterfly.{stage, stages};
 ghost use Rattle.rounding.specs.Sums.{products};
 ghost use Rattle.float.specs.Constants.{posZero};
-ghost use Rattle.rotation.specs.Checks.{badSign, badPower, rotationChecks};
+ghost use Rattle.rotation.specs.Checks.{badSign, firstBadSignOf, badPower, rotationChecks};
 ghost use Rattle.rotation.specs.Rotation.{inverseRoot, scaled, hadamardOf, applyOf, applyInverseOf};
 ghost use Rattle.rotation.specs.Inner.{BlockDone, Stepped, Transformable};
 
@@ -41,7 +41,7 @@ fn is_bad_sign(sign: f32) -> bool
 
 // The index of the first sign that is neither -1 nor 1, or their number where there is none.
 pub fn first_bad_sign(signs: &[f32]) -> usize
-    ensures { λ r. ⌜ r ≡ place badSign (now (signs .entry)) ⌝ }
+    ensures { λ r. ⌜ r ≡ firstBadSignOf (now (signs .entry)) ⌝ }
 {
     let mut i = 0;
     while i < signs.len() {

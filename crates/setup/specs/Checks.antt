@@ -4,11 +4,11 @@ use Prim.Native.Nat.{ℕ}
 use mathlib.Core.Bool.{Bool, true, false, not, _||_}
 use mathlib.Core.List.{List, [], _∷_, _++_}
 use lib.Dec.{ltb, eqb}
-use lib.IntN.{pos}
 use lib.ListN.{length}
-use lib.Ieee.{Float, fin, lt}
+use lib.Ieee.{Float, lt}
 use lib.Ieee.Scale.{finite}
-use Rattle.error.specs.Answer.{Check, check, each}
+use Rattle.float.specs.Constants.{one}
+use Rattle.error.specs.Answer.{Check, check, place, each}
 use Rattle.rotation.specs.Checks.{wrongZeroDimension, wrongOddDimension, wrongPower, badSign}
 use Rattle.error.specs.Checks.{wrongInput, badValue}
 use Rattle.setup.specs.declared.Setup.{Setup}
@@ -34,7 +34,11 @@ wrongProjections mode m = check (badProjections mode m) 8 m
 
 -- '7: a direction entry is not finite or lies outside −1..1. Place: its index.'
 unfoldable pub badDirection : Float → Bool
-badDirection x = not (finite x) || lt x (fin true 1 (pos 0)) || lt (fin false 1 (pos 0)) x
+badDirection x = not (finite x) || lt x (one true) || lt (one false) x
+
+-- the index of the first direction entry that offends, or their number where there is none
+abbrev pub firstBadDirectionOf : List Float → ℕ
+firstBadDirectionOf directions = place badDirection directions
 
 -- 'Setup: 2, 3, 1, 8, 4, ..': the scalars
 abbrev pub scalarChecks : Setup → List Check

@@ -15,12 +15,12 @@ use error::ZERO_PROJECTION_COUNT;
 ghost use mathlib.Core.Path.{_≡_};
 ghost use Prim.Native.Nat.{_*_, _^_, _≤_};
 ghost use lib.ListN.{length};
-ghost use Rattle.error.specs.Answer.{first, place, accepted};
-ghost use Rattle.error.specs.Checks.{badValue};
+ghost use Rattle.error.specs.Answer.{first, accepted};
+ghost use Rattle.error.specs.Checks.{firstNonFiniteOf};
 ghost use Rattle.error.specs.Outcomes.{says};
 ghost use Rattle.setup.specs.Lent.{lent};
 ghost use Rattle.setup.specs.Setups.{polarBitsOf, countedProjectionsOf};
-ghost use Rattle.setup.specs.Checks.{badTotalBits, badProjections, badDirection, scalarChecks, tableChecksButEntries, entryChecks, setupChecks, setupChecksButEntries, directionChecks};
+ghost use Rattle.setup.specs.Checks.{badTotalBits, badProjections, badDirection, firstBadDirectionOf, scalarChecks, tableChecksButEntries, entryChecks, setupChecks, setupChecksButEntries, directionChecks};
 ghost use Rattle.error.specs.Sweep.{clear};
 ghost use Rattle.setup.specs.Seeds.{hadamardSeedOf, matrixSeedOf};
 
@@ -169,7 +169,7 @@ pub fn check_but_entries(setup: Setup, signs: &[f32], directions: &[f32], matrix
 
 // The index of the first direction entry that is not finite or lies outside -1..1, or their number where there is none.
 pub fn first_bad_direction(directions: &[f32]) -> usize
-    ensures { λ r. ⌜ r ≡ place badDirection (now (directions .entry)) ⌝ }
+    ensures { λ r. ⌜ r ≡ firstBadDirectionOf (now (directions .entry)) ⌝ }
 {
     if all_directions(directions) {
         return directions.len();
@@ -307,7 +307,7 @@ fn all_directions(directions: &[f32]) -> bool
 
 // The index of the first direction entry that offends, one by one, or their number where there is none.
 fn find_bad_direction(directions: &[f32]) -> usize
-    ensures { λ r. ⌜ r ≡ place badDirection (now (directions .entry)) ⌝ }
+    ensures { λ r. ⌜ r ≡ firstBadDirectionOf (now (directions .entry)) ⌝ }
 {
     let mut i = 0;
     while i < directions.len() {
@@ -322,7 +322,7 @@ fn find_bad_direction(directions: &[f32]) -> usize
 // The index of the first matrix entry that is not finite, row by row, or their number where there is none.
 fn first_non_finite_entry(matrix: &[f32], rows: usize, columns: usize) -> usize
     requires { ⌜ rows * columns ≡ length (now matrix) ⌝ }
-    ensures { λ r. ⌜ r ≡ place badValue (now (matrix .entry)) ⌝ }
+    ensures { λ r. ⌜ r ≡ firstNonFiniteOf (now (matrix .entry)) ⌝ }
 {
     let mut found = matrix.len();
     let mut row = 0;

@@ -26,7 +26,7 @@ use Rattle.turbo_opening.specs.Opening.{contentOf, openChecks}
 use Rattle.turbo.specs.Scoring.{recordScore, recordScoreChecks}
 use Rattle.turbo.specs.Inner.{joined, recordScoreOf}
 use Rattle.turbo.specs.Estimates.{readingChecks, innerProductEstimatePhasedOf, estimate, scoredChecks, estimateChecks, innerProductEstimateOf, readyChecks, innerProductEstimatePreparedOf, lengthsAndValues}
-use Rattle.turbo.specs.Distance.{apart, cutAtZero, distance, l2DistanceEstimateOf}
+use Rattle.turbo.specs.Distance.{distanceSum, cutAtZero, distance, l2DistanceEstimateOf}
 use Rattle.turbo.proofs.Demand.{scored-estimate}
 
 -- without residual the projected query is not read, and with it every projection counts
@@ -168,8 +168,8 @@ module _ (s : Setup) (l : Lent) (query : List Float) (bytes : List ℕ) where
 
   -- the score is known: the cut distance by it, or 12
   pub distance-scored : {x : Float} → innerProductEstimateOf s l query bytes ≡ value x
-      → l2DistanceEstimateOf s l query bytes ≡ first (wrongScore (cutAtZero (apart query (radiiOf bytes) x)) ∷ []) (value (cutAtZero (apart query (radiiOf bytes) x)))
+      → l2DistanceEstimateOf s l query bytes ≡ first (wrongScore (cutAtZero (distanceSum query (radiiOf bytes) x)) ∷ []) (value (cutAtZero (distanceSum query (radiiOf bytes) x)))
   unfolding innerProductEstimateOf l2DistanceEstimateOf
   distance-scored e =
       append-passed (estimateChecks s l query bytes) (wrongScore (distance s l query bytes) ∷ []) (estimate s l query bytes) (value (distance s l query bytes)) e
-      ∙ ap (λ (y : Float). first (wrongScore (cutAtZero (apart query (radiiOf bytes) y)) ∷ []) (value (cutAtZero (apart query (radiiOf bytes) y)))) (scored-estimate s l query bytes e)
+      ∙ ap (λ (y : Float). first (wrongScore (cutAtZero (distanceSum query (radiiOf bytes) y)) ∷ []) (value (cutAtZero (distanceSum query (radiiOf bytes) y)))) (scored-estimate s l query bytes e)

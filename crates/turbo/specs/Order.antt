@@ -10,7 +10,7 @@ use Rattle.rounding.specs.Signed.{Diff, Near, Under, _⊙_}
 use Rattle.rounding.specs.Value.{val}
 use Rattle.setup.specs.Lent.{Lent}
 use Rattle.setup.specs.declared.Setup.{Setup}
-use Rattle.turbo_order.specs.Scores.{perUnit, scaledExact, boundOf}
+use Rattle.turbo_order.specs.Scores.{perUnit, scaledExact, scoreBound}
 use Rattle.turbo_opening.specs.Opening.{contentOf}
 use Rattle.turbo.specs.Estimates.{innerProductEstimateOf}
 
@@ -26,7 +26,7 @@ abbrev pub exactOf : Setup → Lent → List Float → List ℕ → Diff
 exactOf s l query bytes = scaledExact s l query (contentOf bytes)
 
 abbrev pub boundFor : Setup → Lent → List Float → List ℕ → ℕ
-boundFor s l query bytes = boundOf s l query (contentOf bytes)
+boundFor s l query bytes = scoreBound s l query (contentOf bytes)
 
 pub record Demand (s : Setup) (l : Lent) (query : List Float) : Type 0 where
   -- 'That score lies within its bound where it differs from its exact score by at most the bound.'

@@ -12,7 +12,7 @@ use Rattle.setup.specs.declared.Setup.{Setup}
 use Rattle.setup.specs.declared.TurboMode.the-variants.{PolarOnly}
 use Rattle.polar.specs.Exact.{sizeTerm, polarSize}
 use Rattle.turbo_order.specs.Account.{Account}
-use Rattle.turbo_order.specs.Scores.{Content, sizeBy, perOne, perRadius, boundBy}
+use Rattle.turbo_order.specs.Scores.{Content, sizeBy, perStep, perRadius, boundBy}
 
 abbrev account : Account
 account = record { entries = []; exact = []; sizes = 3 ∷ 5 ∷ []; count = 4; factor = 7 }
@@ -35,5 +35,5 @@ size-of-pair = refl
 
 -- (4 + 0 + 16) × A, 7 × R and 2 × 0 + 2
 pub bound-of-pair : boundBy account setup lent [] content ≡ 20 * (2 ^ 149 * (2 ^ 149 * 8)) + (2 ^ 324 * (7 * 2 ^ 149) + 2 ^ 473 * 2)
-unfolding boundBy sizeBy polarSize sizeTerm absoluteSum sum from mag unit perOne perRadius
+unfolding boundBy sizeBy polarSize sizeTerm absoluteSum sum from mag unit perStep perRadius
 bound-of-pair = refl

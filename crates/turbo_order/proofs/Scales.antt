@@ -5,14 +5,14 @@ use native.Mathlib.Nat.{mul-assoc, mul-le-mul-right, mul-le-mul-left}
 use native.Mathlib.Omega.{arith}
 use Rattle.rounding.specs.Signed.{Diff, _⊙_}
 use Rattle.float.specs.Units.{unit}
-use Rattle.turbo_order.specs.Scores.{perUnit, perOne, perRadius}
+use Rattle.turbo_order.specs.Scores.{perUnit, perStep, perRadius}
 
 per-unit : perUnit ≡ 2 ^ 23 * (unit * unit * unit)
 unfolding perUnit unit
 per-unit = refl
 
-pub per-one : perOne ≡ 2 ^ 23 * (8 * (unit * unit * unit))
-unfolding perOne unit
+pub per-one : perStep ≡ 2 ^ 23 * (8 * (unit * unit * unit))
+unfolding perStep unit
 per-one = refl
 
 pub per-radius : perRadius ≡ 2 ^ 23 * (8 * (unit * unit))

@@ -33,7 +33,7 @@ use Rattle.polar.proofs.Directions.{within-small, missing-small}
 use Rattle.polar.proofs.Counts.{close-polar-most}
 use Rattle.qjl.proofs.ScaleBound.{close-unit-residual}
 use Rattle.turbo_order.specs.Account.{Account, Sound}
-use Rattle.turbo_order.specs.Scores.{Content, polarPart, residualPart, scoreFrom, scoreBy, exactPolarPart, exactResidualPart, exactBy, polarPartSize, residualPartSize, sizeBy, perUnit, perOne, perRadius, boundBy}
+use Rattle.turbo_order.specs.Scores.{Content, polarPart, residualPart, scoreFrom, scoreBy, exactPolarPart, exactResidualPart, exactBy, polarPartSize, residualPartSize, sizeBy, perUnit, perStep, perRadius, boundBy}
 use Rattle.turbo_order.proofs.Scales.{per-one, per-radius, scaled-unit, alone-within, residual-within}
 
 -- what the checks of setup, query and record leave, whatever the rotation
@@ -105,7 +105,7 @@ module _ (a : Account) (s : Setup) (l : Lent) (query : List Float) (c : Content)
 
   -- ---- the first half: within the bound, by mode
   bound-at : ℕ → ℕ → ℕ
-  bound-at m size = (a .count + m + 16) * size + (perRadius * (a .factor * absoluteSum (c .radii)) + perOne * (s .dim * m + s .dim))
+  bound-at m size = (a .count + m + 16) * size + (perRadius * (a .factor * absoluteSum (c .radii)) + perStep * (s .dim * m + s .dim))
 
   by-mode : (mode : TurboMode) → s .mode ≡ mode → T (finite (byMode mode (polarPart a l c) (add binary32 (polarPart a l c) (residualPart s l query c))))
       → Near (perUnit ⊙ val (byMode mode (polarPart a l c) (add binary32 (polarPart a l c) (residualPart s l query c)))) (2 ^ 23 ⊙ byMode mode (exactPolarPart a l c) (exactPolarPart a l c ⊞ exactResidualPart s l query c))

@@ -81,8 +81,8 @@ unfoldable pub perUnit : ℕ
 perUnit = 2 ^ 470
 
 -- how many make 1 / 2 ^ 146
-unfoldable pub perOne : ℕ
-perOne = 2 ^ 473
+unfoldable pub perStep : ℕ
+perStep = 2 ^ 473
 
 -- how many make 2 ^ -149 / 2 ^ 146, of which R / 2 ^ 146 is a whole number
 unfoldable pub perRadius : ℕ
@@ -92,7 +92,7 @@ perRadius = 2 ^ 324
 unfoldable pub boundBy : Account → Setup → Lent → List Float → Content → ℕ
 boundBy a s l query c =
     (a .count + countedProjectionsOf s + 16) * sizeBy a s l query c
-    + (perRadius * (a .factor * absoluteSum (c .radii)) + perOne * (s .dim * countedProjectionsOf s + s .dim))
+    + (perRadius * (a .factor * absoluteSum (c .radii)) + perStep * (s .dim * countedProjectionsOf s + s .dim))
 
 -- ---- under the rotation of the setup
 abbrev pub accountOf : Setup → Lent → List Float → Account
@@ -105,5 +105,5 @@ scoreOf s l query c = scoreBy (accountOf s l query) s l query c
 abbrev pub scaledExact : Setup → Lent → List Float → Content → Diff
 scaledExact s l query c = 2 ^ 23 ⊙ exactBy (accountOf s l query) s l query c
 
-abbrev pub boundOf : Setup → Lent → List Float → Content → ℕ
-boundOf s l query c = boundBy (accountOf s l query) s l query c
+abbrev pub scoreBound : Setup → Lent → List Float → Content → ℕ
+scoreBound s l query c = boundBy (accountOf s l query) s l query c

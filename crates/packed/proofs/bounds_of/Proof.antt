@@ -1,5 +1,6 @@
 -- `packed::bounds_of` meets its contract. Assumes nothing.
 use Rattle.packed.specs.Fields.{boundsOf}
+use lib.Ieee.{ofBits}
 use borrow.Author.Tests.{eq-eqb, ne-eqb}
 use borrow.Author.Needs.{needs}
 use Rattle.packed.proofs.bounds_of.Statement.{statement}
@@ -19,7 +20,7 @@ unfolding boundsOf
 returns c = rw (eq-eqb _ _ (c .before .before .if1 .taken), ← c .before .get-f32 .ensures, ← c .get-f322 .ensures)
 
 returns-2 : tie.Need-returns-2
-unfolding boundsOf
+unfolding ofBits boundsOf
 returns-2 c = rw (ne-eqb _ _ (c .if1 .left))
 
 pub bounds-of-spec : {M : Type 1} → statement M

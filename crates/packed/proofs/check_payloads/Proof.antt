@@ -16,7 +16,7 @@ use Rattle.packed.specs.Radii.{badBoundsFor}
 use Rattle.packed.specs.Reading.{radiiOf}
 use Rattle.error.specs.Outcomes.{says}
 use Rattle.error.specs.Answer.{accepted}
-use Rattle.packed.specs.Layout.{pairsOf, indicesUsed, totalOf, indicesBytes, signsBytes}
+use Rattle.packed.specs.Layout.{pairsOf, indicesUsed, recordLength, indicesBytes, signsBytes}
 use Rattle.packed.proofs.Headers.{usable, bits-most, product-most}
 use Rattle.packed.proofs.Parts.{Ordered, ordered, radii-part, indices-part, signs-part, length-radii, header-pairs, header-used, header-projections, header-bounds, header-width, header-radii}
 use Rattle.packed.proofs.Payloads.{payload-size, payload-bounds, payload-radius, payload-indices, payload-signs}
@@ -25,7 +25,7 @@ use Rattle.packed.proofs.check_payloads.Statement.{statement}
 use Rattle.packed.proofs.check_payloads.Tie as tie
 
 -- the whole length is right
-sized : (c : tie.Else1) → let bytes = now (c .before .before .args .bytes) in length bytes ≡ totalOf bytes
+sized : (c : tie.Else1) → let bytes = now (c .before .before .args .bytes) in length bytes ≡ recordLength bytes
 sized c = c .if1 .left ∙ ordered (now (c .before .before .args .bytes)) (c .before .before .pre .0) .last
 
 -- the header's places lie in the record, in their order
@@ -35,7 +35,7 @@ within c =
     record { first = o .first; second = o .second; third = o .third; last = sym (c .if1 .left) }
 
 bounds : (c : tie.Else2) → let bytes = now (c .before .before .before .before .before .args .bytes) in badBoundsFor (profileOf (mapOf bytes)) (boundsOf bytes) ≡ false
-bounds c = sym (header-bounds (now (c .before .before .before .before .before .args .bytes)) (c .before .before .before .before .before .pre .0)) ∙ sym (c .before .wrong-bounds .ensures) ∙ c .if2 .left
+bounds c = sym (header-bounds (now (c .before .before .before .before .before .args .bytes)) (c .before .before .before .before .before .pre .0)) ∙ sym (c .before .bad-bounds-for .ensures) ∙ c .if2 .left
 
 found : (c : tie.After-first-bad-payload) → let bytes = now (c .before .before .before .before .before .before .before .before .args .bytes) in c .first-bad-payload .result ≡ place badRadius (radiiOf bytes)
 found c =
@@ -61,11 +61,11 @@ padding c =
 returns : tie.Need-returns
 returns c = sym (payload-size (now (c .before .before .args .bytes)) (λ e. c .if1 .taken (e ∙ sym (ordered (now (c .before .before .args .bytes)) (c .before .before .pre .0) .last))))
 
-wrong-bounds-requires : tie.Need-wrong-bounds-requires
-wrong-bounds-requires c κs = search needs
+bad-bounds-for-requires : tie.Need-bad-bounds-for-requires
+bad-bounds-for-requires c κs = search needs
 
 returns-2 : tie.Need-returns-2
-returns-2 c = sym (payload-bounds (now (c .before .before .before .before .before .args .bytes)) (sized (c .before .before .before)) (sym (header-bounds (now (c .before .before .before .before .before .args .bytes)) (c .before .before .before .before .before .pre .0)) ∙ sym (c .before .wrong-bounds .ensures) ∙ c .if2 .taken))
+returns-2 c = sym (payload-bounds (now (c .before .before .before .before .before .args .bytes)) (sized (c .before .before .before)) (sym (header-bounds (now (c .before .before .before .before .before .args .bytes)) (c .before .before .before .before .before .pre .0)) ∙ sym (c .before .bad-bounds-for .ensures) ∙ c .if2 .taken))
 
 sub-first-bad-payload : tie.Need-sub-first-bad-payload
 sub-first-bad-payload c = let w = within (c .before .before .before .before) in omega (arith, w .first, w .second, w .third, w .last)
@@ -141,7 +141,7 @@ check-payloads-spec =
     tie.close
     (tie.spec
     returns
-    wrong-bounds-requires
+    bad-bounds-for-requires
     returns-2
     sub-first-bad-payload
     part-first-bad-payload-start

@@ -2,6 +2,7 @@
 use mathlib.Core.Path.{refl, sym, ap, _∙_}
 use mathlib.Core.List.{flatMap}
 use lib.ListN.{length}
+use lib.Ieee.{ofBits}
 use denote.Ref.{now}
 use Rattle.error.proofs.Answers.{after-refused, after-value}
 use Rattle.error.specs.Answer.{value}
@@ -77,7 +78,7 @@ same-length : tie.Need-same-length
 same-length c = search needs
 
 returns-4 : tie.Need-returns-4
-unfolding compressRangeOf compressBytesOf
+unfolding ofBits compressRangeOf compressBytesOf
 returns-4 c =
     let a = c .before .before .before .before .before .before .before .before .before .before .before .args in
     let radii = now (a .radii) in

@@ -22,18 +22,18 @@ use Rattle.radius.proofs.decompress.Tie as tie
 enum-told : tie.Need-enum-told
 enum-told c = search needs
 
-wrong-length-requires : tie.Need-wrong-length-requires
-wrong-length-requires c κs = search needs
+bad-length-requires : tie.Need-bad-length-requires
+bad-length-requires c κs = search needs
 
 returns : tie.Need-returns
 returns c =
     let a = c .before .before .before .before .before .before .args in
-    let e = decompress-length (a .count) (a .range) (now (a .payload)) (length (now (a .out))) F32 refl (sym (c .before .wrong-length .ensures) ∙ c .if1 .taken) in
+    let e = decompress-length (a .count) (a .range) (now (a .payload)) (length (now (a .out))) F32 refl (sym (c .before .bad-length .ensures) ∙ c .if1 .taken) in
     rw (c .before .before .enum-told .given .1) (sym (done-refused _ e), sym (after-refused _ _ e))
 
 -- past the length's check
 float-length : (c : tie.Else1) → let a = c .before .before .before .before .before .before .args in differs (length (now (a .payload))) (4 * a .count) ≡ false
-float-length c = sym (c .before .wrong-length .ensures) ∙ c .if1 .left
+float-length c = sym (c .before .bad-length .ensures) ∙ c .if1 .left
 
 first-bad-floats-requires : tie.Need-first-bad-floats-requires
 first-bad-floats-requires c κs =
@@ -59,18 +59,18 @@ read-floats-requires c κs = eqb-true _ _ (not-false _ (float-length (c .before 
 enum-told-2 : tie.Need-enum-told-2
 enum-told-2 c = search needs
 
-wrong-length-requires-2 : tie.Need-wrong-length-requires-2
-wrong-length-requires-2 c κs = search needs
+bad-length-requires-2 : tie.Need-bad-length-requires-2
+bad-length-requires-2 c κs = search needs
 
 returns-4 : tie.Need-returns-4
 returns-4 c =
     let a = c .before .before .before .before .before .before .args in
-    let e = decompress-length (a .count) (a .range) (now (a .payload)) (length (now (a .out))) BlockLinearU16 refl (sym (c .before .wrong-length2 .ensures) ∙ c .if4 .taken) in
+    let e = decompress-length (a .count) (a .range) (now (a .payload)) (length (now (a .out))) BlockLinearU16 refl (sym (c .before .bad-length2 .ensures) ∙ c .if4 .taken) in
     rw (c .before .before .enum-told2 .given .1) (sym (done-refused _ e), sym (after-refused _ _ e))
 
 -- past the length's check
 linear-length : (c : tie.Else4) → let a = c .before .before .before .before .before .before .args in differs (length (now (a .payload))) (2 * a .count) ≡ false
-linear-length c = sym (c .before .wrong-length2 .ensures) ∙ c .if4 .left
+linear-length c = sym (c .before .bad-length2 .ensures) ∙ c .if4 .left
 
 -- past the range's check
 linear-range : (c : tie.Else5) → badRange (c .before .before .before .before .before .before .before .before .args .range) ≡ false
@@ -136,14 +136,14 @@ decompress-spec =
     tie.close
     (tie.spec
     enum-told
-    wrong-length-requires
+    bad-length-requires
     returns
     first-bad-floats-requires
     returns-2
     returns-3
     read-floats-requires
     enum-told-2
-    wrong-length-requires-2
+    bad-length-requires-2
     returns-4
     is-bad-range-requires
     returns-5

@@ -10,14 +10,14 @@ use borrow.Author.Needs.{needs, scaled-fits}
 use Rattle.error.specs.Answer.{place}
 use Rattle.error.proofs.Places.{place-start, place-skip, place-here, place-end}
 use Rattle.radius.specs.Inner.{badKept}
-use Rattle.radius.specs.Linear.{spanOf, quantized, restored}
+use Rattle.radius.specs.Linear.{spanOf, quantized, radiusOf}
 use Rattle.radius.specs.Radii.{badRadius}
 use Rattle.radius.proofs.first_bad_kept.Statement.{statement}
 use Rattle.radius.proofs.first_bad_kept.Tie as tie
 
 -- whether the number of a radius reads as no radius, from a least radius, a span to write by and a width to read by
 abbrev kept : Float → Float → Float → Float → Bool
-kept min span width r = badRadius (restored min width (quantized min span r))
+kept min span width r = badRadius (radiusOf min width (quantized min span r))
 
 abbrev Inv-loop : tie.InvT-loop
 Inv-loop radii min span width i₀ i = (i ≤ length radii) × (place (kept min span width) radii ≡ i + place (kept min span width) (drop i radii))
@@ -58,7 +58,7 @@ at-range c =
 
 -- what was judged is the radius at hand
 judged : (c : tie.After-is-bad-radius Inv-loop μ-loop) → let l = c .before .before .before .before .before in let s = l .before .before .before .before in c .is-bad-radius .result ≡ kept (s .args .range .min) (l .before .before .span-of .result) (l .before .breadth .result) (getD (now (s .args .radii)) (l .loop .i) nan)
-judged c = c .is-bad-radius .ensures ∙ ap badRadius (c .before .radius-of .ensures ∙ ap (restored _ _) (c .before .before .quantize .ensures))
+judged c = c .is-bad-radius .ensures ∙ ap badRadius (c .before .radius-of .ensures ∙ ap (radiusOf _ _) (c .before .before .quantize .ensures))
 
 returns : tie.Need-returns Inv-loop μ-loop
 returns c = let l = c .before .before .before .before .before .before in sym (place-here (kept _ _ _) _ _ nan (c .before .before .before .before .before .loop-test .taken) (sym (judged (c .before)) ∙ c .if1 .taken) (l .loop .inv .1)) ∙ at-range (l .before)

@@ -9,7 +9,7 @@ use native.Mathlib.Omega.{arith}
 use borrow.Author.Needs.{needs}
 use lib.Ieee.{Float}
 use Rattle.digits.specs.Digits.{number}
-use Rattle.radius.specs.Linear.{restored, linearRadius}
+use Rattle.radius.specs.Linear.{radiusOf, linearRadius}
 use Rattle.radius.specs.Radii.{badRadius}
 use Rattle.radius.proofs.Scan.{Scanned, scanned-start, scanned-next, scanned-here, scanned-end}
 use Rattle.radius.proofs.first_bad_linear.Statement.{statement}
@@ -17,7 +17,7 @@ use Rattle.radius.proofs.first_bad_linear.Tie as tie
 
 -- the radius that two bytes stand for, from a least radius and a width
 abbrev radius : Float → Float → List ℕ → Float
-radius min width bytes = restored min width (number 256 bytes)
+radius min width bytes = radiusOf min width (number 256 bytes)
 
 abbrev Inv-loop : tie.InvT-loop
 Inv-loop payload count min width i₀ at₀ i at = Scanned badRadius (radius min width) 2 payload count i at
@@ -48,7 +48,7 @@ at-width c =
     ap (λ (width : Float). place badRadius (map (radius (a .range .min) width) (chunks 2 (a .count) (now (a .payload))))) (c .breadth .ensures)
 
 returns : tie.Need-returns Inv-loop μ-loop
-returns c = (scanned-here badRadius (radius _ _) 2 _ _ _ _ _ (c .before .before .before .before .loop-test .taken) (c .before .before .before .before .before .loop .inv) (c .before .before .radius-of .ensures ∙ ap (restored _ _) (c .before .before .before .get-number .ensures)) (sym (c .before .is-bad-radius .ensures) ∙ c .if1 .taken)) ∙ at-width (c .before .before .before .before .before .before)
+returns c = (scanned-here badRadius (radius _ _) 2 _ _ _ _ _ (c .before .before .before .before .loop-test .taken) (c .before .before .before .before .before .loop .inv) (c .before .before .radius-of .ensures ∙ ap (radiusOf _ _) (c .before .before .before .get-number .ensures)) (sym (c .before .is-bad-radius .ensures) ∙ c .if1 .taken)) ∙ at-width (c .before .before .before .before .before .before)
 
 add-i : tie.Need-add-i Inv-loop μ-loop
 add-i c = omega arith
@@ -60,7 +60,7 @@ loop-less : tie.Need-loop-less Inv-loop μ-loop
 loop-less c = omega arith
 
 loop-again : tie.Need-loop-again Inv-loop μ-loop
-loop-again c = scanned-next badRadius (radius _ _) 2 _ _ _ _ _ (c .before .before .before .before .loop-test .taken) (c .before .before .before .before .before .loop .inv) (c .before .before .radius-of .ensures ∙ ap (restored _ _) (c .before .before .before .get-number .ensures)) (sym (c .before .is-bad-radius .ensures) ∙ c .if1 .left)
+loop-again c = scanned-next badRadius (radius _ _) 2 _ _ _ _ _ (c .before .before .before .before .loop-test .taken) (c .before .before .before .before .before .loop .inv) (c .before .before .radius-of .ensures ∙ ap (radiusOf _ _) (c .before .before .before .get-number .ensures)) (sym (c .before .is-bad-radius .ensures) ∙ c .if1 .left)
 
 returns-2 : tie.Need-returns-2 Inv-loop μ-loop
 returns-2 c = scanned-end badRadius (radius _ _) 2 _ _ _ _ (c .loop-test .left) (c .before .loop .inv) ∙ at-width (c .before .before)

@@ -5,7 +5,7 @@ use mathlib.Core.Bool.{cond}
 use mathlib.Core.Logic.{⊎-elim}
 use native.Mathlib.Omega.{arith}
 use lib.ListN.{length, getD, drop}
-use lib.Ieee.{nan, lt}
+use lib.Ieee.{nan, lt, ofBits}
 use denote.Ref.{now}
 use borrow.Author.Needs.{scaled-fits}
 use Rattle.radius.specs.Radii.{rangeOf}
@@ -20,6 +20,7 @@ abbrev μ-loop : tie.MeasureT-loop
 μ-loop radii min₀ max₀ i₀ min max i = length radii - i
 
 returns : tie.Need-returns Inv-loop μ-loop
+unfolding ofBits
 returns c = sym (range-none _ (c .if1 .taken))
 
 shared-slice-read-min : tie.Need-shared-slice-read-min Inv-loop μ-loop

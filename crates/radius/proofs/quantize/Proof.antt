@@ -1,7 +1,7 @@
 -- `radius::quantize` meets its contract: the definition's steps, one by one. Assumes nothing.
 use mathlib.Core.Path.{ap, _∙_}
 use borrow.Author.Needs.{needs}
-use lib.Ieee.{Float, binary32, mul}
+use lib.Ieee.{Float, binary32, mul, ofBits}
 use Rattle.float.specs.Rounding.{roundUnsigned}
 use Rattle.radius.specs.Radii.{topFloat}
 use Rattle.radius.specs.Linear.{quantized}
@@ -15,7 +15,7 @@ round-u16-requires : tie.Need-round-u16-requires
 round-u16-requires c κs = search needs
 
 returns : tie.Need-returns
-unfolding quantized
+unfolding quantized ofBits
 returns c = c .round-u16 .ensures ∙ ap (λ (x : Float). roundUnsigned 16 (mul binary32 x topFloat)) (c .before .clamp .ensures)
 
 pub quantize-spec : {M : Type 1} → statement M

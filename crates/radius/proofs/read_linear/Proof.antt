@@ -9,14 +9,14 @@ use lib.Ieee.{Float}
 use borrow.Author.Needs.{needs, scaled-fits}
 use Rattle.digits.specs.Digits.{number}
 use Rattle.lists.specs.Chunks.{chunks}
-use Rattle.radius.specs.Linear.{restored, linearRadius}
+use Rattle.radius.specs.Linear.{radiusOf, linearRadius}
 use Rattle.radius.proofs.Fill.{Gathered, gathered-start, gathered-next, gathered-end, place-within}
 use Rattle.radius.proofs.read_linear.Statement.{statement}
 use Rattle.radius.proofs.read_linear.Tie as tie
 
 -- the radius that two bytes stand for, from a least radius and a width
 abbrev radius : Float → Float → List ℕ → Float
-radius min width bytes = restored min width (number 256 bytes)
+radius min width bytes = radiusOf min width (number 256 bytes)
 
 abbrev Inv-loop : tie.InvT-loop
 Inv-loop payload out₀ min width i₀ at₀ out i at = Gathered (radius min width) 2 payload (length out₀) out i at
@@ -56,7 +56,7 @@ loop-less : tie.Need-loop-less Inv-loop μ-loop
 loop-less c = omega (arith, below (c .before .before))
 
 loop-again : tie.Need-loop-again Inv-loop μ-loop
-loop-again c = gathered-next (radius _ _) 2 _ _ _ _ _ _ (below (c .before .before)) (c .before .before .before .loop .inv) (c .radius-of .ensures ∙ ap (restored _ _) (c .before .get-number .ensures))
+loop-again c = gathered-next (radius _ _) 2 _ _ _ _ _ _ (below (c .before .before)) (c .before .before .before .loop .inv) (c .radius-of .ensures ∙ ap (radiusOf _ _) (c .before .get-number .ensures))
 
 same-length : tie.Need-same-length Inv-loop μ-loop
 same-length c = c .before .loop .inv .long

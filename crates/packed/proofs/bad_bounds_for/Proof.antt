@@ -1,7 +1,7 @@
--- `packed::wrong_bounds` meets its contract. Assumes nothing.
+-- `packed::bad_bounds_for` meets its contract. Assumes nothing.
 use borrow.Author.Needs.{needs}
-use Rattle.packed.proofs.wrong_bounds.Statement.{statement}
-use Rattle.packed.proofs.wrong_bounds.Tie as tie
+use Rattle.packed.proofs.bad_bounds_for.Statement.{statement}
+use Rattle.packed.proofs.bad_bounds_for.Tie as tie
 
 enum-told : tie.Need-enum-told
 enum-told c = search needs
@@ -24,7 +24,7 @@ returns-2 c = simp (c .before .enum-told2 .given .1, ← c .bad-bounds .ensures)
 returns-3 : tie.Need-returns-3
 returns-3 c = search needs
 
-pub wrong-bounds-spec : {M : Type 1} → statement M
-wrong-bounds-spec =
+pub bad-bounds-for-spec : {M : Type 1} → statement M
+bad-bounds-for-spec =
     tie.close
     (tie.spec enum-told enum-told-2 bad-bounds-requires enum-told-3 returns returns-2 returns-3)

@@ -1,4 +1,4 @@
--- `radius::wrong_length` meets its contract: a number is a multiple exactly when the quotient and the remainder say so. Assumes nothing.
+-- `radius::bad_length` meets its contract: a number is a multiple exactly when the quotient and the remainder say so. Assumes nothing.
 use Prim.Native.Nat.{ℕ, _*_, _/_, _%_}
 use mathlib.Core.Path.{_≡_, refl, sym, ap, _∙_}
 use mathlib.Core.Bool.{Bool, true, false, not}
@@ -7,8 +7,8 @@ use native.Mathlib.Nat.{mul-div-cancel-left, div-add-mod}
 use native.Mathlib.Omega.{arith}
 use lib.Dec.{eqb}
 use borrow.Author.Needs.{needs}
-use Rattle.radius.proofs.wrong_length.Statement.{statement}
-use Rattle.radius.proofs.wrong_length.Tie as tie
+use Rattle.radius.proofs.bad_length.Statement.{statement}
+use Rattle.radius.proofs.bad_length.Tie as tie
 
 div-if1 : tie.Need-div-if1
 div-if1 c = search needs
@@ -36,5 +36,5 @@ returns-2 c =
     let most = ap (λ (n : ℕ). a .width * n) (c .if1 .left) in
     ap not (same-test (a .found % a .width) 0 (a .found) (a .width * a .count) (λ e. omega (arith, whole, most, e)) (λ e. omega (arith, whole, most, e)))
 
-pub wrong-length-spec : {M : Type 1} → statement M
-wrong-length-spec = tie.close (tie.spec div-if1 rem-result returns returns-2)
+pub bad-length-spec : {M : Type 1} → statement M
+bad-length-spec = tie.close (tie.spec div-if1 rem-result returns returns-2)
