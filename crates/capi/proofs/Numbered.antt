@@ -34,7 +34,8 @@ use Rattle.packed.specs.declared.Code.{Code}
 use Rattle.packed.specs.Layout.{pairsOf}
 use Rattle.packed.specs.Fields.{projectionsOf}
 use Rattle.packed.specs.Reading.{recordChecks, readRecordOf, readRadiiOf, readIndicesOf, readSignsOf}
-use Rattle.packed_writing.specs.Writing.{fieldChecks, valueChecks, neededFor, writeRecordOf}
+use Rattle.packed_size.specs.Size.{neededFor}
+use Rattle.packed_writing.specs.Writing.{fieldChecks, valueChecks, writeRecordOf}
 use Rattle.turbo_query.specs.Query.{prepareChecks, prepareRotatedOf}
 use Rattle.turbo.specs.Scoring.{recordScoreChecks}
 use Rattle.turbo.specs.Estimates.{estimateChecks, innerProductEstimateOf, readyChecks, innerProductEstimatePreparedOf}

@@ -23,7 +23,8 @@ use Rattle.packed.specs.declared.Code.{Code}
 use Rattle.packed.specs.Fields.{mapOf, profileOf, modeOf, dimOf, bitsOf, boundsOf, projectionsOf}
 use Rattle.packed.specs.Layout.{headerLength, recordLength, headerOf}
 use Rattle.setup.specs.Checks.{badProjections}
-use Rattle.packed_writing.specs.Writing.{mapFor, headerBytes, indexBytes, signBytes, recordOf}
+use Rattle.packed_size.specs.Size.{mapFor}
+use Rattle.packed_writing.specs.Writing.{headerBytes, indexBytes, signBytes, recordOf}
 use Rattle.setup.specs.Setups.{counted}
 use Rattle.packed_writing.proofs.FieldsBack.{mode-back, profile-back, map-back, dim-back, bits-back, projections-back, bounds-back}
 use Rattle.packed_writing.proofs.PartsBack.{length-header, length-payloadFor}

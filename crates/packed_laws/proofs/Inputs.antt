@@ -23,7 +23,8 @@ use Rattle.packed.specs.declared.Code.{Code}
 use Rattle.packed.specs.Reading.{badPolarBits}
 use Rattle.setup.specs.Checks.{badProjections}
 use Rattle.radius.specs.Firsts.{readBack}
-use Rattle.packed_writing.specs.Writing.{recordOf, neededFor, fieldChecks, valueChecks, writeRecordOf}
+use Rattle.packed_size.specs.Size.{neededFor}
+use Rattle.packed_writing.specs.Writing.{recordOf, fieldChecks, valueChecks, writeRecordOf}
 use Rattle.setup.specs.Setups.{counted}
 
 pub record Written (code : Code) (radii : List Float) (indices : List ℕ) (signs : List ℤ) (room : ℕ) (bytes : List ℕ) : Type 0 where

@@ -32,7 +32,8 @@ use Rattle.packed.specs.declared.Code.{Code}
 use Rattle.packed.specs.Fields.{projectionsOf}
 use Rattle.packed.specs.Layout.{headerLength, pairsOf, indicesUsed, indicesStart, indicesLength, signsStart, signsLength, partAt, radiiBytes, indicesBytes, signsBytes}
 use Rattle.packed.specs.Reading.{badPolarBits, radiiOf, indicesOf, signsOf}
-use Rattle.packed_writing.specs.Writing.{mapFor, headerBytes, indexBytes, signBytes, recordOf}
+use Rattle.packed_size.specs.Size.{mapFor}
+use Rattle.packed_writing.specs.Writing.{headerBytes, indexBytes, signBytes, recordOf}
 use Rattle.radius.specs.Firsts.{readBack}
 use Rattle.packed.proofs.Headers.{product-most}
 use Rattle.packed_writing.proofs.Writing.{indices-pass, signs-pass}

@@ -24,7 +24,8 @@ use Rattle.packed.specs.Fields.{mapOf, hasRange, hasSigns, profileOf, modeOf, b
 use Rattle.packed.specs.Layout.{radiiBytes, headerOf}
 use Rattle.packed.specs.Reading.{radiiOf, indicesOf, signsOf, recordChecks, readRecordOf}
 use Rattle.packed.specs.Accepted.{Accepted}
-use Rattle.packed_writing.specs.Writing.{mapFor, headerBytes, indexBytes, signBytes, recordOf, neededFor, fieldChecks, valueChecks, writeRecordOf}
+use Rattle.packed_size.specs.Size.{mapFor, neededFor}
+use Rattle.packed_writing.specs.Writing.{headerBytes, indexBytes, signBytes, recordOf, fieldChecks, valueChecks, writeRecordOf}
 use Rattle.setup.specs.Setups.{counted}
 use Rattle.packed.proofs.Accepted.{read-accepts}
 use Rattle.packed.proofs.Payloads.{length-radiiOf}

@@ -26,7 +26,8 @@ use Rattle.packed.specs.Layout.{headerLength, pairsOf, radiiStart, radiiLength,
 use Rattle.packed.specs.Radii.{badBounds}
 use Rattle.packed.specs.Reading.{radiiOf, indicesOf, signsOf}
 use Rattle.packed.specs.Accepted.{Accepted}
-use Rattle.packed_writing.specs.Writing.{mapFor, rangeBytes, projectionBytes, headerBytes, indexBytes, signBytes}
+use Rattle.packed_size.specs.Size.{mapFor}
+use Rattle.packed_writing.specs.Writing.{rangeBytes, projectionBytes, headerBytes, indexBytes, signBytes}
 use Rattle.packed.proofs.Headers.{product-most}
 use Rattle.packed.proofs.Parts.{length-radii, length-indices, length-signs}
 use Rattle.packed.proofs.Payloads.{length-radiiOf}

@@ -24,7 +24,7 @@ use Rattle.packed.specs.Radii.{badBounds}
 use Rattle.packed.specs.Reading.{badPolarBits}
 use Rattle.setup.specs.Checks.{badProjections}
 use Rattle.packed.specs.Accepted.{Accepted}
-use Rattle.packed_writing.specs.Writing.{mapFor}
+use Rattle.packed_size.specs.Size.{mapFor}
 use Rattle.setup.specs.Setups.{counted}
 use Rattle.packed_laws.proofs.Ranges.{range-good}
 use Rattle.packed_laws.proofs.Inputs.{Written}

@@ -20,7 +20,8 @@ use Rattle.packed.specs.Fields.{mapOf, hasRange, profileOf, modeOf, dimOf, bits
 use Rattle.packed.specs.Layout.{headerLength, indicesBytes, signsBytes, headerOf}
 use Rattle.packed.specs.Reading.{radiiOf, indicesOf, signsOf, readRecordOf}
 use Rattle.packed.specs.Accepted.{Accepted}
-use Rattle.packed_writing.specs.Writing.{mapFor, neededFor, writeRecordOf}
+use Rattle.packed_size.specs.Size.{mapFor, neededFor}
+use Rattle.packed_writing.specs.Writing.{writeRecordOf}
 use Rattle.setup.specs.Setups.{counted}
 use Rattle.radius.specs.Firsts.{readBack}
 

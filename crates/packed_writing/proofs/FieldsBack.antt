@@ -22,7 +22,8 @@ use Rattle.setup.specs.declared.TurboMode.{TurboMode}
 use Rattle.setup.specs.declared.TurboMode.the-variants.{PolarOnly, PolarWithQjl}
 use Rattle.packed.specs.declared.Code.{Code}
 use Rattle.packed.specs.Fields.{mapOf, profileOf, modeOf, dimOf, bitsOf, boundsOf, projectionsOf}
-use Rattle.packed_writing.specs.Writing.{mapFor, headerBytes, recordOf}
+use Rattle.packed_size.specs.Size.{mapFor}
+use Rattle.packed_writing.specs.Writing.{headerBytes, recordOf}
 
 -- four bytes hold a number below 2^32
 word-back : (n : ℕ) → n < 2 ^ 32 → number 256 (digits 256 4 n) ≡ n

@@ -23,7 +23,8 @@ use Rattle.setup.specs.declared.TurboMode.{TurboMode}
 use Rattle.setup.specs.declared.TurboMode.the-variants.{PolarOnly, PolarWithQjl}
 use Rattle.packed.specs.declared.Code.{Code}
 use Rattle.packed.specs.Layout.{headerLength, radiiStart, radiiLength, partAt, radiiBytes}
-use Rattle.packed_writing.specs.Writing.{mapFor, headerBytes, indexBytes, signBytes, recordOf}
+use Rattle.packed_size.specs.Size.{mapFor}
+use Rattle.packed_writing.specs.Writing.{headerBytes, indexBytes, signBytes, recordOf}
 use Rattle.packed_writing.proofs.FieldsBack.{profile-back, map-back, dim-back}
 
 -- a part between two others

@@ -1,7 +1,7 @@
 -- What the writer's codecs answer once their inputs have passed: each payload, and the checks that are left. Assumes nothing.
 use Prim.Native.Nat.{ℕ, _+_, _-_, _*_, _/_, _^_, _≤_}
 use mathlib.Core.Path.{_≡_, refl, _∙_}
-use mathlib.Core.Bool.{true, false}
+use mathlib.Core.Bool.{false}
 use mathlib.Core.List.{List, [], _∷_}
 use borrow.Author.Tests.{le-ltb, eq-eqb}
 use lib.Dec.{ltb}
@@ -10,7 +10,7 @@ use lib.ListN.{length, length-append}
 use Rattle.float.specs.Bytes.{toLeBytes}
 use Rattle.float.proofs.Bytes.{length-toLeBytes}
 use lib.Ieee.{Float}
-use Rattle.error.specs.Answer.{value, refused, check, place, first, each, accepted}
+use Rattle.error.specs.Answer.{value, refused, place, first, each, accepted}
 use Rattle.error.proofs.Chains.{append-refused, append-passed}
 use Rattle.bitpack.specs.Padding.{bytesFor}
 use Rattle.bitpack.specs.Packing.{badIndex, packIndicesOf}
@@ -25,9 +25,8 @@ use Rattle.setup.specs.declared.TurboMode.the-variants.{PolarOnly, PolarWithQjl
 use Rattle.setup.specs.Setups.{byMode, counted}
 use Rattle.packed.specs.declared.Code.{Code}
 use Rattle.packed.specs.Layout.{headerLength}
-use Rattle.packed.specs.Reading.{shapeChecks}
-use Rattle.setup.specs.Checks.{badProjections}
-use Rattle.packed_writing.specs.Writing.{byProfile, mapFor, rangeBytes, indexBytes, signBytes, lengthChecks, fieldChecks}
+use Rattle.packed_size.specs.Size.{byProfile, mapFor, codeChecks}
+use Rattle.packed_writing.specs.Writing.{rangeBytes, indexBytes, signBytes, lengthChecks, fieldChecks}
 
 -- ---- the header's length
 
@@ -41,19 +40,12 @@ header-long BlockLogU8 PolarWithQjl = refl
 
 -- ---- the scalars' checks leave those of the lengths
 
-module _ (code : Code) (radii indices signs : ℕ) (known : badProfile (code .profile) ≡ false) where
-  pub fields-shape : {n p : ℕ} → first (shapeChecks (code .mode) (code .dim) (code .bits)) accepted ≡ refused n p → first (fieldChecks code radii indices signs) accepted ≡ refused n p
-  fields-shape e = rw known (append-refused (shapeChecks (code .mode) (code .dim) (code .bits)) (check (badProjections (code .mode) (code .projections)) 8 (code .projections) ∷ lengthChecks ((code .dim) / 2) (counted (code .mode) (code .projections)) radii indices signs) tt accepted e)
+module _ (code : Code) (radii indices signs : ℕ) where
+  pub fields-code : {n p : ℕ} → first (codeChecks code) accepted ≡ refused n p → first (fieldChecks code radii indices signs) accepted ≡ refused n p
+  fields-code e = append-refused (codeChecks code) (lengthChecks (code .dim / 2) (counted (code .mode) (code .projections)) radii indices signs) tt accepted e
 
-  module _ (pass : first (shapeChecks (code .mode) (code .dim) (code .bits)) accepted ≡ accepted) where
-    left : first (fieldChecks code radii indices signs) accepted ≡ first (check (badProjections (code .mode) (code .projections)) 8 (code .projections) ∷ lengthChecks ((code .dim) / 2) (counted (code .mode) (code .projections)) radii indices signs) accepted
-    left = rw known (append-passed (shapeChecks (code .mode) (code .dim) (code .bits)) (check (badProjections (code .mode) (code .projections)) 8 (code .projections) ∷ lengthChecks ((code .dim) / 2) (counted (code .mode) (code .projections)) radii indices signs) tt accepted pass)
-
-    pub fields-projections : badProjections (code .mode) (code .projections) ≡ true → first (fieldChecks code radii indices signs) accepted ≡ refused 8 (code .projections)
-    fields-projections e = left ∙ rw e
-
-    pub fields-rest : badProjections (code .mode) (code .projections) ≡ false → first (fieldChecks code radii indices signs) accepted ≡ first (lengthChecks ((code .dim) / 2) (counted (code .mode) (code .projections)) radii indices signs) accepted
-    fields-rest e = left ∙ rw e
+  pub fields-rest : first (codeChecks code) accepted ≡ accepted → first (fieldChecks code radii indices signs) accepted ≡ first (lengthChecks (code .dim / 2) (counted (code .mode) (code .projections)) radii indices signs) accepted
+  fields-rest e = append-passed (codeChecks code) (lengthChecks (code .dim / 2) (counted (code .mode) (code .projections)) radii indices signs) tt accepted e
 
 -- ---- radii
 

@@ -1,17 +1,16 @@
 -- The writer's answers, case by case, as the code comes to them; and what inputs have whose scalars and lengths pass. Assumes nothing.
 use Prim.Native.Nat.{ℕ, _+_, _*_, _/_, _≤_, _<_}
 use mathlib.Core.Path.{_≡_, refl, _∙_}
-use mathlib.Core.Bool.{false, not}
+use mathlib.Core.Bool.{false}
 use mathlib.Core.List.{List, [], _∷_, _++_}
 use native.Mathlib.Omega.{arith}
-use borrow.Author.Tests.{lt-ltb, le-ltb, ltb-false, eq-eqb, ne-eqb}
-use lib.Count.{ones}
-use lib.Dec.{ltb, eqb}
+use borrow.Author.Tests.{lt-ltb, le-ltb, eq-eqb, ne-eqb}
+use lib.Dec.{ltb}
 use lib.IntN.{ℤ}
 use lib.ListN.{length}
 use lib.Ieee.{Float}
 use Rattle.error.specs.Answer.{value, refused, check, place, first, each, accepted}
-use Rattle.error.proofs.Chains.{first-all, append-refused, append-passed, or-false}
+use Rattle.error.proofs.Chains.{first-all, append-left, append-refused, append-passed}
 use Rattle.error.specs.Checks.{wrongRoom}
 use Rattle.bitpack.proofs.Differs.{differs-same}
 use Rattle.bitpack.specs.Packing.{badIndex}
@@ -25,25 +24,15 @@ use Rattle.radius.specs.Radii.{badRadius}
 use Rattle.radius.specs.declared.RadiusCodecProfileV1.{RadiusCodecProfileV1}
 use Rattle.radius.specs.declared.RadiusCodecProfileV1.the-variants.{F32, BlockLinearU16, BlockLogU8}
 use Rattle.lists.proofs.Chunks.{chunks-length}
-use Rattle.setup.specs.declared.TurboMode.{TurboMode}
-use Rattle.setup.specs.declared.TurboMode.the-variants.{PolarOnly, PolarWithQjl}
 use Rattle.packed.specs.declared.Code.{Code}
 use Rattle.packed.specs.Layout.{headerLength}
-use Rattle.packed.specs.Reading.{badPolarBits}
-use Rattle.setup.specs.Checks.{badProjections}
-use Rattle.packed_writing.specs.Writing.{mapFor, recordOf, neededFor, fieldChecks, valueChecks, writeRecordOf}
+use Rattle.packed_size.specs.Size.{mapFor, neededFor, codeChecks}
+use Rattle.packed_size.proofs.Scalars.{code-small}
+use Rattle.packed_writing.specs.Writing.{recordOf, lengthChecks, fieldChecks, valueChecks, writeRecordOf}
 use Rattle.setup.specs.Setups.{counted}
 use Rattle.packed_writing.specs.Inner.{Sized}
 
 -- ---- what the scalars and the lengths tell
-
-bits-most : (mode : TurboMode) (b : ℕ) → badPolarBits mode b ≡ false → (1 ≤ b) × (b ≤ 16)
-bits-most PolarOnly b e = let both = or-false (ltb b 1) (ltb 16 b) e in (ltb-false b 1 (both .0), ltb-false 16 b (both .1))
-bits-most PolarWithQjl b e = let both = or-false (ltb b 1) (ltb 15 b) e in let most = ltb-false 15 b (both .1) in (ltb-false b 1 (both .0), omega (arith, most))
-
-counted-most : (mode : TurboMode) (m : ℕ) → badProjections mode m ≡ false → counted mode m ≤ 4096
-counted-most PolarOnly m e = omega arith
-counted-most PolarWithQjl m e = ltb-false 4096 m (or-false (eqb m 0) (ltb 4096 m) e .1)
 
 module _ (code : Code) (radii indices signs : ℕ) (pass : first (fieldChecks code radii indices signs) accepted ≡ accepted) where
   -- one radius and one index for each pair, one sign for each projection that counts
@@ -54,15 +43,12 @@ module _ (code : Code) (radii indices signs : ℕ) (pass : first (fieldChecks co
 
   pub fields-sized : Sized (code .profile) (code .bits) radii indices signs
   fields-sized =
-      let all = first-all (fieldChecks code radii indices signs) accepted pass in
       let long = fields-long in
-      let most = ltb-false 4096 (code .dim) (or-false (not (eqb (ones (code .dim)) 1)) (ltb 4096 (code .dim)) (all .1 .1 .1 .0) .1) in
-      let b = bits-most (code .mode) (code .bits) (all .1 .1 .1 .1 .0) in
-      let few = counted-most (code .mode) (code .projections) (all .1 .1 .1 .1 .1 .0) in
+      let small = code-small code (append-left (codeChecks code) (lengthChecks (code .dim / 2) (counted (code .mode) (code .projections)) radii indices signs) accepted pass) in
       record {
-        known = all .0;
-        radii-most = omega (arith, long .0, most);
-        codes = record { least = b .0; most = b .1; indices-most = omega (arith, long .1 .0, most); signs-most = omega (arith, long .1 .1, few) };
+        known = small .known;
+        radii-most = omega (arith, long .0, small .dim-most);
+        codes = record { least = small .bits-least; most = small .bits-most; indices-most = omega (arith, long .1 .0, small .dim-most); signs-most = omega (arith, long .1 .1, small .signs-most) };
       }
 
   -- the bytes that are needed, by the lengths

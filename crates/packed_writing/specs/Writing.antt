@@ -1,41 +1,29 @@
 -- The writer: the bytes of a record, and its checks in document 01's order. 'Writing a record, F32 or linear: 18 for BlockLogU8, 2, 3, 4, 1 (16
 -- is refused beside signs), 8, 5 for radii, indices and signs, 16 for bad radii, 16 for radii that would read as infinite, 15, 10.'
 -- Assumes nothing.
-use Prim.Native.Nat.{ℕ, _+_, _*_, _/_, _^_}
+use Prim.Native.Nat.{ℕ, _*_, _/_, _^_}
 use mathlib.Core.List.{List, [], _∷_, _++_, map}
 use lib.IntN.{ℤ}
 use lib.ListN.{length}
 use lib.Ieee.{Float}
 use Rattle.error.specs.Checks.{wrongRoom, wrongInput}
-use Rattle.error.specs.Answer.{Answer, value, Check, check, first, each}
+use Rattle.error.specs.Answer.{Answer, value, Check, first, each}
 use Rattle.digits.specs.Digits.{number, digits}
 use Rattle.float.specs.Bytes.{toLeBytes}
 use Rattle.bitpack.specs.Padding.{bytesFor}
 use Rattle.bitpack.specs.Packing.{badIndex}
 use Rattle.bitpack.specs.Signs.{badSketchSign, bitOfSign}
-use Rattle.radius.specs.Codec.{badProfile, widthOf, rangeFor, payloadFor}
+use Rattle.radius.specs.Codec.{rangeFor, payloadFor}
 use Rattle.radius.specs.Firsts.{readBack}
 use Rattle.radius.specs.Radii.{badRadius}
 use Rattle.radius.specs.declared.Range.{Range}
 use Rattle.radius.specs.declared.RadiusCodecProfileV1.{RadiusCodecProfileV1}
-use Rattle.radius.specs.declared.RadiusCodecProfileV1.the-variants.{F32, BlockLinearU16, BlockLogU8}
 use Rattle.setup.specs.declared.TurboMode.{TurboMode}
 use Rattle.setup.specs.Setups.{byMode, counted}
 use Rattle.packed.specs.declared.Code.{Code}
-use Rattle.packed.specs.Layout.{headerLength}
-use Rattle.packed.specs.Reading.{shapeChecks}
-use Rattle.setup.specs.Checks.{wrongProjections}
+use Rattle.packed_size.specs.Size.{byProfile, mapFor, neededFor, codeChecks}
 
 -- ---- the bytes
-
-abbrev pub byProfile : {A : Type 0} → RadiusCodecProfileV1 → A → A → A
-byProfile F32 plain linear = plain
-byProfile BlockLinearU16 plain linear = linear
-byProfile BlockLogU8 plain linear = plain
-
--- bit 0 for linear radii, bit 1 for signs
-abbrev pub mapFor : RadiusCodecProfileV1 → TurboMode → ℕ
-mapFor profile mode = byProfile profile 0 1 + byMode mode 0 2
 
 -- 'if bit 0 stands, min and max as f32'
 abbrev pub rangeBytes : RadiusCodecProfileV1 → Range → List ℕ
@@ -69,14 +57,6 @@ recordOf code radii indices signs =
     ++ (indexBytes (code .bits) indices
     ++ signBytes signs))
 
--- how many bytes that takes
-abbrev pub neededFor : Code → ℕ
-neededFor code =
-    headerLength (mapFor (code .profile) (code .mode))
-    + widthOf (code .profile) * (code .dim / 2)
-    + bytesFor (code .dim / 2 * code .bits)
-    + bytesFor (counted (code .mode) (code .projections))
-
 -- ---- the checks
 
 -- '5 for radii, indices and signs'
@@ -85,11 +65,7 @@ lengthChecks pairs m radii indices signs = wrongInput radii pairs ∷ wrongInput
 
 -- '18 for BlockLogU8, 2, 3, 4, 1 (16 is refused beside signs), 8, 5 for radii, indices and signs'
 abbrev pub fieldChecks : Code → ℕ → ℕ → ℕ → List Check
-fieldChecks code radii indices signs =
-    check (badProfile (code .profile)) 18 0
-    ∷ shapeChecks (code .mode) (code .dim) (code .bits)
-    ++ (wrongProjections (code .mode) (code .projections)
-    ∷ lengthChecks (code .dim / 2) (counted (code .mode) (code .projections)) radii indices signs)
+fieldChecks code radii indices signs = codeChecks code ++ lengthChecks (code .dim / 2) (counted (code .mode) (code .projections)) radii indices signs
 
 -- '16 for bad radii, 16 for radii that would read as infinite, 15, 10'
 abbrev pub valueChecks : RadiusCodecProfileV1 → ℕ → List Float → List ℕ → List ℤ → List Check

@@ -6,8 +6,6 @@ use error::MALFORMED_RADIUS;
 use error::MALFORMED_SIGN;
 use error::OUTPUT_LENGTH;
 use error::Outcome;
-use error::UNDEFINED_PROFILE;
-use error::ZERO_PROJECTION_COUNT;
 use packed::Code;
 use radius::Compressed;
 use radius::RadiusCodecProfileV1;
@@ -26,7 +24,8 @@ ghost use Rattle.bitpack.specs.Signs.{packSignsOf};
 ghost use Rattle.setup.specs.Setups.{byMode};
 ghost use Rattle.radius.specs.Codec.{badProfile, compressChecks, rangeFor, payloadFor};
 ghost use Rattle.packed.specs.Layout.{headerLength};
-ghost use Rattle.packed_writing.specs.Writing.{byProfile, mapFor, rangeBytes, projectionBytes, headerBytes, indexBytes, signBytes, lengthChecks, fieldChecks, valueChecks, writeRecordOf};
+ghost use Rattle.packed_size.specs.Size.{byProfile, mapFor};
+ghost use Rattle.packed_writing.specs.Writing.{rangeBytes, projectionBytes, headerBytes, indexBytes, signBytes, lengthChecks, fieldChecks, valueChecks, writeRecordOf};
 ghost use Rattle.packed_writing.specs.Inner.{CodesReady, Payloads};
 
 // Writes a record into exactly the bytes that it needs. Without signs the projections are ignored.
@@ -54,7 +53,7 @@ pub fn write_record(
     if let Outcome::Refused { number, place } = check_values(profile, bits, radii, indices, signs) {
         return Outcome::Refused { number, place };
     }
-    let head = packed::header_length(map_for(profile, mode));
+    let head = packed::header_length(packed_size::map_for(profile, mode));
     let body = radius::width_of(profile) * radii.len();
     let codes = (indices.len() * (bits as usize) + 7) / 8;
     let need = head + body + codes + (signs.len() + 7) / 8;
@@ -73,31 +72,16 @@ pub fn write_record(
 fn check_fields(code: Code, radii: usize, indices: usize, signs: usize) -> Outcome
     ensures { λ r. ⌜ says r ≡ first (fieldChecks code radii indices signs) accepted ⌝ }
 {
-    let profile = code.profile;
-    let mode = code.mode;
-    let dim = code.dim;
-    let bits = code.bits;
-    let projections = code.projections;
-    if is_log(profile) {
-        return Outcome::Refused {
-            number: UNDEFINED_PROFILE,
-            place: 0,
-        };
-    }
-    if let Outcome::Refused { number, place } = packed::check_shape(mode, dim, bits) {
+    if let Outcome::Refused { number, place } = packed_size::check_code(code) {
         return Outcome::Refused { number, place };
     }
-    if setup::outside_projections(mode, projections) {
-        return Outcome::Refused {
-            number: ZERO_PROJECTION_COUNT,
-            place: projections,
-        };
-    }
+    let mode = code.mode;
+    let dim = code.dim;
     let needed = setup::counted_projections(Setup {
         mode,
         dim,
-        bits,
-        projections,
+        bits: code.bits,
+        projections: code.projections,
     });
     check_lengths(dim / 2, needed, radii, indices, signs)
 }
@@ -175,45 +159,6 @@ fn check_values(
     Outcome::Done
 }
 
-// Whether a profile is the one that is refused.
-fn is_log(profile: RadiusCodecProfileV1) -> bool
-    ensures { λ r. ⌜ r ≡ badProfile profile ⌝ }
-{
-    match profile {
-        RadiusCodecProfileV1::F32 => false,
-        RadiusCodecProfileV1::BlockLinearU16 => false,
-        RadiusCodecProfileV1::BlockLogU8 => true,
-    }
-}
-
-// The map byte: bit 0 for linear radii, bit 1 for signs.
-fn map_for(profile: RadiusCodecProfileV1, mode: TurboMode) -> u8
-    ensures { λ r. ⌜ r ≡ mapFor profile mode ⌝ }
-{
-    linear_bit(profile) + signs_bit(mode)
-}
-
-// Bit 0 of the map byte.
-fn linear_bit(profile: RadiusCodecProfileV1) -> u8
-    ensures { λ r. ⌜ (r ≡ byProfile profile 0 1) × (r ≤ 1) ⌝ }
-{
-    match profile {
-        RadiusCodecProfileV1::F32 => 0,
-        RadiusCodecProfileV1::BlockLinearU16 => 1,
-        RadiusCodecProfileV1::BlockLogU8 => 0,
-    }
-}
-
-// Bit 1 of the map byte.
-fn signs_bit(mode: TurboMode) -> u8
-    ensures { λ r. ⌜ (r ≡ byMode mode 0 2) × (r ≤ 2) ⌝ }
-{
-    match mode {
-        TurboMode::PolarOnly => 0,
-        TurboMode::PolarWithQjl => 2,
-    }
-}
-
 // Writes radii, indices and signs that have passed their checks, one behind the other, and answers the range.
 fn put_payloads(
     radii: &[f32],
@@ -280,7 +225,7 @@ fn put_header(code: Code, range: Range, out: &mut [u8])
 {
     let profile = code.profile;
     let mode = code.mode;
-    out[0] = map_for(profile, mode);
+    out[0] = packed_size::map_for(profile, mode);
     digits::put_word(out, 1, code.dim as u64);
     out[5] = code.bits;
     put_range(out, profile, range);

@@ -1,48 +1,25 @@
--- `packed_writing::check_fields` meets its contract: a check that passes leaves the rest of the list. Assumes nothing.
+-- `packed_writing::check_fields` meets its contract: the scalars' checks, then those of the lengths. Assumes nothing.
 use Prim.Native.Nat.{ℕ, _/_}
-use mathlib.Core.Path.{_≡_, sym, ap, _∙_}
-use mathlib.Core.Bool.{false}
+use mathlib.Core.Path.{sym, ap, _∙_}
 use Rattle.error.specs.Answer.{first, accepted}
 use Rattle.error.specs.Outcomes.{says}
-use Rattle.radius.specs.Codec.{badProfile}
-use Rattle.packed.specs.Reading.{shapeChecks}
 use Rattle.packed_writing.specs.Writing.{lengthChecks}
-use Rattle.packed_writing.proofs.Writing.{fields-shape, fields-projections, fields-rest}
+use Rattle.packed_writing.proofs.Writing.{fields-code, fields-rest}
 use borrow.Author.Needs.{needs}
 use Rattle.packed_writing.proofs.check_fields.Statement.{statement}
 use Rattle.packed_writing.proofs.check_fields.Tie as tie
 
--- the profile is one that a record has
-known : (c : tie.Else1) → badProfile (c .before .before .args .code .profile) ≡ false
-known c = sym (c .before .is-log .ensures) ∙ c .if1 .left
-
--- the dimension and the bits have passed
-shaped : (c : tie.After-enum-told) → first (shapeChecks (c .before .before .before .before .before .args .code .mode) (c .before .before .before .before .before .args .code .dim) (c .before .before .before .before .before .args .code .bits)) accepted ≡ accepted
-shaped c = sym (c .before .before .check-shape .ensures) ∙ ap says (c .enum-told .given .1)
-
-is-log-requires : tie.Need-is-log-requires
-is-log-requires c κs = search needs
-
-returns : tie.Need-returns
-returns c = search needs
-
-check-shape-requires : tie.Need-check-shape-requires
-check-shape-requires c κs = search needs
+check-code-requires : tie.Need-check-code-requires
+check-code-requires c κs = search needs
 
 enum-known-number : tie.Need-enum-known-number
 enum-known-number c = search needs
 
-returns-2 : tie.Need-returns-2
-returns-2 c = sym (fields-shape (c .before .before .before .before .before .before .args .code) (c .before .before .before .before .before .before .args .radii) (c .before .before .before .before .before .before .args .indices) (c .before .before .before .before .before .before .args .signs) (known (c .before .before .before .before)) (sym (c .before .before .before .check-shape .ensures) ∙ ap says (c .before .number .given .1)))
+returns : tie.Need-returns
+returns c = let a = c .before .before .before .before .args in sym (fields-code (a .code) (a .radii) (a .indices) (a .signs) (sym (c .before .before .before .check-code .ensures) ∙ ap says (c .before .number .given .1)))
 
 enum-told : tie.Need-enum-told
 enum-told c = search needs
-
-outside-projections-requires : tie.Need-outside-projections-requires
-outside-projections-requires c κs = search needs
-
-returns-3 : tie.Need-returns-3
-returns-3 c = sym (fields-projections (c .before .before .before .before .before .before .before .args .code) (c .before .before .before .before .before .before .before .args .radii) (c .before .before .before .before .before .before .before .args .indices) (c .before .before .before .before .before .before .before .args .signs) (known (c .before .before .before .before .before)) (shaped (c .before .before)) (sym (c .before .outside-projections .ensures) ∙ c .if2 .taken))
 
 counted-projections-requires : tie.Need-counted-projections-requires
 counted-projections-requires c κs = search needs
@@ -50,25 +27,21 @@ counted-projections-requires c κs = search needs
 check-lengths-requires : tie.Need-check-lengths-requires
 check-lengths-requires c κs = search needs
 
-returns-4 : tie.Need-returns-4
-returns-4 c =
-    let a = c .before .before .before .before .before .before .before .before .before .args in
+returns-2 : tie.Need-returns-2
+returns-2 c =
+    let a = c .before .before .before .before .before .args in
     c .check-lengths .ensures
     ∙ ap (λ (n : ℕ). first (lengthChecks (a .code .dim / 2) n (a .radii) (a .indices) (a .signs)) accepted) (c .before .counted-projections .ensures)
-    ∙ sym (fields-rest (c .before .before .before .before .before .before .before .before .before .args .code) (c .before .before .before .before .before .before .before .before .before .args .radii) (c .before .before .before .before .before .before .before .before .before .args .indices) (c .before .before .before .before .before .before .before .before .before .args .signs) (known (c .before .before .before .before .before .before .before)) (shaped (c .before .before .before .before)) (sym (c .before .before .before .outside-projections .ensures) ∙ c .before .before .if2 .left))
+    ∙ sym (fields-rest (a .code) (a .radii) (a .indices) (a .signs) (sym (c .before .before .before .before .check-code .ensures) ∙ ap says (c .before .before .enum-told .given .1)))
 
 pub check-fields-spec : {M : Type 1} → statement M
 check-fields-spec =
     tie.close
     (tie.spec
-    is-log-requires
-    returns
-    check-shape-requires
+    check-code-requires
     enum-known-number
-    returns-2
+    returns
     enum-told
-    outside-projections-requires
-    returns-3
     counted-projections-requires
     check-lengths-requires
-    returns-4)
+    returns-2)

@@ -9,7 +9,8 @@ use Rattle.digits.specs.Digits.{digits}
 use Rattle.digits.proofs.Words.{put-word-room}
 use Rattle.digits.proofs.Laws.{length-digits}
 use Rattle.setup.specs.Setups.{byMode}
-use Rattle.packed_writing.specs.Writing.{byProfile, rangeBytes, projectionBytes, headerBytes}
+use Rattle.packed_size.specs.Size.{byProfile}
+use Rattle.packed_writing.specs.Writing.{rangeBytes, projectionBytes, headerBytes}
 use Rattle.packed_writing.proofs.Stores.{store-six, store-header}
 use Rattle.packed_writing.proofs.Writing.{header-long, range-long}
 use borrow.Author.Needs.{needs}

@@ -13,7 +13,8 @@ use Rattle.bitpack.specs.Padding.{bytesFor}
 use Rattle.radius.specs.Codec.{rangeFor}
 use Rattle.radius.specs.declared.Range.{Range}
 use Rattle.packed.specs.Layout.{headerLength}
-use Rattle.packed_writing.specs.Writing.{mapFor, headerBytes, recordOf, neededFor, fieldChecks, valueChecks}
+use Rattle.packed_size.specs.Size.{mapFor, neededFor}
+use Rattle.packed_writing.specs.Writing.{headerBytes, recordOf, fieldChecks, valueChecks}
 use Rattle.packed_writing.specs.Inner.{Sized}
 use Rattle.packed.proofs.Headers.{width-most, product-most}
 use Rattle.packed_writing.proofs.Stores.{lent-back, front-again, store-two}

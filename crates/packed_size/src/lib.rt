@@ -1,0 +1,108 @@
+// How many bytes a record takes, by the scalars that it is written with, and the checks of these scalars. Beside turbo-quant/src/packed.rs, which has
+// no such call: the byte layout is this port's own, and a caller lends the memory that a record is written to.
+use error::Length;
+use error::Outcome;
+use error::UNDEFINED_PROFILE;
+use error::ZERO_PROJECTION_COUNT;
+use packed::Code;
+use radius::RadiusCodecProfileV1;
+use setup::Setup;
+use setup::TurboMode;
+ghost use Prim.Native.Nat.{_≤_};
+ghost use mathlib.Core.Path.{_≡_};
+ghost use Rattle.error.specs.Answer.{first, accepted};
+ghost use Rattle.error.specs.Lengths.{saysLength};
+ghost use Rattle.error.specs.Outcomes.{says};
+ghost use Rattle.radius.specs.Codec.{badProfile};
+ghost use Rattle.setup.specs.Setups.{byMode};
+ghost use Rattle.packed_size.specs.Size.{byProfile, mapFor, codeChecks, recordSizeOf};
+
+// How many bytes a record takes. Without signs the projections are ignored.
+pub fn record_size(code: Code) -> Length
+    ensures { λ r. ⌜ saysLength r ≡ recordSizeOf code ⌝ }
+{
+    if let Outcome::Refused { number, place } = check_code(code) {
+        return Length::Refused { number, place };
+    }
+    let profile = code.profile;
+    let mode = code.mode;
+    let dim = code.dim;
+    let bits = code.bits;
+    let projections = code.projections;
+    let signs = setup::counted_projections(Setup {
+        mode,
+        dim,
+        bits,
+        projections,
+    });
+    let head = packed::header_length(map_for(profile, mode));
+    let body = radius::width_of(profile) * (dim / 2);
+    let codes = (dim / 2 * (bits as usize) + 7) / 8;
+    let marks = (signs + 7) / 8;
+    let total = head + body + codes + marks;
+    Length::Bytes(total)
+}
+
+// The checks of the scalars that a record is written with.
+pub fn check_code(code: Code) -> Outcome
+    ensures { λ r. ⌜ says r ≡ first (codeChecks code) accepted ⌝ }
+{
+    let profile = code.profile;
+    let mode = code.mode;
+    let projections = code.projections;
+    if is_log(profile) {
+        return Outcome::Refused {
+            number: UNDEFINED_PROFILE,
+            place: 0,
+        };
+    }
+    if let Outcome::Refused { number, place } = packed::check_shape(mode, code.dim, code.bits) {
+        return Outcome::Refused { number, place };
+    }
+    if setup::outside_projections(mode, projections) {
+        return Outcome::Refused {
+            number: ZERO_PROJECTION_COUNT,
+            place: projections,
+        };
+    }
+    Outcome::Done
+}
+
+// The map byte: bit 0 for linear radii, bit 1 for signs.
+pub fn map_for(profile: RadiusCodecProfileV1, mode: TurboMode) -> u8
+    ensures { λ r. ⌜ r ≡ mapFor profile mode ⌝ }
+{
+    linear_bit(profile) + signs_bit(mode)
+}
+
+// Bit 0 of the map byte.
+fn linear_bit(profile: RadiusCodecProfileV1) -> u8
+    ensures { λ r. ⌜ (r ≡ byProfile profile 0 1) × (r ≤ 1) ⌝ }
+{
+    match profile {
+        RadiusCodecProfileV1::F32 => 0,
+        RadiusCodecProfileV1::BlockLinearU16 => 1,
+        RadiusCodecProfileV1::BlockLogU8 => 0,
+    }
+}
+
+// Bit 1 of the map byte.
+fn signs_bit(mode: TurboMode) -> u8
+    ensures { λ r. ⌜ (r ≡ byMode mode 0 2) × (r ≤ 2) ⌝ }
+{
+    match mode {
+        TurboMode::PolarOnly => 0,
+        TurboMode::PolarWithQjl => 2,
+    }
+}
+
+// Whether a profile is the one that is refused.
+fn is_log(profile: RadiusCodecProfileV1) -> bool
+    ensures { λ r. ⌜ r ≡ badProfile profile ⌝ }
+{
+    match profile {
+        RadiusCodecProfileV1::F32 => false,
+        RadiusCodecProfileV1::BlockLinearU16 => false,
+        RadiusCodecProfileV1::BlockLogU8 => true,
+    }
+}
