@@ -24,8 +24,7 @@
  *     decode_approximate              dim
  *     compress                        4 * radii_len for F32, 2 * radii_len for BlockLinearU16
  *     decompress                      count
- *     write_record                    the sum of 6; 8 for BlockLinearU16; 4 for PolarWithQjl; 2 * dim for F32 or dim for BlockLinearU16;
- *                                     foldrima_packed_len(dim / 2, bits, ..); and foldrima_packed_len(projections, 1, ..) for PolarWithQjl
+ *     write_record                    foldrima_record_size(profile, dim, bits, mode, projections, ..)
  *     read_radii, read_indices        dim / 2, with dim from foldrima_read_record
  *     read_signs                      projections from foldrima_read_record
  *
@@ -203,6 +202,9 @@ void foldrima_quantize(uint8_t bits, float min, float max, float x, uint32_t *nu
 void foldrima_dequantize_midpoint(uint8_t bits, float min, float max, uint16_t index, uint32_t *number, size_t *place, float *value);
 
 /* ---- the record */
+
+/* How many bytes a record takes; bits are the polar bits, and in PolarOnly the projections are ignored: 18, 2, 3, 4, 1, 8. */
+void foldrima_record_size(uint8_t profile, size_t dim, uint8_t bits, uint8_t mode, size_t projections, uint32_t *number, size_t *place, size_t *value);
 
 /* Writes a record; bits are the polar bits, and in PolarOnly the signs are none: 18, 2, 3, 4, 1, 8, 5 for radii, indices, signs, 16, 15, 10, 6. */
 void foldrima_write_record(uint8_t profile, size_t dim, uint8_t bits, uint8_t mode, size_t projections, const float *radii, size_t radii_len,

@@ -34,7 +34,7 @@ use Rattle.packed.specs.declared.Code.{Code}
 use Rattle.packed.specs.Layout.{pairsOf}
 use Rattle.packed.specs.Fields.{projectionsOf}
 use Rattle.packed.specs.Reading.{recordChecks, readRecordOf, readRadiiOf, readIndicesOf, readSignsOf}
-use Rattle.packed_size.specs.Size.{neededFor}
+use Rattle.packed_size.specs.Size.{neededFor, codeChecks, recordSizeOf}
 use Rattle.packed_writing.specs.Writing.{fieldChecks, valueChecks, writeRecordOf}
 use Rattle.turbo_query.specs.Query.{prepareChecks, prepareRotatedOf}
 use Rattle.turbo.specs.Scoring.{recordScoreChecks}
@@ -173,6 +173,10 @@ sketch-score-numbered s l query sketch =
     first-numbered (vectorChecks s l query) _ refl (mode-score-numbered (s .mode) (s .dim) (s .projections) (l .matrix) query sketch)
 
 -- ---- record
+
+pub record-size-numbered : (code : Code) → Numbered (recordSizeOf code)
+unfolding recordSizeOf
+record-size-numbered code = chain (codeChecks code) _ refl
 
 pub write-numbered : (code : Code) (radii : List Float) (indices : List ℕ) (signs : List ℤ) (room : ℕ)
     → Numbered (writeRecordOf code radii indices signs room)

@@ -214,41 +214,14 @@ pub fn tell_score(answer: Scored, number: &mut u32, place: &mut usize, value: &m
     }
 }
 
-// A header, number by number.
-pub fn tell_reading(
-    answer: Reading,
-    number: &mut u32,
-    place: &mut usize,
-    mode: &mut u8,
-    profile: &mut u8,
-    dim: &mut usize,
-    bits: &mut u8,
-    projections: &mut usize,
-    min: &mut f32,
-    max: &mut f32,
-)
-    ensures answer { λ _. ⌜ said (now (number .exit)) (now (place .exit)) ≡ told (saysReading answer) ⌝ }
-    ensures mode { λ _. ⌜ now (mode .exit) ≡ after (part headerMode (saysReading answer)) (now (mode .entry)) ⌝ }
-    ensures profile { λ _. ⌜ now (profile .exit) ≡ after (part headerProfile (saysReading answer)) (now (profile .entry)) ⌝ }
-    ensures dim { λ _. ⌜ now (dim .exit) ≡ after (part headerDim (saysReading answer)) (now (dim .entry)) ⌝ }
-    ensures bits { λ _. ⌜ now (bits .exit) ≡ after (part headerBits (saysReading answer)) (now (bits .entry)) ⌝ }
-    ensures projections { λ _. ⌜ now (projections .exit) ≡ after (part headerProjections (saysReading answer)) (now (projections .entry)) ⌝ }
-    ensures least { λ _. ⌜ now (min .exit) ≡ after (part headerMin (saysReading answer)) (now (min .entry)) ⌝ }
-    ensures greatest { λ _. ⌜ now (max .exit) ≡ after (part headerMax (saysReading answer)) (now (max .entry)) ⌝ }
+// Whether a record was read.
+pub fn tell_read(answer: Reading, number: &mut u32, place: &mut usize)
+    ensures { λ _. ⌜ said (now (number .exit)) (now (place .exit)) ≡ told (saysReading answer) ⌝ }
 {
     match answer {
-        Reading::Read(header) => {
+        Reading::Read(_) => {
             *number = 0;
             *place = 0;
-            let found = header.mode;
-            let codec = header.profile;
-            *mode = codes::mode_number(found);
-            *profile = codes::profile_number(codec);
-            *dim = header.dim;
-            *bits = header.bits;
-            *projections = header.projections;
-            *min = header.range.min;
-            *max = header.range.max;
         }
         Reading::Refused {
             number: n,
@@ -257,5 +230,37 @@ pub fn tell_reading(
             *number = n;
             *place = p;
         }
+    }
+}
+
+// A header, number by number, where a record was read.
+pub fn tell_header(
+    answer: Reading,
+    mode: &mut u8,
+    profile: &mut u8,
+    dim: &mut usize,
+    bits: &mut u8,
+    projections: &mut usize,
+    min: &mut f32,
+    max: &mut f32,
+)
+    ensures mode { λ _. ⌜ now (mode .exit) ≡ after (part headerMode (saysReading answer)) (now (mode .entry)) ⌝ }
+    ensures profile { λ _. ⌜ now (profile .exit) ≡ after (part headerProfile (saysReading answer)) (now (profile .entry)) ⌝ }
+    ensures dim { λ _. ⌜ now (dim .exit) ≡ after (part headerDim (saysReading answer)) (now (dim .entry)) ⌝ }
+    ensures bits { λ _. ⌜ now (bits .exit) ≡ after (part headerBits (saysReading answer)) (now (bits .entry)) ⌝ }
+    ensures projections { λ _. ⌜ now (projections .exit) ≡ after (part headerProjections (saysReading answer)) (now (projections .entry)) ⌝ }
+    ensures least { λ _. ⌜ now (min .exit) ≡ after (part headerMin (saysReading answer)) (now (min .entry)) ⌝ }
+    ensures greatest { λ _. ⌜ now (max .exit) ≡ after (part headerMax (saysReading answer)) (now (max .entry)) ⌝ }
+{
+    if let Reading::Read(header) = answer {
+        let found = header.mode;
+        let codec = header.profile;
+        *mode = codes::mode_number(found);
+        *profile = codes::profile_number(codec);
+        *dim = header.dim;
+        *bits = header.bits;
+        *projections = header.projections;
+        *min = header.range.min;
+        *max = header.range.max;
     }
 }

@@ -1,9 +1,10 @@
 // The cases of an enum by their numbers on the C side, and structs by their fields.
+use packed::Code;
 use radius::RadiusCodecProfileV1;
 use setup::Setup;
 use setup::TurboMode;
 ghost use mathlib.Core.Path.{_≡_};
-ghost use Rattle.capi.specs.Codes.{modeFrom, profileFrom, setupFrom, modeNumber, profileNumber};
+ghost use Rattle.capi.specs.Codes.{modeFrom, profileFrom, setupFrom, codeFrom, modeNumber, profileNumber};
 
 // The mode of a number: 0 is `PolarOnly`, every other one `PolarWithQjl`.
 pub fn mode(code: u8) -> TurboMode
@@ -34,6 +35,21 @@ pub fn setup(code: u8, dim: usize, bits: u8, projections: usize) -> Setup
 {
     let chosen = mode(code);
     Setup {
+        mode: chosen,
+        dim,
+        bits,
+        projections,
+    }
+}
+
+// The scalars of a record.
+pub fn code(form: u8, dim: usize, bits: u8, kind: u8, projections: usize) -> Code
+    ensures { λ r. ⌜ r ≡ codeFrom form dim bits kind projections ⌝ }
+{
+    let codec = profile(form);
+    let chosen = mode(kind);
+    Code {
+        profile: codec,
         mode: chosen,
         dim,
         bits,

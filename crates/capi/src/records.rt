@@ -1,14 +1,16 @@
 // The record: read, its three parts as a start and a length in its own bytes, its values, and written.
 use crate::answers::tell;
-use crate::answers::tell_reading;
+use crate::answers::tell_header;
+use crate::answers::tell_length;
+use crate::answers::tell_read;
 use crate::codes;
-use packed::Code;
 ghost use Prim.Native.Nat.{_+_, _≤_};
 ghost use mathlib.Core.Path.{_≡_};
 ghost use lib.ListN.{length, take, drop};
 ghost use Rattle.error.specs.Answer.{done, after};
 ghost use Rattle.packed.specs.Reading.{readRecordOf, radiiPartOf, indicesPartOf, signsPartOf, readRadiiOf, readIndicesOf, readSignsOf};
 ghost use Rattle.packed_parts.specs.Parts.{locateOf};
+ghost use Rattle.packed_size.specs.Size.{recordSizeOf};
 ghost use Rattle.packed_writing.specs.Writing.{writeRecordOf};
 ghost use Rattle.capi.specs.Told.{said, told, part};
 ghost use Rattle.capi.specs.Codes.{codeFrom, headerMode, headerProfile, headerDim, headerBits, headerProjections, headerMin, headerMax};
@@ -36,18 +38,9 @@ pub extern "C" fn foldrima_read_record(
     ensures least { λ _. ⌜ now (min .exit) ≡ after (part headerMin (readRecordOf (now (bytes .entry)))) (now (min .entry)) ⌝ }
     ensures greatest { λ _. ⌜ now (max .exit) ≡ after (part headerMax (readRecordOf (now (bytes .entry)))) (now (max .entry)) ⌝ }
 {
-    tell_reading(
-        packed::read_record(bytes),
-        number,
-        place,
-        mode,
-        profile,
-        dim,
-        bits,
-        projections,
-        min,
-        max,
-    );
+    let answer = packed::read_record(bytes);
+    tell_read(answer, number, place);
+    tell_header(answer, mode, profile, dim, bits, projections, min, max);
 }
 
 // Where the part of the record stands that holds the radii; empty where the record is refused.
@@ -131,6 +124,25 @@ pub extern "C" fn foldrima_read_signs(
     tell(packed_parts::read_signs(bytes, out), number, place);
 }
 
+// How many bytes a record takes. Without signs the projections are ignored.
+#[no_mangle]
+pub extern "C" fn foldrima_record_size(
+    profile: u8,
+    dim: usize,
+    bits: u8,
+    mode: u8,
+    projections: usize,
+    number: &mut u32,
+    place: &mut usize,
+    value: &mut usize,
+)
+    ensures answer { λ _. ⌜ said (now (number .exit)) (now (place .exit)) ≡ told (recordSizeOf (codeFrom profile dim bits mode projections)) ⌝ }
+    ensures left { λ _. ⌜ now (value .exit) ≡ after (recordSizeOf (codeFrom profile dim bits mode projections)) (now (value .entry)) ⌝ }
+{
+    let code = codes::code(profile, dim, bits, mode, projections);
+    tell_length(packed_size::record_size(code), number, place, value);
+}
+
 // Writes a record into exactly the bytes that it needs. Without signs the projections are ignored.
 #[no_mangle]
 pub extern "C" fn foldrima_write_record(
@@ -149,15 +161,7 @@ pub extern "C" fn foldrima_write_record(
     ensures answer { λ _. ⌜ said (now (number .exit)) (now (place .exit)) ≡ told (done (writeRecordOf (codeFrom profile dim bits mode projections) (now (radii .entry)) (now (indices .entry)) (now (signs .entry)) (length (now (out .entry))))) ⌝ }
     ensures left { λ _. ⌜ now (out .exit) ≡ after (writeRecordOf (codeFrom profile dim bits mode projections) (now (radii .entry)) (now (indices .entry)) (now (signs .entry)) (length (now (out .entry)))) (now (out .entry)) ⌝ }
 {
-    let codec = codes::profile(profile);
-    let chosen = codes::mode(mode);
-    let code = Code {
-        profile: codec,
-        mode: chosen,
-        dim,
-        bits,
-        projections,
-    };
+    let code = codes::code(profile, dim, bits, mode, projections);
     tell(
         packed_writing::write_record(code, radii, indices, signs, out),
         number,

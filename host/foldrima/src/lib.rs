@@ -47,8 +47,8 @@ pub use bits::{
 pub use codebook::{dequantize_angle, hadamard_seed, matrix_seed, sqrt, ScalarCodebook};
 pub use radii::{compress, decompress, encoded_bytes, Range};
 pub use record::{
-    indices_part, radii_part, read_indices, read_radii, read_record, read_signs, signs_part,
-    write_record, Header,
+    indices_part, radii_part, read_indices, read_radii, read_record, read_signs, record_size,
+    signs_part, write_record, Header,
 };
 pub use refusal::Refusal;
 pub use setup::{apply, apply_inverse, Setup};

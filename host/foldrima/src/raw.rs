@@ -160,6 +160,16 @@ extern "C" {
 
 // Records.
 extern "C" {
+    pub fn foldrima_record_size(
+        profile: u8,
+        dim: usize,
+        bits: u8,
+        mode: u8,
+        projections: usize,
+        number: *mut u32,
+        place: *mut usize,
+        value: *mut usize,
+    );
     pub fn foldrima_read_record(
         bytes: *const u8,
         bytes_len: usize,

@@ -1,6 +1,8 @@
 //! Records: written, read, and their three parts.
 
-use crate::{asked, call, environment::look, raw, RadiusCodecProfileV1, Range, Refusal, TurboMode};
+use crate::{
+    asked, call, environment::look, raw, valued, RadiusCodecProfileV1, Range, Refusal, TurboMode,
+};
 
 /// What an accepted record says of itself.
 #[derive(Debug, Clone, Copy, PartialEq)]
@@ -12,6 +14,28 @@ pub struct Header {
     pub bits: u8,
     pub projections: usize,
     pub range: Range,
+}
+
+/// How many bytes a record of these scalars takes; `bits` are those of an angle.
+pub fn record_size(
+    profile: RadiusCodecProfileV1,
+    dim: usize,
+    bits: u8,
+    mode: TurboMode,
+    projections: usize,
+) -> Result<usize, Refusal> {
+    valued(|number, place, value| unsafe {
+        call!(foldrima_record_size(
+            profile as u8,
+            dim,
+            bits,
+            mode as u8,
+            projections,
+            number,
+            place,
+            value
+        ))
+    })
 }
 
 /// Writes a record of these parts; `bits` are those of an angle.

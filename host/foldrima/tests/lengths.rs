@@ -30,9 +30,12 @@ fn of_a_record() {
                             profile, dim, bits, mode, count, radii, indices, signs, to,
                         )
                     };
+                    let size = |mode| foldrima::record_size(profile, dim, bits, mode, projections);
                     needs(written(Mode::PolarOnly, &[]), all);
+                    assert_eq!(size(Mode::PolarOnly), Ok(all));
                     let signs = packed_len(projections, 1).unwrap();
                     needs(written(Mode::PolarWithQjl, &ones.2), all + 4 + signs);
+                    assert_eq!(size(Mode::PolarWithQjl), Ok(all + 4 + signs));
                 }
             }
         }

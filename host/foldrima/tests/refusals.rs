@@ -121,6 +121,11 @@ fn by_the_writer_of_a_code() {
     assert_eq!(ScalarCodebook::uniform(2, 1.0, 1.0), refused(17, 0));
     assert_eq!(foldrima::compress(&[1.0], log, &mut [0; 9]), refused(18, 0));
     assert_eq!(foldrima::encoded_bytes(log, &[]), refused(18, 0));
+    let only = Mode::PolarOnly;
+    assert_eq!(foldrima::record_size(log, 0, 0, only, 0), refused(18, 0));
+    assert_eq!(foldrima::record_size(f32s, 3, 0, only, 0), refused(3, 3));
+    assert_eq!(foldrima::record_size(f32s, 2, 17, only, 0), refused(1, 17));
+    assert_eq!(foldrima::record_size(f32s, 2, 1, Mode::PolarWithQjl, 0), refused(8, 0));
     let mut odd = RECORD;
     odd[0] = 4;
     assert_eq!(foldrima::read_record(&odd), refused(18, 4));

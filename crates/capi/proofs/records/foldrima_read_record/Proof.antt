@@ -9,14 +9,18 @@ use Rattle.capi.proofs.records.foldrima_read_record.Tie as tie
 read-record-requires : tie.Need-read-record-requires
 read-record-requires c κs = search needs
 
-tell-reading-requires : tie.Need-tell-reading-requires
-tell-reading-requires c κs = search needs
+tell-read-requires : tie.Need-tell-read-requires
+tell-read-requires c κs = search needs
+
+tell-header-requires : tie.Need-tell-header-requires
+tell-header-requires c κs = search needs
 
 returns : tie.Need-returns
 returns c =
-    let a = c .before .before .before .before .before .before .before .before .before .before .before .before .args in
-    let e = c .before .before .before .before .before .before .before .before .before .before .read-record .ensures in
-    (told-as (c .tell-reading .ensures .0) e, (part-as headerMode (now (a .mode)) (c .tell-reading .ensures .1 .0) e, (part-as headerProfile (now (a .profile)) (c .tell-reading .ensures .1 .1 .0) e, (part-as headerDim (now (a .dim)) (c .tell-reading .ensures .1 .1 .1 .0) e, (part-as headerBits (now (a .bits)) (c .tell-reading .ensures .1 .1 .1 .1 .0) e, (part-as headerProjections (now (a .projections)) (c .tell-reading .ensures .1 .1 .1 .1 .1 .0) e, (part-as headerMin (now (a .min)) (c .tell-reading .ensures .1 .1 .1 .1 .1 .1 .0) e, part-as headerMax (now (a .max)) (c .tell-reading .ensures .1 .1 .1 .1 .1 .1 .1) e)))))))
+    let a = c .before .before .before .before .before .before .before .before .before .before .before .before .before .args in
+    let e = c .before .before .before .before .before .before .before .before .before .before .before .read-record .ensures in
+    (told-as (c .before .before .before .before .before .before .before .before .tell-read .ensures) e, (part-as headerMode (now (a .mode)) (c .tell-header .ensures .0) e, (part-as headerProfile (now (a .profile)) (c .tell-header .ensures .1 .0) e, (part-as headerDim (now (a .dim)) (c .tell-header .ensures .1 .1 .0) e, (part-as headerBits (now (a .bits)) (c .tell-header .ensures .1 .1 .1 .0) e, (part-as headerProjections (now (a .projections)) (c .tell-header .ensures .1 .1 .1 .1 .0) e, (part-as headerMin (now (a .min)) (c .tell-header .ensures .1 .1 .1 .1 .1 .0) e, part-as headerMax (now (a .max)) (c .tell-header .ensures .1 .1 .1 .1 .1 .1) e)))))))
 
 pub foldrima-read-record-spec : {M : Type 1} → statement M
-foldrima-read-record-spec = tie.close (tie.spec read-record-requires tell-reading-requires returns)
+foldrima-read-record-spec =
+    tie.close (tie.spec read-record-requires tell-read-requires tell-header-requires returns)

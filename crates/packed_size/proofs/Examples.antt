@@ -1,0 +1,33 @@
+-- The lengths of document 01's worked records, computed: P12 has 11 bytes and P13 16; a linear record has its range beside them; and one refusal of each
+-- kind. Assumes nothing.
+use mathlib.Core.Path.{_≡_, refl}
+use lib.Count.{ones, onesIn}
+use Rattle.error.specs.Answer.{value, refused}
+use Rattle.radius.specs.declared.RadiusCodecProfileV1.the-variants.{F32, BlockLinearU16, BlockLogU8}
+use Rattle.setup.specs.declared.TurboMode.the-variants.{PolarOnly, PolarWithQjl}
+use Rattle.packed_size.specs.Size.{recordSizeOf}
+
+pub p12-size : recordSizeOf (record { profile = F32; mode = PolarOnly; dim = 2; bits = 1; projections = 9999 }) ≡ value 11
+unfolding recordSizeOf ones onesIn
+p12-size = refl
+
+pub p13-size : recordSizeOf (record { profile = F32; mode = PolarWithQjl; dim = 2; bits = 1; projections = 3 }) ≡ value 16
+unfolding recordSizeOf ones onesIn
+p13-size = refl
+
+-- two linear radii, with their range
+pub linear-size : recordSizeOf (record { profile = BlockLinearU16; mode = PolarOnly; dim = 4; bits = 1; projections = 0 }) ≡ value 19
+unfolding recordSizeOf ones onesIn
+linear-size = refl
+
+pub log-refused : recordSizeOf (record { profile = BlockLogU8; mode = PolarOnly; dim = 0; bits = 0; projections = 0 }) ≡ refused 18 0
+unfolding recordSizeOf
+log-refused = refl
+
+pub bits-refused : recordSizeOf (record { profile = F32; mode = PolarWithQjl; dim = 2; bits = 16; projections = 0 }) ≡ refused 1 16
+unfolding recordSizeOf ones onesIn
+bits-refused = refl
+
+pub projections-refused : recordSizeOf (record { profile = F32; mode = PolarWithQjl; dim = 2; bits = 1; projections = 4097 }) ≡ refused 8 4097
+unfolding recordSizeOf ones onesIn
+projections-refused = refl
