@@ -1,4 +1,5 @@
--- A pass that keeps one flag: how it starts, what an item does to it, what it says at the end, and what the place is then. Assumes nothing.
+-- A pass over a list that goes to its end and keeps one flag, whether no item so far offends: how it starts, what an item does to the flag, what the flag says
+-- at the end, and what the place is then. Assumes nothing.
 use Prim.Native.Nat.{ℕ, _+_, _≤_, _<_}
 use mathlib.Core.Path.{_≡_, refl, sym, ap, _∙_}
 use mathlib.Core.Bool.{Bool, true, false, not, true≢false, false≢true}
@@ -6,10 +7,15 @@ use mathlib.Core.List.{List}
 use native.Mathlib.Omega.{arith}
 use borrow.Author.Tests.{ltb-false, not-true, not-false, lt-ltb, le-ltb}
 use lib.Dec.{ltb}
-use lib.ListN.{length, getD}
-use Rattle.error.specs.Answer.{place}
+use lib.ListN.{length, getD, drop}
+use Rattle.error.specs.Answer.{place, clear}
 use Rattle.error.proofs.Places.{place-le, place-start, place-skip, place-here, place-end}
-use Rattle.error.specs.Sweep.{clear, Swept}
+
+-- the first i items are through, and the flag says whether none of them offends
+pub record Swept {A : Type 0} (bad : A → Bool) (xs : List A) (i : ℕ) (ok : Bool) : Type 0 where
+  pub within : i ≤ length xs
+  pub clean : ok ≡ true → place bad xs ≡ i + place bad (drop i xs)
+  pub spotted : ok ≡ false → place bad xs < i
 
 module _ {A : Type 0} (bad : A → Bool) (xs : List A) where
   pub swept-start : Swept bad xs 0 true

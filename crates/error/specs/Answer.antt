@@ -2,7 +2,7 @@
 -- The order of document 01's checks is the order of a list: 'Where several items offend, the first one counts.'
 -- Assumes nothing.
 use Prim.Native.Nat.{ℕ, suc}
-use mathlib.Core.Bool.{Bool, true, false, cond}
+use mathlib.Core.Bool.{Bool, true, false, cond, not}
 use mathlib.Core.List.{List, [], _∷_}
 use lib.Dec.{ltb}
 use lib.ListN.{length}
@@ -29,6 +29,10 @@ first (c ∷ cs) a = unless c (first cs a)
 unfoldable pub place : {A : Type 0} → (A → Bool) → List A → ℕ
 place bad [] = 0
 place bad (x ∷ xs) = cond (bad x) 0 (suc (place bad xs))
+
+-- no item offends: the place of the first that does is past the end
+abbrev pub clear : {A : Type 0} → (A → Bool) → List A → Bool
+clear bad xs = not (ltb (place bad xs) (length xs))
 
 -- the check of each item of a list, whose place is the index of the first that offends
 abbrev pub each : {A : Type 0} → (A → Bool) → ℕ → List A → Check

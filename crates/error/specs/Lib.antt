@@ -2,4 +2,3 @@ pub mod Answer
 pub mod Checks
 pub mod Lengths
 pub mod Outcomes
-pub mod Sweep

@@ -5,7 +5,7 @@
 ghost use mathlib.Core.Path.{_≡_};
 ghost use Rattle.error.specs.Checks.{badValue, firstNonFiniteOf, finiteScoreOf};
 ghost use Rattle.error.specs.Outcomes.{saysScore};
-ghost use Rattle.error.specs.Sweep.{clear};
+ghost use Rattle.error.specs.Answer.{clear};
 
 // The refusal numbers of document 01. A name is the Rust's where it has one.
 

@@ -13,7 +13,8 @@ use lib.Dec.{T, ltb, eqb, ltb→lt}
 use lib.Ieee.{Float, nan, inf, fin, binary32, up, down, size, odd, ofFields, ofBits, toBits, fits}
 use lib.Ieee.Exact.{HasValue, odd-sign}
 use lib.Ieee.Bits.{ofBits-toBits}
-use Rattle.float.specs.Units.{nonNegative, unit, mag, significandOf, shiftOf}
+use Rattle.float.specs.Units.{nonNegative, unit, mag}
+use Rattle.float.specs.Inner.{significandOf, shiftOf}
 use Rattle.float.proofs.Units.{mag-of-value}
 
 -- ---- the fields of a pattern

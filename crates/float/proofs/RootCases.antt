@@ -13,7 +13,8 @@ use lib.Dec.{T, ltb, eqb}
 use lib.Pow.{pow-pos}
 use lib.Ieee.{Float, nan, inf, fin, binary32, up, down, fits, toBits, lt, eq}
 use lib.Ieee.Fits.{up-pos}
-use Rattle.float.specs.Units.{nonNegative, mag, significandOf, shiftOf}
+use Rattle.float.specs.Units.{nonNegative, mag}
+use Rattle.float.specs.Inner.{significandOf, shiftOf}
 use Rattle.float.specs.SquareRoot.{squareRoot}
 use Rattle.float.proofs.Decode.{significand-low, decode-toBits, mag-toBits}
 

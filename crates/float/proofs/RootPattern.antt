@@ -10,7 +10,8 @@ use lib.Dec.{lit<, lit≤}
 use lib.Pow.{pow-add, pow-pos, pow-mono, shl-lt}
 use lib.Ieee.{binary32, ofBits, size}
 use lib.Ieee.Digits.{size-lt, size-le, back}
-use Rattle.float.specs.Units.{mag, significandOf, shiftOf}
+use Rattle.float.specs.Units.{mag}
+use Rattle.float.specs.Inner.{significandOf, shiftOf}
 use Rattle.float.specs.SquareRoot.{square, nearestRoot, dropped, rootPattern}
 use Rattle.float.proofs.Decode.{significand-high, mag-ofBits}
 

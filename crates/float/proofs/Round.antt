@@ -12,7 +12,7 @@ use lib.Ieee.Digits.{back}
 use lib.Ieee.Fits.{down-pos}
 use lib.Ieee.Nearest.{div-same}
 use Rattle.float.specs.Rounding.{roundUnsigned}
-use Rattle.float.specs.Units.{significandOf, shiftOf}
+use Rattle.float.specs.Inner.{significandOf, shiftOf}
 use Rattle.float.proofs.Decode.{decode-toBits, toBits-below, toBits-negative, significand-lt, significand-ge}
 
 -- ---- a / d is v / u: how the rounded fraction follows from v and u

@@ -12,7 +12,8 @@ use lib.Count.{leadingZeros, leading-top}
 use lib.Pow.{pow-add, pow-pos, shl-lt}
 use lib.Ieee.{Float, nan, inf, fin, binary32, fits, ofBits, toBits, size}
 use lib.Ieee.Bits.{ofBits-fits, ofBits-toBits}
-use Rattle.float.specs.Units.{nonNegative, unit, mag, significandOf, shiftOf}
+use Rattle.float.specs.Units.{nonNegative, unit, mag}
+use Rattle.float.specs.Inner.{significandOf, shiftOf}
 use Rattle.float.proofs.Units.{mag-zero}
 use Rattle.float.specs.SquareRoot.{square, NearestRoot, rootBits, nearestRoot, dropped, rootPattern, squareRoot}
 use Rattle.float.proofs.Decode.{significand-lt, shift-le, mag-toBits, toBits-below, nonNegative-ofBits}

@@ -1,3 +1,4 @@
+pub mod Inner
 pub mod Bytes
 pub mod Constants
 pub mod Rounding

@@ -1,9 +1,7 @@
 -- A finite f32 as a whole number of units of 2 ^ -149, the smallest positive f32: document 01, 'Every finite f32 is a whole multiple of 2^−149'.
--- And the two numbers that the pattern of a finite f32 that is not negative stands for: a significand, and by how many places it is shifted.
 -- Assumes nothing.
-use Prim.Native.Nat.{ℕ, _+_, _-_, _*_, _/_, _%_, _^_}
-use mathlib.Core.Bool.{Bool, false, not, cond}
-use lib.Dec.{ltb}
+use Prim.Native.Nat.{ℕ, _*_, _/_, _^_}
+use mathlib.Core.Bool.{Bool, false, not}
 use lib.Ieee.{Float, nan, inf, fin, up, down}
 
 -- finite, and with a clear sign
@@ -21,11 +19,3 @@ unfoldable pub mag : Float → ℕ
 mag nan = 0
 mag (inf s) = 0
 mag (fin s m e) = m * up e * unit / down e
-
--- of a pattern below 7F800000: the digits, with the leading one where the exponent's field is not 0
-unfoldable pub significandOf : ℕ → ℕ
-significandOf b = cond (ltb b (2 ^ 23)) b (2 ^ 23 + b % 2 ^ 23)
-
--- the exponent's field less 1; a field of 0 counts as 1
-unfoldable pub shiftOf : ℕ → ℕ
-shiftOf b = b / 2 ^ 23 - 1

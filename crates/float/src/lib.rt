@@ -11,7 +11,8 @@ ghost use Rattle.float.specs.Bytes.{ofLeBytes, putF32Of};
 ghost use Rattle.float.specs.Copying.{copyIntoOf};
 ghost use Rattle.float.specs.Rounding.{floorUnsigned, roundUnsigned, clamped};
 ghost use Rattle.float.specs.SquareRoot.{NearestRoot, squareRoot, rootPattern, nearestRoot, rootBits};
-ghost use Rattle.float.specs.Units.{nonNegative, mag, significandOf, shiftOf};
+ghost use Rattle.float.specs.Units.{nonNegative, mag};
+ghost use Rattle.float.specs.Inner.{significandOf, shiftOf};
 
 // Whether x is neither a NaN nor an infinity.
 pub fn is_finite(x: f32) -> bool

@@ -10,8 +10,8 @@ use lib.ListN.{length, getD}
 use lib.Ieee.{Float}
 use Rattle.rounding.specs.Signed.{Diff}
 use Rattle.float.specs.Units.{unit, mag}
-use Rattle.rounding.specs.Close.{Close}
-use Rattle.rounding.specs.Sums.{AllFit, AllClose, absoluteSum}
+use Rattle.rounding.proofs.Close.{Close, AllFit, AllClose}
+use Rattle.rounding.specs.Sums.{absoluteSum}
 use Rattle.rounding.proofs.Calculus.{close-weaken}
 use Rattle.polar.specs.Polar.{valueAt, directionAt, cosine, sine, polarSumOf}
 use Rattle.polar.specs.Exact.{exactPolar, sizeTerm, polarSize, directionTerm, directionSum}

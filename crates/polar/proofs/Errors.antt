@@ -10,8 +10,8 @@ use lib.Ieee.{Float, binary32, fits}
 use Rattle.rounding.specs.Signed.{Diff}
 use Rattle.float.specs.Constants.{posZero}
 use Rattle.float.specs.Units.{unit, mag}
-use Rattle.rounding.specs.Close.{Close}
-use Rattle.rounding.specs.Sums.{sum, AllFit, AllClose}
+use Rattle.rounding.proofs.Close.{Close, AllFit, AllClose}
+use Rattle.rounding.specs.Sums.{sum}
 use Rattle.rounding.proofs.Calculus.{close-zero, close-weaken, close-add, close-mul, close-mul-left}
 use Rattle.rounding.proofs.Folds.{close-total, all-close-at, all-fit-at}
 use Rattle.polar.specs.Polar.{valueAt, directionAt, cosine, sine, pairs, term, polarSumOf}

@@ -9,9 +9,9 @@ use lib.ListN.{length, length-map}
 use lib.Ieee.{Float}
 use Rattle.rounding.specs.Signed.{Diff}
 use Rattle.float.specs.Units.{mag}
-use Rattle.rounding.specs.Close.{Close}
+use Rattle.rounding.proofs.Close.{Close, AllClose, none, next}
 use Rattle.rounding.specs.Butterfly.{from}
-use Rattle.rounding.specs.Sums.{sum, AllClose, none, next}
+use Rattle.rounding.specs.Sums.{sum}
 use Rattle.polar.specs.Polar.{valueAt}
 use Rattle.polar.proofs.Loops.{from-length}
 

@@ -13,8 +13,8 @@ use lib.Ieee.{Float, binary32, fits}
 use lib.Ieee.Fits.{div-fits}
 use Rattle.rounding.specs.Value.{val}
 use Rattle.float.specs.Units.{unit, mag}
-use Rattle.rounding.specs.Close.{Close}
-use Rattle.rounding.specs.Sums.{exactTotal, turnedEach, sum, AllFit}
+use Rattle.rounding.proofs.Close.{Close, AllFit}
+use Rattle.rounding.specs.Sums.{exactTotal, turnedEach, sum}
 use Rattle.rounding.proofs.Signed.{mul-same-comm}
 use Rattle.rounding.proofs.Calculus.{close-weaken, close-same, close-mul-left}
 use Rattle.rounding.proofs.Totals.{sum-replicate}

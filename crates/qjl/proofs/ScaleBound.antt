@@ -15,16 +15,15 @@ use lib.Ieee.Back.{round-whole}
 use lib.Ieee.Exact.{HasValue}
 use lib.Ieee.Fits.{mul-fits, ofInt-fits}
 use lib.Ieee.Scale.{finite}
-use Rattle.rounding.specs.Signed.{Diff, Abs, Near, _⊠_}
+use Rattle.rounding.specs.Signed.{Diff, Near, _⊠_}
 use Rattle.rounding.specs.Value.{val}
 use Rattle.float.specs.Constants.{one}
 use Rattle.float.specs.Units.{unit, mag}
-use Rattle.rounding.specs.Close.{Close}
-use Rattle.rounding.specs.Sums.{AllFit}
+use Rattle.rounding.proofs.Close.{Close, AllFit}
 use Rattle.rounding.proofs.Bounds.{size-times}
 use Rattle.rounding.proofs.Calculus.{val-product-size, close-weaken}
 use Rattle.rounding.proofs.Product.{div-near}
-use Rattle.rounding.proofs.Signed.{size-least, abs-times}
+use Rattle.rounding.proofs.Signed.{size-least, abs-times, Abs}
 use Rattle.rounding.proofs.Values.{finite-of-value, val-sized, unit-pos}
 use Rattle.float.proofs.Units.{mag-of-value}
 use Rattle.rounding.specs.Rows.{projected}

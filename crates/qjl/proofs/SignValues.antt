@@ -11,8 +11,8 @@ use lib.ListN.{length, getD, length-map}
 use lib.Ieee.{Float, binary32, ofInt}
 use Rattle.rounding.specs.Signed.{Diff}
 use Rattle.float.specs.Constants.{one}
-use Rattle.rounding.specs.Close.{Close}
-use Rattle.rounding.specs.Sums.{total, products, exactTotal, turnedEach, sum, AllClose}
+use Rattle.rounding.proofs.Close.{Close, AllClose}
+use Rattle.rounding.specs.Sums.{total, products, exactTotal, turnedEach, sum}
 use Rattle.rounding.proofs.Exact.{mul-commutes}
 use Rattle.rounding.proofs.Folds.{close-signs, close-total}
 use Rattle.rounding.proofs.Lists.{length-products}

@@ -13,7 +13,8 @@ use Rattle.rounding.specs.Signed.{Diff}
 use Rattle.rounding.specs.Value.{val}
 use Rattle.float.specs.Constants.{one, posZero}
 use Rattle.float.specs.Units.{unit, mag}
-use Rattle.rounding.specs.Sums.{products, sum, turnedEach, AllFit, AllClose, absoluteSum}
+use Rattle.rounding.specs.Sums.{products, sum, turnedEach, absoluteSum}
+use Rattle.rounding.proofs.Close.{AllFit, AllClose}
 use Rattle.rounding.specs.Butterfly.{stages}
 use Rattle.rounding.proofs.Folds.{all-close-self, close-signs, close-scaled}
 use Rattle.rounding.proofs.Totals.{sum-none}

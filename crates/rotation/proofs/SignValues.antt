@@ -12,7 +12,7 @@ use lib.Ieee.Back.{whole-unique}
 use lib.Ieee.Exact.{HasValue}
 use lib.Ieee.Fits.{down-pos}
 use Rattle.float.specs.Constants.{one}
-use Rattle.rounding.specs.Sums.{AllFit}
+use Rattle.rounding.proofs.Close.{AllFit}
 use Rattle.rotation.specs.Checks.{badSign}
 use Rattle.rotation.specs.Exact.{negative}
 

@@ -14,7 +14,8 @@ use lib.Ieee.Fits.{eq→eqb}
 use lib.Seq.{take-add, take-all, drop-drop, take-nil, drop-nil, ext-getD}
 use Rattle.rounding.specs.Signed.{Diff, nought, _⊞_, _⊟_}
 use Rattle.float.specs.Constants.{posZero}
-use Rattle.rounding.specs.Sums.{sum, AllClose}
+use Rattle.rounding.specs.Sums.{sum}
+use Rattle.rounding.proofs.Close.{AllClose}
 use Rattle.rounding.specs.Butterfly.{entry, stage, stages}
 use Rattle.rounding.proofs.Butterflies.{stage-length, stage-at, stages-length, close-stages}
 use Rattle.rounding.proofs.Folds.{all-close-errors, all-close-sizes}

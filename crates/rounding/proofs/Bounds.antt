@@ -5,8 +5,9 @@ use Prim.Native.Nat.{ℕ, _+_, _-_, _*_, _^_, _≤_}
 use native.Mathlib.Nat.{le-trans, le-of-eq, one-mul, mul-one, mul-zero, add-zero, mul-assoc, mul-add, mul-sub, mul-le-mul-left, mul-le-mul-right, mul-le-mul, add-le-add, le-refl}
 use native.Mathlib.Omega.{arith}
 use mathlib.Core.Bool.{Bool, true, false}
-use Rattle.rounding.specs.Signed.{Diff, signed, opposite, turned, _⊞_, _⊟_, _⊠_, _⊙_, size, Abs, Near, Same}
-use Rattle.rounding.specs.Close.{Bound}
+use Rattle.rounding.specs.Signed.{Diff, signed, opposite, turned, _⊞_, _⊟_, _⊠_, _⊙_, Near, Same}
+use Rattle.rounding.proofs.Signed.{size, Abs}
+use Rattle.rounding.proofs.Close.{Bound}
 
 -- ---- exact steps
 pub bound-add : {s k r a q b : ℕ} {v x u y : Diff} → Bound s k r a v x → Bound s k q b u y → Bound s k (r + q) (a + b) (v ⊞ u) (x ⊞ y)

@@ -10,8 +10,7 @@ use lib.ListN.{length, getD}
 use lib.Ieee.{Float, binary32, add, sub}
 use Rattle.rounding.specs.Signed.{Diff, nought, _⊞_, _⊟_}
 use Rattle.float.specs.Constants.{posZero}
-use Rattle.rounding.specs.Close.{Close}
-use Rattle.rounding.specs.Sums.{AllClose, none, next}
+use Rattle.rounding.proofs.Close.{Close, AllClose, none, next}
 use Rattle.rounding.specs.Butterfly.{from, entry, stage, stages}
 use Rattle.rounding.proofs.Calculus.{close-zero, close-add, close-sub}
 use Rattle.rounding.proofs.Folds.{all-close-at, all-close-errors, all-close-sizes, all-close-numbers, all-close-weaken}

@@ -11,11 +11,12 @@ use lib.Dec.{T}
 use lib.Ieee.{Float, binary32, add, sub, mul, fits}
 use lib.Ieee.Fits.{add-fits, sub-fits, mul-fits}
 use lib.Ieee.Scale.{finite}
-use Rattle.rounding.specs.Signed.{Diff, signed, turned, nought, _⊞_, _⊟_, _⊠_, _⊙_, size, Abs, Near, Same}
+use Rattle.rounding.specs.Signed.{Diff, signed, turned, nought, _⊞_, _⊟_, _⊠_, _⊙_, Near, Same}
+use Rattle.rounding.proofs.Signed.{size, Abs}
 use Rattle.rounding.specs.Value.{val}
 use Rattle.float.specs.Constants.{posZero, one}
 use Rattle.float.specs.Units.{unit, mag}
-use Rattle.rounding.specs.Close.{Bound, Close}
+use Rattle.rounding.proofs.Close.{Bound, Close}
 use Rattle.rounding.proofs.Bounds.{bound-add, bound-sub, bound-turned, bound-times, bound-lift, bound-same, bound-weaken, bound-exact, bound-rounded, bound-rounded-relative, bound-error}
 use Rattle.rounding.proofs.Exact.{mul-commutes, mul-sign-val}
 use Rattle.rounding.proofs.Finite.{add-finite, sub-finite, mul-finite}

@@ -1,13 +1,19 @@
 -- No hidden infinity: what a finite result says of the operands, in either format.
 -- A sum, a difference or a product that is finite has finite operands; a quotient may also be a zero over an infinity. Assumes nothing.
-use mathlib.Core.Path.{refl}
-use Prim.Native.Nat.{zero, suc}
+use mathlib.Core.Path.{_≡_, refl}
+use Prim.Native.Nat.{zero, suc, _<_}
 use native.Mathlib.Nat.{zero-lt-suc}
 use mathlib.Core.Bool.{Bool, true, false, cond, Bool·beq}
 use lib.Dec.{T, eqb}
+use lib.IntN.{pos}
 use lib.Ieee.{Float, nan, inf, fin, Format, unlike, neg, add, sub, mul, div}
 use lib.Ieee.Scale.{finite}
-use Rattle.rounding.specs.Value.{Divisor}
+
+-- what a finite quotient of x says of its divisor: it is a number other than 0, or an infinity, which leaves a zero
+abbrev pub Divisor : Format → Float → Float → Type 0
+Divisor f x nan = ⊥
+Divisor f x (inf s) = (b : Bool) × (div f x (inf s) ≡ fin b 0 (pos 0))
+Divisor f x (fin s m e) = 0 < m
 
 neg-finite : (x : Float) → T (finite (neg x)) → T (finite x)
 unfolding neg

@@ -13,8 +13,8 @@ use Rattle.rounding.specs.Signed.{Diff, nought, _⊞_, _⊠_}
 use Rattle.rounding.specs.Value.{val}
 use Rattle.float.specs.Constants.{one}
 use Rattle.float.specs.Units.{unit, mag}
-use Rattle.rounding.specs.Close.{Close}
-use Rattle.rounding.specs.Sums.{running, total, products, dot, exactTotal, exactProducts, exactDot, turnedEach, sum, weighted, AllFit, AllClose, none, next}
+use Rattle.rounding.proofs.Close.{Close, AllFit, AllClose, none, next}
+use Rattle.rounding.specs.Sums.{running, total, products, dot, exactTotal, exactProducts, exactDot, turnedEach, sum, weighted}
 use Rattle.rounding.proofs.Totals.{weighted-length, sum-raised, weighted-none}
 use Rattle.rounding.proofs.Calculus.{close-zero, close-self, close-weaken, close-same, close-add, close-mul, close-sign}
 

@@ -6,6 +6,7 @@ pub mod Finite
 pub mod Sum
 pub mod Product
 pub mod Exact
+pub mod Close
 pub mod Bounds
 pub mod Calculus
 pub mod Totals

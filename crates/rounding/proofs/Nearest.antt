@@ -13,8 +13,15 @@ use lib.Ieee.{size, nearest}
 use lib.Ieee.Digits.{size-reaches}
 use lib.Ieee.Nearest.{closest}
 use lib.Ieee.Order.{drop, kept}
-use Rattle.rounding.specs.Signed.{Apart}
-use Rattle.rounding.specs.Value.{rounded}
+
+-- t * |a - b| ≤ w, of naturals
+pub record Apart (t a b w : ℕ) : Type 0 where
+  pub above : t * a ≤ t * b + w
+  pub below : t * b ≤ t * a + w
+
+-- n / c rounded to a whole number of at most p binary digits and zeros behind them: what `round` makes of a fraction in units
+abbrev pub rounded : ℕ → ℕ → ℕ → ℕ
+rounded p n c = kept p n c * 2 ^ drop p n c
 
 -- ---- a / b to the nearest whole number
 

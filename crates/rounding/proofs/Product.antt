@@ -11,11 +11,11 @@ use lib.Dec.{T, eqb, eqb·suc-zero}
 use lib.Ieee.{Float, nan, inf, fin, binary32, unlike, up, down, mul, div, round, fits}
 use lib.Ieee.Fits.{up-pos, down-pos}
 use lib.Ieee.Scale.{finite}
-use Rattle.rounding.specs.Signed.{Diff, signed, _⊠_, _⊙_, Apart, Near}
-use Rattle.rounding.specs.Value.{rounded, val}
+use Rattle.rounding.specs.Signed.{Diff, signed, _⊠_, _⊙_, Near}
+use Rattle.rounding.specs.Value.{val}
 use Rattle.float.specs.Units.{unit, mag}
 use Rattle.rounding.proofs.Finite.{mul-finite, div-finite}
-use Rattle.rounding.proofs.Nearest.{rounded-apart}
+use Rattle.rounding.proofs.Nearest.{rounded-apart, Apart, rounded}
 use Rattle.rounding.proofs.Values.{mag-exact, round-val}
 
 -- ---- from the fraction to units: g * c near n, with n * u = p * D and c * u = b * D, is g * b near p

@@ -12,8 +12,8 @@ use Rattle.lists.proofs.Chunks.{chunks-getD, chunks-length}
 use Rattle.rounding.specs.Value.{val}
 use Rattle.float.specs.Constants.{posZero}
 use Rattle.float.specs.Units.{unit, mag}
-use Rattle.rounding.specs.Close.{Close}
-use Rattle.rounding.specs.Sums.{running, products, dot, exactDot, sum, weighted, AllFit, AllClose, none, next}
+use Rattle.rounding.proofs.Close.{Close, AllFit, AllClose, none, next}
+use Rattle.rounding.specs.Sums.{running, products, dot, exactDot, sum, weighted}
 use Rattle.rounding.specs.Rows.{projected, exactProjected, projectedSizes}
 use Rattle.rounding.proofs.Calculus.{close-weaken}
 use Rattle.rounding.proofs.Folds.{close-dot-self}

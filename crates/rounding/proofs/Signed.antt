@@ -1,9 +1,18 @@
--- Laws of signed whole numbers: the factors of a product may change places, and `size` is the least bound.
+-- The size of a signed whole number, and when one is at most so large. The factors of a product may change places, and `size` is the least bound.
 -- Two numbers that lie further apart than the sum of their errors stand for exact ones in the same order. Assumes nothing.
-use Prim.Native.Nat.{ℕ, _+_, _*_, _≤_}
+use Prim.Native.Nat.{ℕ, _+_, _-_, _*_, _≤_}
 use native.Mathlib.Nat.{mul-le-mul-left}
 use native.Mathlib.Omega.{arith}
-use Rattle.rounding.specs.Signed.{Diff, _⊠_, _⊙_, size, Abs, Near, Same, Under}
+use Rattle.rounding.specs.Signed.{Diff, _⊠_, _⊙_, Near, Same, Under}
+
+-- |x|
+abbrev pub size : Diff → ℕ
+size x = x .plus - x .minus + (x .minus - x .plus)
+
+-- |x| ≤ w
+pub record Abs (x : Diff) (w : ℕ) : Type 0 where
+  pub above : x .plus ≤ x .minus + w
+  pub below : x .minus ≤ x .plus + w
 
 -- ---- the factors of a product
 pub mul-same-comm : (x y : Diff) → Same (x ⊠ y) (y ⊠ x)

@@ -9,11 +9,12 @@ use lib.Dec.{T, ltb, ltb→lt, nltb→le}
 use lib.Ieee.{Float, nan, inf, fin, binary32, up, down, neg, sum, add, sub, round, fits}
 use lib.Ieee.Fits.{down-pos, neg-fits}
 use lib.Ieee.Scale.{finite}
-use Rattle.rounding.specs.Signed.{Diff, signed, opposite, _⊞_, _⊟_, _⊙_, size, Apart, Near, Same}
-use Rattle.rounding.specs.Value.{rounded, val}
+use Rattle.rounding.specs.Signed.{Diff, signed, opposite, _⊞_, _⊟_, _⊙_, Near, Same}
+use Rattle.rounding.proofs.Signed.{size}
+use Rattle.rounding.specs.Value.{val}
 use Rattle.float.specs.Units.{unit, mag}
 use Rattle.rounding.proofs.Finite.{add-finite}
-use Rattle.rounding.proofs.Nearest.{whole-rounded-apart}
+use Rattle.rounding.proofs.Nearest.{whole-rounded-apart, Apart, rounded}
 use Rattle.rounding.proofs.Values.{mag-exact, round-val}
 
 -- ---- a whole number of units, rounded

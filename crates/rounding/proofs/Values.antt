@@ -14,8 +14,10 @@ use lib.Ieee.Exact.{HasValue, units-val, round-exact}
 use lib.Ieee.Fits.{down-pos, round-is, and-l, and-r}
 use lib.Ieee.Order.{drop, kept}
 use lib.Ieee.Scale.{finite}
-use Rattle.rounding.specs.Signed.{signed, nought, Abs}
-use Rattle.rounding.specs.Value.{rounded, val}
+use Rattle.rounding.specs.Signed.{signed, nought}
+use Rattle.rounding.proofs.Signed.{Abs}
+use Rattle.rounding.specs.Value.{val}
+use Rattle.rounding.proofs.Nearest.{rounded}
 use Rattle.float.specs.Units.{unit, mag}
 use Rattle.float.proofs.Units.{mag-of-value, mag-zero}
 

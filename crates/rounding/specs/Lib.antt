@@ -1,6 +1,5 @@
 pub mod Signed
 pub mod Value
-pub mod Close
 pub mod Sums
 pub mod Rows
 pub mod Butterfly

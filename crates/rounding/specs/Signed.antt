@@ -1,7 +1,7 @@
 -- Whole numbers with a sign, each written as a difference of two naturals, and how far two of them lie apart.
 -- One number has many such pairs: `Same` says that two pairs are the same number. Assumes nothing.
 use mathlib.Core.Path.{_≡_}
-use Prim.Native.Nat.{ℕ, _+_, _-_, _*_, _≤_, _<_}
+use Prim.Native.Nat.{ℕ, _+_, _*_, _≤_, _<_}
 use mathlib.Core.Bool.{Bool, true, false}
 
 infixl 65 _⊞_ _⊟_
@@ -39,20 +39,6 @@ n ⊙ x = record { plus = n * x .plus; minus = n * x .minus }
 abbrev pub turned : Bool → Diff → Diff
 turned false x = x
 turned true x = opposite x
-
--- |x|
-abbrev pub size : Diff → ℕ
-size x = x .plus - x .minus + (x .minus - x .plus)
-
--- t * |a - b| ≤ w, of naturals
-pub record Apart (t a b w : ℕ) : Type 0 where
-  pub above : t * a ≤ t * b + w
-  pub below : t * b ≤ t * a + w
-
--- |x| ≤ w
-pub record Abs (x : Diff) (w : ℕ) : Type 0 where
-  pub above : x .plus ≤ x .minus + w
-  pub below : x .minus ≤ x .plus + w
 
 -- |x - y| ≤ w
 pub record Near (x y : Diff) (w : ℕ) : Type 0 where

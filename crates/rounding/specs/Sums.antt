@@ -3,12 +3,10 @@
 use Prim.Native.Nat.{ℕ, _+_, _*_}
 use mathlib.Core.Bool.{Bool}
 use mathlib.Core.List.{List, [], _∷_, map}
-use lib.Dec.{T}
-use lib.Ieee.{Float, binary32, add, mul, fits}
+use lib.Ieee.{Float, binary32, add, mul}
 use Rattle.rounding.specs.Signed.{Diff, nought, turned, _⊞_, _⊠_}
 use Rattle.float.specs.Constants.{posZero}
 use Rattle.float.specs.Units.{mag}
-use Rattle.rounding.specs.Close.{Close}
 
 -- 'Sums run in index order from +0.0' (document 01): the running sum, from the one so far
 unfoldable pub running : Float → List Float → Float
@@ -59,15 +57,3 @@ unfoldable pub weighted : List Float → List ℕ → List ℕ
 weighted [] ns = []
 weighted (c ∷ cs) [] = []
 weighted (c ∷ cs) (n ∷ ns) = mag c * n ∷ weighted cs ns
-
--- ---- what is said of each entry
--- it is an f32
-abbrev pub AllFit : List Float → Type 0
-AllFit [] = Unit {0}
-AllFit (v ∷ vs) = T (fits binary32 v) × AllFit vs
-
--- it is close to its exact number, with its own r and its own a
-pub data AllClose (s k : ℕ) : List ℕ → List ℕ → List Float → List Diff → Type 0 where
-  none : AllClose s k [] [] [] []
-  next : {r a : ℕ} {v : Float} {x : Diff} {rs bs : List ℕ} {vs : List Float} {xs : List Diff} → Close s k r a v x → AllClose s k rs bs vs xs
-      → AllClose s k (r ∷ rs) (a ∷ bs) (v ∷ vs) (x ∷ xs)

@@ -17,7 +17,7 @@ use Rattle.setup.specs.Lent.{Lent}
 use Rattle.setup.specs.Setups.{polarBitsOf, countedProjectionsOf, directionsNeeded, matrixNeeded}
 use Rattle.setup.specs.Checks.{badDirection, scalarChecks, tableChecks, tableChecksButEntries, entryChecks, setupChecks, setupChecksButEntries, directionChecks}
 use Rattle.error.specs.Checks.{badValue}
-use Rattle.setup.specs.Accepted.{Usable, Directions, AcceptedSetup}
+use Rattle.setup.proofs.Usable.{Usable, Directions, AcceptedSetup}
 use Rattle.setup.proofs.Rows.{entry-below}
 use Rattle.error.proofs.Finite.{passes-finite}
 use Rattle.setup.proofs.Scalars.{scalars-usable}

@@ -16,7 +16,7 @@ use Rattle.setup.specs.declared.TurboMode.{TurboMode}
 use Rattle.setup.specs.declared.TurboMode.the-variants.{PolarOnly, PolarWithQjl}
 use Rattle.setup.specs.Setups.{byMode}
 use Rattle.setup.specs.Checks.{scalarChecks}
-use Rattle.setup.specs.Accepted.{Usable}
+use Rattle.setup.proofs.Usable.{Usable}
 
 -- ---- tests
 

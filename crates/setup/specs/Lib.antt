@@ -1,5 +1,4 @@
 pub mod Setups
 pub mod Lent
 pub mod Checks
-pub mod Accepted
 pub mod Seeds

@@ -15,13 +15,12 @@ use error::ZERO_PROJECTION_COUNT;
 ghost use mathlib.Core.Path.{_≡_};
 ghost use Prim.Native.Nat.{_*_, _^_, _≤_};
 ghost use lib.ListN.{length};
-ghost use Rattle.error.specs.Answer.{first, accepted};
+ghost use Rattle.error.specs.Answer.{first, accepted, clear};
 ghost use Rattle.error.specs.Checks.{firstNonFiniteOf};
 ghost use Rattle.error.specs.Outcomes.{says};
 ghost use Rattle.setup.specs.Lent.{lent};
 ghost use Rattle.setup.specs.Setups.{polarBitsOf, countedProjectionsOf};
 ghost use Rattle.setup.specs.Checks.{badTotalBits, badProjections, badDirection, firstBadDirectionOf, scalarChecks, tableChecksButEntries, entryChecks, setupChecks, setupChecksButEntries, directionChecks};
-ghost use Rattle.error.specs.Sweep.{clear};
 ghost use Rattle.setup.specs.Seeds.{hadamardSeedOf, matrixSeedOf};
 
 // Whether a residual sketch stands beside the polar code.

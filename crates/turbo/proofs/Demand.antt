@@ -12,7 +12,7 @@ use lib.Ieee.Scale.{finite}
 use Rattle.error.specs.Answer.{value, first, accepted}
 use Rattle.error.proofs.Chains.{first-passed, first-passes, first-value, append-left, append-right}
 use Rattle.rounding.specs.Signed.{Near, Under}
-use Rattle.rounding.specs.Sums.{AllFit}
+use Rattle.rounding.proofs.Close.{AllFit}
 use Rattle.rounding.proofs.Folds.{all-fit-from}
 use Rattle.setup.specs.Lent.{Lent}
 use Rattle.setup.specs.declared.Setup.{Setup}

@@ -7,14 +7,15 @@ use native.Mathlib.Omega.{arith}
 use lib.ListN.{length, replicate, getD-replicate}
 use lib.Ieee.{Float}
 use Rattle.float.specs.Units.{unit, mag}
-use Rattle.rounding.specs.Sums.{AllFit, AllClose, absoluteSum}
+use Rattle.rounding.specs.Sums.{absoluteSum}
+use Rattle.rounding.proofs.Close.{AllFit, AllClose}
 use Rattle.rotation.specs.Rotation.{inverseRoot, rotated}
 use Rattle.rotation.specs.Exact.{exactRotated}
 use Rattle.rotation.proofs.Accepted.{Rotatable}
 use Rattle.rotation.proofs.ErrorBound.{rotationCount, rotated-close}
 use Rattle.setup.specs.Lent.{Lent}
 use Rattle.setup.specs.declared.Setup.{Setup}
-use Rattle.setup.specs.Accepted.{AcceptedSetup}
+use Rattle.setup.proofs.Usable.{AcceptedSetup}
 use Rattle.polar.specs.Exact.{polarSize, directionSum}
 use Rattle.polar.proofs.Counts.{polar-size-even}
 use Rattle.turbo_order.specs.Account.{Sound, hadamardAccount}

@@ -17,8 +17,8 @@ use Rattle.bitpack.specs.Signs.{badSketchSign}
 use Rattle.rounding.specs.Signed.{Near, Under, _⊞_, _⊙_}
 use Rattle.rounding.specs.Value.{val}
 use Rattle.float.specs.Units.{unit, mag}
-use Rattle.rounding.specs.Close.{Close}
-use Rattle.rounding.specs.Sums.{AllFit, absoluteSum}
+use Rattle.rounding.proofs.Close.{Close, AllFit}
+use Rattle.rounding.specs.Sums.{absoluteSum}
 use Rattle.rounding.proofs.Signed.{near-weaken, order-kept}
 use Rattle.rounding.proofs.Calculus.{close-add, close-weaken, close-lift, close-error}
 use Rattle.setup.specs.Lent.{Lent}
@@ -27,7 +27,7 @@ use Rattle.setup.specs.declared.TurboMode.{TurboMode}
 use Rattle.setup.specs.declared.TurboMode.the-variants.{PolarOnly, PolarWithQjl}
 use Rattle.setup.specs.Setups.{byMode, countedProjectionsOf}
 use Rattle.setup.specs.Checks.{badDirection}
-use Rattle.setup.specs.Accepted.{Usable, Directions}
+use Rattle.setup.proofs.Usable.{Usable, Directions}
 use Rattle.polar.specs.Polar.{valueAt}
 use Rattle.polar.proofs.Directions.{within-small, missing-small}
 use Rattle.polar.proofs.Counts.{close-polar-most}

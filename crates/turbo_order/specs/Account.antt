@@ -6,7 +6,8 @@ use lib.ListN.{replicate}
 use lib.Ieee.{Float}
 use Rattle.rounding.specs.Signed.{Diff}
 use Rattle.float.specs.Units.{unit, mag}
-use Rattle.rounding.specs.Sums.{AllClose, absoluteSum}
+use Rattle.rounding.specs.Sums.{absoluteSum}
+use Rattle.rounding.proofs.Close.{AllClose}
 use Rattle.rotation.specs.Rotation.{inverseRoot, rotated}
 use Rattle.rotation.specs.Exact.{exactRotated}
 

@@ -7,8 +7,7 @@ use denote.Ref.{now}
 use lib.IntN.{pos}
 use lib.ListN.{length}
 use Rattle.bitpack.specs.Signs.{badSketchSign}
-use Rattle.error.specs.Sweep.{Swept}
-use Rattle.error.proofs.Sweep.{swept-start, swept-pass, swept-spot, swept-end}
+use Rattle.error.proofs.Sweep.{swept-start, swept-pass, swept-spot, swept-end, Swept}
 use Rattle.bitpack_signs.proofs.Signs.{signed-at}
 use Rattle.bitpack_signs.proofs.all_signs.Statement.{statement}
 use Rattle.bitpack_signs.proofs.all_signs.Tie as tie

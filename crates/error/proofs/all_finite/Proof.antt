@@ -8,8 +8,7 @@ use borrow.Author.Tests.{not-true, not-false}
 use lib.ListN.{length}
 use lib.Ieee.{nan}
 use Rattle.error.specs.Checks.{badValue}
-use Rattle.error.specs.Sweep.{Swept}
-use Rattle.error.proofs.Sweep.{swept-start, swept-pass, swept-spot, swept-end}
+use Rattle.error.proofs.Sweep.{swept-start, swept-pass, swept-spot, swept-end, Swept}
 use Rattle.error.proofs.Finite.{finite-passes, not-finite-offends}
 use Rattle.error.proofs.all_finite.Statement.{statement}
 use Rattle.error.proofs.all_finite.Tie as tie

@@ -6,7 +6,7 @@ use native.Mathlib.Omega.{arith}
 use borrow.Author.Needs.{needs}
 use lib.Count.{leadingZeros, leading-top}
 use lib.Dec.{lit≤}
-use Rattle.float.specs.Units.{significandOf, shiftOf}
+use Rattle.float.specs.Inner.{significandOf, shiftOf}
 use Rattle.float.specs.SquareRoot.{nearestRoot, rootPattern}
 use Rattle.float.proofs.Decode.{significand-lt, significand-positive, shift-le}
 use Rattle.float.proofs.IntegerRoot.{nearestRoot-le}

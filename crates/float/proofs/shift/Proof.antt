@@ -1,7 +1,7 @@
 -- `float::shift` meets its contract: a field of 0 counts as 1. Assumes nothing.
 use native.Mathlib.Omega.{arith}
 use borrow.Author.Needs.{needs}
-use Rattle.float.specs.Units.{shiftOf}
+use Rattle.float.specs.Inner.{shiftOf}
 use Rattle.float.proofs.shift.Statement.{statement}
 use Rattle.float.proofs.shift.Tie as tie
 

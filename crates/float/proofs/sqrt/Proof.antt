@@ -4,7 +4,8 @@ use Prim.Native.Nat.{ℕ, _*_, _+_, _^_, _<_}
 use borrow.Author.Needs.{needs}
 use lib.Dec.{T}
 use lib.Ieee.{Float, binary32, fits, nanBits, ofBits, div}
-use Rattle.float.specs.Units.{nonNegative, mag, significandOf, shiftOf}
+use Rattle.float.specs.Units.{nonNegative, mag}
+use Rattle.float.specs.Inner.{significandOf, shiftOf}
 use Rattle.float.specs.SquareRoot.{NearestRoot, rootPattern, squareRoot}
 use Rattle.float.proofs.Decode.{toBits-below}
 use Rattle.float.proofs.RootCases.{root-of-zero, root-of-infinite, root-of-none, positive-finite, positive-mag, toBits-positive}

@@ -7,8 +7,7 @@ use borrow.Author.Needs.{scaled-fits}
 use lib.ListN.{length}
 use lib.Ieee.{nan}
 use Rattle.setup.specs.Checks.{badDirection}
-use Rattle.error.specs.Sweep.{Swept}
-use Rattle.error.proofs.Sweep.{swept-start, swept-pass, swept-spot, swept-end}
+use Rattle.error.proofs.Sweep.{swept-start, swept-pass, swept-spot, swept-end, Swept}
 use Rattle.setup.proofs.all_directions.Statement.{statement}
 use Rattle.setup.proofs.all_directions.Tie as tie
 

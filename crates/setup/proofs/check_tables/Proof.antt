@@ -12,7 +12,7 @@ use Rattle.error.proofs.Places.{each-offends, each-passes}
 use Rattle.rotation.specs.Checks.{badSign}
 use Rattle.setup.specs.Setups.{directionsNeeded, matrixNeeded}
 use Rattle.setup.specs.Checks.{badDirection}
-use Rattle.setup.specs.Accepted.{Usable}
+use Rattle.setup.proofs.Usable.{Usable}
 use Rattle.setup.proofs.Lengths.{matrix-fits, length-differs, length-meets}
 use Rattle.setup.proofs.Scalars.{scalars-usable}
 use borrow.Author.Needs.{needs}

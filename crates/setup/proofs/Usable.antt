@@ -1,4 +1,4 @@
--- What a setup has whose checks all pass: its scalars, then its tables. Assumes nothing.
+-- What a setup has whose checks all pass: its scalars, then its tables. Proofs alone speak of these. Assumes nothing.
 use Prim.Native.Nat.{ℕ, _%_, _^_, _≤_, _<_}
 use mathlib.Core.Path.{_≡_}
 use mathlib.Core.Bool.{true, false}
