@@ -11,9 +11,6 @@ use lib.Dec.{ltb, eqb}
 use lib.ListN.{length}
 use Rattle.error.specs.Answer.{Answer, value, refused, check, first, accepted}
 use Rattle.error.proofs.Chains.{first-all, first-accepts, or-false, append-refused, append-passed}
-use Rattle.radius.specs.Codec.{widthOf}
-use Rattle.radius.specs.declared.RadiusCodecProfileV1.{RadiusCodecProfileV1}
-use Rattle.radius.specs.declared.RadiusCodecProfileV1.the-variants.{F32, BlockLinearU16, BlockLogU8}
 use Rattle.setup.specs.declared.TurboMode.{TurboMode}
 use Rattle.setup.specs.declared.TurboMode.the-variants.{PolarOnly, PolarWithQjl}
 use Rattle.setup.specs.Setups.{byMode}
@@ -68,11 +65,6 @@ either-most false m e = omega arith
 pub projections-most : (bytes : List ℕ) → Usable bytes → projectionsOf bytes ≤ 4096
 unfolding projectionsOf
 projections-most bytes u = either-most (hasSigns (mapOf bytes)) (wordAt bytes (projectionsStart (mapOf bytes))) (u .projections)
-
-pub width-most : (profile : RadiusCodecProfileV1) → widthOf profile ≤ 4
-width-most F32 = omega arith
-width-most BlockLinearU16 = omega arith
-width-most BlockLogU8 = omega arith
 
 pub product-most : (a b m n : ℕ) → a ≤ m → b ≤ n → a * b ≤ m * n
 product-most a b m n h k = mul-le-mul h k

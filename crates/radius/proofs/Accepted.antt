@@ -1,15 +1,16 @@
 -- What an accepted input has: radii that compress takes, or that decompress reads as F32, are finite, no NaN and not below zero;
 -- the bytes and the radii are then those of the definitions. Assumes nothing.
-use Prim.Native.Nat.{ℕ, zero, suc, _*_, _<_}
-use mathlib.Core.Path.{_≡_, refl}
-use mathlib.Core.Bool.{Bool, true, false}
-use mathlib.Core.List.{List, [], _∷_, map}
+use Prim.Native.Nat.{ℕ, _*_, _<_}
+use mathlib.Core.Path.{_≡_, sym}
+use mathlib.Core.Bool.{true, false}
+use mathlib.Core.List.{List, map}
 use native.Mathlib.Omega.{arith}
 use borrow.Author.Tests.{ltb-false, eqb-true, not-false}
 use lib.ListN.{length, getD}
 use lib.Ieee.{Float, nan, isNan, lt}
 use lib.Ieee.Scale.{finite}
-use Rattle.error.specs.Answer.{Answer, value, Check, check, first, place}
+use Rattle.error.specs.Answer.{value, place}
+use Rattle.error.proofs.Chains.{first-all, first-value}
 use Rattle.error.proofs.Places.{place-le, place-passed}
 use Rattle.float.specs.Bytes.{ofLeBytes}
 use Rattle.lists.specs.Chunks.{chunks}
@@ -21,37 +22,20 @@ use Rattle.radius.specs.declared.Range.{Range}
 use Rattle.radius.specs.declared.RadiusCodecProfileV1.{RadiusCodecProfileV1}
 use Rattle.radius.specs.declared.RadiusCodecProfileV1.the-variants.{F32}
 
-abbrev offends : Check → Bool
-offends (check b n p) = b
-
-module _ {A : Type 0} {x : A} where
-  -- where there is a value no check offended
-  no-offence : (cs : List Check) (a : Answer A) → first cs a ≡ value x → (k : ℕ) → offends (getD cs k (check false 0 0)) ≡ false
-  no-offence [] a e k = refl
-  no-offence (check true n p ∷ cs) a e k = let z : _≡_ {A = ℕ} 0 1 = cc in absurd (omega arith)
-  no-offence (check false n p ∷ cs) a e zero = refl
-  no-offence (check false n p ∷ cs) a e (suc k) = no-offence cs a e k
-
-  -- and it is the value that was given
-  value-kept : (cs : List Check) (y : A) → first cs (value y) ≡ value x → x ≡ y
-  value-kept [] y e = cc
-  value-kept (check true n p ∷ cs) y e = let z : _≡_ {A = ℕ} 0 1 = cc in absurd (omega arith)
-  value-kept (check false n p ∷ cs) y e = value-kept cs y e
-
 -- ---- what compress accepts
 
 module _ (radii : List Float) (profile : RadiusCodecProfileV1) (room : ℕ) (bytes : List ℕ) (made : compressBytesOf radii profile room ≡ value bytes) where
   pub compressed-place : place badRadius radii ≡ length radii
   unfolding compressBytesOf
-  compressed-place = let h = ltb-false (place badRadius radii) (length radii) (no-offence (compressChecks radii profile room) (value (payloadFor profile radii)) made 0) in let k = place-le badRadius radii in omega (arith, h, k)
+  compressed-place = let h = ltb-false (place badRadius radii) (length radii) (first-all (compressChecks radii profile room) (value (payloadFor profile radii)) made .0) in let k = place-le badRadius radii in omega (arith, h, k)
 
   pub compressed-room : room ≡ widthOf profile * length radii
   unfolding compressBytesOf
-  compressed-room = eqb-true _ _ (not-false _ (no-offence (compressChecks radii profile room) (value (payloadFor profile radii)) made 2))
+  compressed-room = eqb-true _ _ (not-false _ (first-all (compressChecks radii profile room) (value (payloadFor profile radii)) made .1 .1 .0))
 
   pub compressed-is : bytes ≡ payloadFor profile radii
   unfolding compressBytesOf
-  compressed-is = value-kept (compressChecks radii profile room) (payloadFor profile radii) made
+  compressed-is = sym (first-value (compressChecks radii profile room) (payloadFor profile radii) made)
 
   pub compressed-radius : (i : ℕ) → i < length radii → badRadius (getD radii i nan) ≡ false
   compressed-radius i h = place-passed badRadius radii nan compressed-place i h
@@ -70,17 +54,17 @@ module _ (radii : List Float) (profile : RadiusCodecProfileV1) (room : ℕ) (byt
 module _ (count : ℕ) (range : Range) (payload : List ℕ) (room : ℕ) (radii : List Float) (read : decompressOf F32 count range payload room ≡ value radii) where
   pub decompressed-length : length payload ≡ 4 * count
   unfolding decompressOf
-  decompressed-length = eqb-true _ _ (not-false _ (no-offence (decompressChecks F32 count range payload room) (value (radiiFor F32 count range payload)) read 1))
+  decompressed-length = eqb-true _ _ (not-false _ (first-all (decompressChecks F32 count range payload room) (value (radiiFor F32 count range payload)) read .1 .0))
 
   pub decompressed-is : radii ≡ map ofLeBytes (chunks 4 count payload)
   unfolding decompressOf
-  decompressed-is = value-kept (decompressChecks F32 count range payload room) (radiiFor F32 count range payload) read
+  decompressed-is = sym (first-value (decompressChecks F32 count range payload room) (radiiFor F32 count range payload) read)
 
   pub decompressed-place : place badRadius radii ≡ length radii
   unfolding decompressOf
   decompressed-place =
       let floats = map ofLeBytes (chunks 4 count payload) in
-      let h = ltb-false (place badRadius floats) (length floats) (no-offence (decompressChecks F32 count range payload room) (value (radiiFor F32 count range payload)) read 2) in
+      let h = ltb-false (place badRadius floats) (length floats) (first-all (decompressChecks F32 count range payload room) (value (radiiFor F32 count range payload)) read .1 .1 .0) in
       rw decompressed-is (let k = place-le badRadius (map ofLeBytes (chunks 4 count payload)) in omega (arith, h, k))
 
   pub decompressed-radius : (i : ℕ) → i < length radii → badRadius (getD radii i nan) ≡ false

@@ -1,33 +1,64 @@
--- What restore answers: the refusal of its two lengths, or the radii of the payload; and what lengths without an offence are. Assumes nothing.
-use Prim.Native.Nat.{ℕ, _*_}
-use mathlib.Core.Path.{_≡_}
-use mathlib.Core.Bool.{false}
+-- What decompress and restore answer by their first checks: their refusal, or what is left where they have passed; and what a profile and a payload
+-- that passed are.
+-- Assumes nothing.
+use Prim.Native.Nat.{ℕ, _*_, _≤_, _<_}
+use mathlib.Core.Path.{_≡_, sym, _∙_}
+use mathlib.Core.Bool.{true, false, true≢false}
 use mathlib.Core.List.{List, [], _∷_}
+use native.Mathlib.Omega.{arith}
 use borrow.Author.Tests.{eqb-true, not-false}
 use lib.ListN.{length}
-use Rattle.error.specs.Answer.{value, refused, Check, check, first, accepted}
-use Rattle.error.proofs.Chains.{first-passed, first-refused, first-all}
-use Rattle.error.specs.Checks.{differs, wrongRoom}
-use Rattle.radius.specs.Codec.{badProfile, widthOf, radiiFor, restoreOf}
+use Rattle.error.specs.Answer.{value, refused, first, accepted}
+use Rattle.error.specs.Checks.{wrongRoom}
+use Rattle.error.proofs.Chains.{first-all, append-left, append-refused, append-passed}
+use Rattle.radius.specs.Codec.{badProfile, widthOf, wrongContent, radiiFor, decompressOf, restoreOf}
+use Rattle.radius.specs.Inner.{profileChecks, contentChecks}
 use Rattle.radius.specs.declared.Range.{Range}
 use Rattle.radius.specs.declared.RadiusCodecProfileV1.{RadiusCodecProfileV1}
+use Rattle.radius.specs.declared.RadiusCodecProfileV1.the-variants.{F32, BlockLinearU16, BlockLogU8}
 
--- 13 for a payload of other than `count` times `width` bytes, then 6
-abbrev pub lengthChecks : ℕ → ℕ → ℕ → ℕ → List Check
-lengthChecks found width count room = check (differs found (width * count)) 13 found ∷ wrongRoom room count ∷ []
+-- ---- widths
 
-module _ (found width count room : ℕ) (passed : first (lengthChecks found width count room) accepted ≡ accepted) where
-  pub lengths-room : room ≡ count
-  lengths-room = eqb-true _ _ (not-false _ (first-all (lengthChecks found width count room) accepted passed .1 .0))
+pub width-most : (profile : RadiusCodecProfileV1) → widthOf profile ≤ 4
+width-most F32 = omega arith
+width-most BlockLinearU16 = omega arith
+width-most BlockLogU8 = omega arith
 
-  pub lengths-payload : found ≡ width * room
-  lengths-payload = rw lengths-room (eqb-true _ _ (not-false _ (first-all (lengthChecks found width count room) accepted passed .0)))
+pub width-known : (profile : RadiusCodecProfileV1) → badProfile profile ≡ false → 0 < widthOf profile
+width-known F32 e = omega arith
+width-known BlockLinearU16 e = omega arith
+width-known BlockLogU8 e = absurd (true≢false e)
 
-module _ (profile : RadiusCodecProfileV1) (known : badProfile profile ≡ false) (count : ℕ) (range : Range) (payload : List ℕ) (room : ℕ) where
-  pub restore-refused : {n p : ℕ} → first (lengthChecks (length payload) (widthOf profile) count room) accepted ≡ refused n p → restoreOf profile count range payload room ≡ refused n p
+-- ---- past 18 and 13
+
+module _ (profile : RadiusCodecProfileV1) (count : ℕ) (payload : List ℕ) (fit : first (profileChecks profile count payload) accepted ≡ accepted) where
+  pub fit-known : badProfile profile ≡ false
+  fit-known = first-all (profileChecks profile count payload) accepted fit .0
+
+  pub fit-length : length payload ≡ widthOf profile * count
+  fit-length = eqb-true _ _ (not-false _ (first-all (profileChecks profile count payload) accepted fit .1 .0))
+
+  pub fit-content : (range : Range) → first (contentChecks profile count range payload) accepted ≡ first (wrongContent profile count range payload ∷ []) accepted
+  fit-content range = append-passed (profileChecks profile count payload) (wrongContent profile count range payload ∷ []) tt accepted fit
+
+  pub fit-restore : (range : Range) (room : ℕ) → restoreOf profile count range payload room ≡ first (wrongRoom room count ∷ []) (value (radiiFor profile count range payload))
   unfolding restoreOf
-  restore-refused e = rw known (first-refused (lengthChecks (length payload) (widthOf profile) count room) _ e)
+  fit-restore range room = append-passed (profileChecks profile count payload) (wrongRoom room count ∷ []) tt (value (radiiFor profile count range payload)) fit
 
-  pub restore-value : first (lengthChecks (length payload) (widthOf profile) count room) accepted ≡ accepted → restoreOf profile count range payload room ≡ value (radiiFor profile count range payload)
+-- ---- 18 or 13 is the answer of all
+
+module _ (profile : RadiusCodecProfileV1) (count : ℕ) (range : Range) (payload : List ℕ) {n p : ℕ} (unfit : first (profileChecks profile count payload) accepted ≡ refused n p) where
+  pub unfit-content : first (contentChecks profile count range payload) accepted ≡ refused n p
+  unfit-content = append-refused (profileChecks profile count payload) (wrongContent profile count range payload ∷ []) tt accepted unfit
+
+  pub unfit-restore : (room : ℕ) → restoreOf profile count range payload room ≡ refused n p
   unfolding restoreOf
-  restore-value e = rw known (first-passed (lengthChecks (length payload) (widthOf profile) count room) _ e)
+  unfit-restore room = append-refused (profileChecks profile count payload) (wrongRoom room count ∷ []) tt (value (radiiFor profile count range payload)) unfit
+
+-- ---- past 16 and 17 too: decompress answers as restore does
+
+pub content-restore : (profile : RadiusCodecProfileV1) (count : ℕ) (range : Range) (payload : List ℕ) (room : ℕ) → first (contentChecks profile count range payload) accepted ≡ accepted → decompressOf profile count range payload room ≡ restoreOf profile count range payload room
+unfolding decompressOf
+content-restore profile count range payload room good =
+    append-passed (contentChecks profile count range payload) (wrongRoom room count ∷ []) tt (value (radiiFor profile count range payload)) good
+    ∙ sym (fit-restore profile count payload (append-left (profileChecks profile count payload) (wrongContent profile count range payload ∷ []) accepted good) range room)

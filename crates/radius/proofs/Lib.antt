@@ -1,6 +1,5 @@
 pub mod Radii
 pub mod Fill
-pub mod Refusals
 pub mod Lengths
 pub mod Accepted
 pub mod RoundTrip

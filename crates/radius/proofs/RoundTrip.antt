@@ -4,23 +4,22 @@ use Prim.Native.Nat.{ℕ, _+_, _*_, _≤_, _<_}
 use mathlib.Core.Path.{_≡_, refl, sym, ap, _∙_, subst}
 use mathlib.Core.Bool.{Bool, not}
 use mathlib.Core.List.{List, map, flatMap}
-use native.Mathlib.Nat.{le-refl}
 use native.Mathlib.Omega.{arith}
-use borrow.Author.Tests.{eq-eqb}
-use lib.Dec.{T}
+use borrow.Author.Tests.{le-ltb, eq-eqb}
+use lib.Dec.{T, ltb}
 use lib.ListN.{length, getD, take, drop, length-drop}
 use lib.Seq.{getD-take, getD-drop, length-take-le}
 use lib.Ieee.{Float, nan, binary32, fits}
 use Rattle.error.specs.Answer.{value, place}
+use Rattle.error.proofs.Chains.{first-accepts}
 use Rattle.digits.proofs.Laws.{Below}
 use Rattle.float.specs.Bytes.{ofLeBytes, toLeBytes}
 use Rattle.float.proofs.Bytes.{length-toLeBytes, ofLeBytes-toLeBytes, toLeBytes-ofLeBytes}
 use Rattle.lists.specs.Chunks.{chunks}
 use Rattle.radius.specs.Radii.{badRadius}
-use Rattle.radius.specs.Codec.{compressBytesOf, decompressOf}
+use Rattle.radius.specs.Codec.{compressChecks, compressBytesOf, decompressChecks, decompressOf}
 use Rattle.radius.proofs.Radii.{radius-not-nan}
 use Rattle.lists.proofs.Chunks.{chunks-getD, chunks-length, chunks-joined, joined-length, joined-chunks, map-same}
-use Rattle.radius.proofs.Refusals.{compress-value, decompress-floats}
 use Rattle.radius.proofs.Accepted.{compressed-place, compressed-is, decompressed-length, decompressed-is, decompressed-place, decompressed-radius}
 use Rattle.radius.specs.declared.Range.{Range}
 use Rattle.radius.specs.declared.RadiusCodecProfileV1.the-variants.{F32}
@@ -36,10 +35,12 @@ floats-back radii f =
     ∙ map-same (λ r. ofLeBytes (toLeBytes r)) radii nan (λ i h. ofLeBytes-toLeBytes (getD radii i nan) (f .at i h))
 
 pub decompress-compress : (radii : List Float) (room : ℕ) (bytes : List ℕ) (range : Range) → Floats radii → compressBytesOf radii F32 room ≡ value bytes → decompressOf F32 (length radii) range bytes (length radii) ≡ value radii
+unfolding decompressOf
 decompress-compress radii room bytes range f made =
     let back = ap (λ (l : List ℕ). map ofLeBytes (chunks 4 (length radii) l)) (compressed-is radii F32 room bytes made) ∙ floats-back radii f in
     let long = ap length (compressed-is radii F32 room bytes made) ∙ joined-length toLeBytes 4 length-toLeBytes radii in
-    decompress-floats (length radii) range bytes (length radii) (length radii) (sym (ap (place badRadius) back ∙ compressed-place radii F32 room bytes made)) (ap not (eq-eqb _ _ long)) (le-refl (length radii)) refl
+    let all = compressed-place radii F32 room bytes made in
+    first-accepts (decompressChecks F32 (length radii) range bytes (length radii)) _ (refl, (ap not (eq-eqb _ _ long), (ap (λ (l : List Float). ltb (place badRadius l) (length l)) back ∙ le-ltb (place badRadius radii) (length radii) (omega (arith, all)), (ap not (eq-eqb (length radii) (length radii) refl), tt))))
     ∙ ap value back
 
 -- ---- the other way
@@ -73,8 +74,9 @@ module _ (count : ℕ) (range : Range) (payload : List ℕ) (room : ℕ) (radii 
   pub compress-decompress : compressBytesOf radii F32 (length payload) ≡ value payload
   unfolding compressBytesOf
   compress-decompress =
-      compress-value radii (length payload) (flatMap toLeBytes radii) (length radii) (sym (decompressed-place count range payload room radii read)) F32 refl (le-refl (length radii))
-      (decompressed-length count range payload room radii read ∙ ap (λ (n : ℕ). 4 * n) (sym counted))
+      let long = decompressed-length count range payload room radii read ∙ ap (λ (n : ℕ). 4 * n) (sym counted) in
+      let all = decompressed-place count range payload room radii read in
+      first-accepts (compressChecks radii F32 (length payload)) _ (le-ltb (place badRadius radii) (length radii) (omega (arith, all)), (refl, (ap not (eq-eqb _ _ long), tt)))
       ∙ ap value
       (ap (flatMap toLeBytes) (decompressed-is count range payload room radii read)
       ∙ joined-chunks ofLeBytes toLeBytes 4 count payload (decompressed-length count range payload room radii read) bytes-back)

@@ -55,14 +55,11 @@ module _ {B : Type 0} (bad : B → Bool) (f : List ℕ → B) (w : ℕ) (bytes :
 
 -- ---- of a payload of whole radii
 
-whole-count : (profile : RadiusCodecProfileV1) (n count : ℕ) → n ≡ widthOf profile * count → n / widthOf profile ≡ count
-whole-count F32 n count h = omega arith
-whole-count BlockLinearU16 n count h = omega arith
-whole-count BlockLogU8 n count h = omega arith
-
 pub first-bad-whole : (profile : RadiusCodecProfileV1) (range : Range) (payload : List ℕ) (count : ℕ) → length payload ≡ widthOf profile * count → firstBadPayloadOf payload profile range ≡ place badRadius (radiiFor profile count range payload)
 unfolding firstBadPayloadOf
-first-bad-whole profile range payload count h = ap (λ (n : ℕ). place badRadius (radiiFor profile n range payload)) (whole-count profile (length payload) count h)
+first-bad-whole F32 range payload count h = let e : length payload / 4 ≡ count = omega arith in rw e
+first-bad-whole BlockLinearU16 range payload count h = let e : length payload / 2 ≡ count = omega arith in rw e
+first-bad-whole BlockLogU8 range payload count h = refl
 
 -- ---- of what was compressed
 

@@ -8,8 +8,7 @@ use Rattle.error.specs.Answer.{Answer, value, Check, check, first, each}
 use Rattle.error.specs.Checks.{differs, wrongRoom}
 use Rattle.float.specs.Bytes.{ofLeBytes, toLeBytes}
 use Rattle.lists.specs.Chunks.{chunks}
-use Rattle.float.specs.Constants.{posZero}
-use Rattle.radius.specs.Radii.{badRadius, badRange, rangeOf}
+use Rattle.radius.specs.Radii.{badRadius, badRange, noRange, rangeOf}
 use Rattle.radius.specs.Linear.{linearBytes, linearRadius}
 use Rattle.radius.specs.declared.Range.{Range}
 use Rattle.radius.specs.declared.RadiusCodecProfileV1.{RadiusCodecProfileV1}
@@ -21,11 +20,11 @@ badProfile F32 = false
 badProfile BlockLinearU16 = false
 badProfile BlockLogU8 = true
 
--- how many bytes a radius takes
+-- how many bytes a radius takes; BlockLogU8, which is refused, has no bytes, no range and no radii in any definition here
 abbrev pub widthOf : RadiusCodecProfileV1 → ℕ
 widthOf F32 = 4
 widthOf BlockLinearU16 = 2
-widthOf BlockLogU8 = 1
+widthOf BlockLogU8 = 0
 
 -- '13: byte length wrong. Place: the length found.'
 abbrev pub wrongPayload : RadiusCodecProfileV1 → ℕ → List ℕ → Check
@@ -41,13 +40,13 @@ compressChecks radii profile room =
     ∷ wrongRoom room (widthOf profile * length radii)
     ∷ []
 
--- the range that goes with the bytes; F32 has none, and gives 0, 0
+-- the range that goes with the bytes; where there is none it is that of no radii, 0, 0
 abbrev pub rangeFor : RadiusCodecProfileV1 → List Float → Range
-rangeFor F32 radii = record { min = posZero; max = posZero }
+rangeFor F32 radii = noRange
 rangeFor BlockLinearU16 radii = rangeOf radii
-rangeFor BlockLogU8 radii = record { min = posZero; max = posZero }
+rangeFor BlockLogU8 radii = noRange
 
--- the bytes of all radii, one after the other; BlockLogU8 is refused before
+-- the bytes of all radii, one after the other
 abbrev pub payloadFor : RadiusCodecProfileV1 → List Float → List ℕ
 payloadFor F32 radii = flatMap toLeBytes radii
 payloadFor BlockLinearU16 radii = flatMap (linearBytes (rangeOf radii)) radii
@@ -67,7 +66,7 @@ radiiFor F32 count range payload = map ofLeBytes (chunks 4 count payload)
 radiiFor BlockLinearU16 count range payload = map (linearRadius range) (chunks 2 count payload)
 radiiFor BlockLogU8 count range payload = []
 
--- 'then 17 for linear only, 16 for F32 only'; BlockLogU8 is refused before
+-- 'then 17 for linear only, 16 for F32 only'
 abbrev pub wrongContent : RadiusCodecProfileV1 → ℕ → Range → List ℕ → Check
 wrongContent F32 count range payload = each badRadius 16 (map ofLeBytes (chunks 4 count payload))
 wrongContent BlockLinearU16 count range payload = check (badRange range) 17 0
@@ -97,7 +96,7 @@ restoreOf profile count range payload room = first (check (badProfile profile) 1
 abbrev pub besides : RadiusCodecProfileV1 → ℕ
 besides F32 = 0
 besides BlockLinearU16 = 8
-besides BlockLogU8 = 8
+besides BlockLogU8 = 0
 
 unfoldable pub encodedBytesOf : RadiusCodecProfileV1 → List ℕ → Answer ℕ
 encodedBytesOf profile payload = first (check (badProfile profile) 18 0 ∷ []) (value (length payload + besides profile))

@@ -31,6 +31,10 @@ greatest m [] = m
 greatest m (r ∷ rs) = greatest (cond (lt m r) r m) rs
 
 -- 'no radii give 0, 0'
+abbrev pub noRange : Range
+noRange = record { min = posZero; max = posZero }
+
+-- the least and the greatest of all
 unfoldable pub rangeOf : List Float → Range
-rangeOf [] = record { min = posZero; max = posZero }
+rangeOf [] = noRange
 rangeOf (r ∷ rs) = record { min = least r rs; max = greatest r rs }

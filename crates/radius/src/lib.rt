@@ -8,10 +8,12 @@ use error::Outcome;
 use error::UNDEFINED_PROFILE;
 ghost use Prim.Native.Nat.{_+_, _*_, _≤_, _<_};
 ghost use mathlib.Core.Path.{_≡_};
-ghost use mathlib.Core.List.{[], _∷_, _++_, map, flatMap};
+ghost use mathlib.Core.Bool.{false};
+ghost use mathlib.Core.List.{_++_, map, flatMap};
 ghost use lib.ListN.{length, take, drop};
 ghost use lib.Ieee.{binary32, sub};
-ghost use Rattle.error.specs.Answer.{check, place, first, accepted, done, after};
+ghost use Rattle.error.specs.Answer.{place, first, accepted, done, after};
+ghost use Rattle.error.specs.Checks.{differs};
 ghost use Rattle.error.specs.Lengths.{saysLength};
 ghost use Rattle.error.specs.Outcomes.{says};
 ghost use Rattle.digits.specs.Digits.{digits, number};
@@ -19,10 +21,9 @@ ghost use Rattle.float.specs.Bytes.{ofLeBytes, toLeBytes};
 ghost use Rattle.lists.specs.Chunks.{chunks};
 ghost use Rattle.radius.specs.Radii.{badRadius, badRange, rangeOf};
 ghost use Rattle.radius.specs.Linear.{spanOf, quantized, linearBytes, radiusOf, linearRadius};
-ghost use Rattle.error.specs.Checks.{differs, wrongRoom};
-ghost use Rattle.radius.specs.Codec.{widthOf, compressRangeOf, compressBytesOf, decompressOf, restoreOf, encodedBytesOf};
+ghost use Rattle.radius.specs.Codec.{badProfile, widthOf, compressChecks, rangeFor, payloadFor, compressRangeOf, compressBytesOf, radiiFor, decompressOf, restoreOf, encodedBytesOf};
 ghost use Rattle.radius.specs.Firsts.{firstBadRadiusOf, firstBadPayloadOf, firstBadReadBackOf};
-ghost use Rattle.radius.specs.Inner.{badKept};
+ghost use Rattle.radius.specs.Inner.{profileChecks, contentChecks, badKept};
 ghost use Rattle.radius.specs.Says.{saysRange};
 
 // How radii are stored. BlockLogU8 is known and refused.
@@ -54,42 +55,12 @@ pub fn compress(radii: &[f32], profile: RadiusCodecProfileV1, out: &mut [u8]) ->
     ensures said { λ r. ⌜ saysRange r ≡ compressRangeOf (now (radii .entry)) profile (length (now (out .entry))) ⌝ }
     ensures left { λ r. ⌜ now (out .exit) ≡ after (compressBytesOf (now (radii .entry)) profile (length (now (out .entry)))) (now (out .entry)) ⌝ }
 {
-    let bad = first_bad_radius(radii);
-    if bad < radii.len() {
-        return Compressed::Refused {
-            number: MALFORMED_RADIUS,
-            place: bad,
-        };
+    let checked = check_compress(radii, profile, out.len());
+    if let Outcome::Refused { number, place } = checked {
+        return Compressed::Refused { number, place };
     }
-    match profile {
-        RadiusCodecProfileV1::F32 => {
-            let need = 4 * radii.len();
-            if out.len() != need {
-                return Compressed::Refused {
-                    number: OUTPUT_LENGTH,
-                    place: need,
-                };
-            }
-            write_floats(radii, out);
-            Compressed::Made(Range { min: 0.0, max: 0.0 })
-        }
-        RadiusCodecProfileV1::BlockLinearU16 => {
-            let need = 2 * radii.len();
-            if out.len() != need {
-                return Compressed::Refused {
-                    number: OUTPUT_LENGTH,
-                    place: need,
-                };
-            }
-            let range = min_max(radii);
-            write_linear(radii, range, out);
-            Compressed::Made(range)
-        }
-        RadiusCodecProfileV1::BlockLogU8 => Compressed::Refused {
-            number: UNDEFINED_PROFILE,
-            place: 0,
-        },
-    }
+    let range = write_payload(radii, profile, out);
+    Compressed::Made(range)
 }
 
 // Restores `count` radii from a payload and, for BlockLinearU16, its range.
@@ -103,57 +74,11 @@ pub fn decompress(
     ensures said { λ r. ⌜ says r ≡ done (decompressOf profile count range (now (payload .entry)) (length (now (out .entry)))) ⌝ }
     ensures left { λ r. ⌜ now (out .exit) ≡ after (decompressOf profile count range (now (payload .entry)) (length (now (out .entry)))) (now (out .entry)) ⌝ }
 {
-    match profile {
-        RadiusCodecProfileV1::F32 => {
-            if bad_length(payload.len(), 4, count) {
-                return Outcome::Refused {
-                    number: MALFORMED_LENGTH,
-                    place: payload.len(),
-                };
-            }
-            let bad = first_bad_floats(payload, count);
-            if bad < count {
-                return Outcome::Refused {
-                    number: MALFORMED_RADIUS,
-                    place: bad,
-                };
-            }
-            if out.len() != count {
-                return Outcome::Refused {
-                    number: OUTPUT_LENGTH,
-                    place: count,
-                };
-            }
-            read_floats(payload, out);
-            Outcome::Done
-        }
-        RadiusCodecProfileV1::BlockLinearU16 => {
-            if bad_length(payload.len(), 2, count) {
-                return Outcome::Refused {
-                    number: MALFORMED_LENGTH,
-                    place: payload.len(),
-                };
-            }
-            if is_bad_range(range) {
-                return Outcome::Refused {
-                    number: MALFORMED_RANGE,
-                    place: 0,
-                };
-            }
-            if out.len() != count {
-                return Outcome::Refused {
-                    number: OUTPUT_LENGTH,
-                    place: count,
-                };
-            }
-            read_linear(payload, range, out);
-            Outcome::Done
-        }
-        RadiusCodecProfileV1::BlockLogU8 => Outcome::Refused {
-            number: UNDEFINED_PROFILE,
-            place: 0,
-        },
+    let checked = check_content(profile, count, range, payload);
+    if let Outcome::Refused { number, place } = checked {
+        return Outcome::Refused { number, place };
     }
+    restore(profile, count, range, payload, out)
 }
 
 // Reads `count` radii from a payload and, for BlockLinearU16, its range, without judging them: for radii that were judged before.
@@ -167,28 +92,18 @@ pub fn restore(
     ensures said { λ r. ⌜ says r ≡ done (restoreOf profile count range (now (payload .entry)) (length (now (out .entry)))) ⌝ }
     ensures left { λ r. ⌜ now (out .exit) ≡ after (restoreOf profile count range (now (payload .entry)) (length (now (out .entry)))) (now (out .entry)) ⌝ }
 {
-    match profile {
-        RadiusCodecProfileV1::F32 => {
-            let fit = check_lengths(payload.len(), 4, count, out.len());
-            if let Outcome::Refused { number, place } = fit {
-                return Outcome::Refused { number, place };
-            }
-            read_floats(payload, out);
-            Outcome::Done
-        }
-        RadiusCodecProfileV1::BlockLinearU16 => {
-            let fit = check_lengths(payload.len(), 2, count, out.len());
-            if let Outcome::Refused { number, place } = fit {
-                return Outcome::Refused { number, place };
-            }
-            read_linear(payload, range, out);
-            Outcome::Done
-        }
-        RadiusCodecProfileV1::BlockLogU8 => Outcome::Refused {
-            number: UNDEFINED_PROFILE,
-            place: 0,
-        },
+    let fit = check_profile(profile, count, payload);
+    if let Outcome::Refused { number, place } = fit {
+        return Outcome::Refused { number, place };
     }
+    if out.len() != count {
+        return Outcome::Refused {
+            number: OUTPUT_LENGTH,
+            place: count,
+        };
+    }
+    read_payload(profile, range, payload, out);
+    Outcome::Done
 }
 
 // How many bytes a payload takes, with its range where the profile has one.
@@ -209,14 +124,14 @@ pub fn encoded_bytes(profile: RadiusCodecProfileV1, payload: &[u8]) -> Length
     }
 }
 
-// How many bytes a radius takes.
+// How many bytes a radius takes; none in BlockLogU8, which is refused.
 pub fn width_of(profile: RadiusCodecProfileV1) -> usize
     ensures { λ r. ⌜ r ≡ widthOf profile ⌝ }
 {
     match profile {
         RadiusCodecProfileV1::F32 => 4,
         RadiusCodecProfileV1::BlockLinearU16 => 2,
-        RadiusCodecProfileV1::BlockLogU8 => 1,
+        RadiusCodecProfileV1::BlockLogU8 => 0,
     }
 }
 
@@ -260,6 +175,64 @@ pub fn first_bad_read_back(radii: &[f32], profile: RadiusCodecProfileV1) -> usiz
         RadiusCodecProfileV1::F32 => first_bad_radius(radii),
         RadiusCodecProfileV1::BlockLinearU16 => first_bad_kept(radii, min_max(radii)),
         RadiusCodecProfileV1::BlockLogU8 => 0,
+    }
+}
+
+// Whether a profile is BlockLogU8.
+fn is_bad_profile(profile: RadiusCodecProfileV1) -> bool
+    ensures { λ r. ⌜ r ≡ badProfile profile ⌝ }
+{
+    match profile {
+        RadiusCodecProfileV1::F32 => false,
+        RadiusCodecProfileV1::BlockLinearU16 => false,
+        RadiusCodecProfileV1::BlockLogU8 => true,
+    }
+}
+
+// The first check of compress that offends.
+fn check_compress(radii: &[f32], profile: RadiusCodecProfileV1, room: usize) -> Outcome
+    ensures { λ r. ⌜ says r ≡ first (compressChecks (now (radii .entry)) profile room) accepted ⌝ }
+{
+    let bad = first_bad_radius(radii);
+    if bad < radii.len() {
+        return Outcome::Refused {
+            number: MALFORMED_RADIUS,
+            place: bad,
+        };
+    }
+    if is_bad_profile(profile) {
+        return Outcome::Refused {
+            number: UNDEFINED_PROFILE,
+            place: 0,
+        };
+    }
+    let need = width_of(profile) * radii.len();
+    if room != need {
+        return Outcome::Refused {
+            number: OUTPUT_LENGTH,
+            place: need,
+        };
+    }
+    Outcome::Done
+}
+
+// Writes radii into exactly the bytes that they need, and answers their range.
+fn write_payload(radii: &[f32], profile: RadiusCodecProfileV1, out: &mut [u8]) -> Range
+    requires { ⌜ length (now out) ≡ widthOf profile * length (now radii) ⌝ }
+    ensures range { λ r. ⌜ r ≡ rangeFor profile (now (radii .entry)) ⌝ }
+    ensures bytes { λ r. ⌜ now (out .exit) ≡ payloadFor profile (now (radii .entry)) ⌝ }
+{
+    match profile {
+        RadiusCodecProfileV1::F32 => {
+            write_floats(radii, out);
+            Range { min: 0.0, max: 0.0 }
+        }
+        RadiusCodecProfileV1::BlockLinearU16 => {
+            let range = min_max(radii);
+            write_linear(radii, range, out);
+            range
+        }
+        RadiusCodecProfileV1::BlockLogU8 => Range { min: 0.0, max: 0.0 },
     }
 }
 
@@ -349,22 +322,57 @@ fn bad_length(found: usize, width: usize, count: usize) -> bool
     found / width != count || found % width != 0
 }
 
-// 13 where a number of bytes is other than `count` times `width`, then 6 where the room is other than `count`.
-fn check_lengths(found: usize, width: usize, count: usize, room: usize) -> Outcome
-    requires { ⌜ 0 < width ⌝ }
-    ensures { λ r. ⌜ says r ≡ first (check (differs found (width * count)) 13 found ∷ wrongRoom room count ∷ []) accepted ⌝ }
+// 18, then 13: the checks of a payload before what it holds is looked at.
+fn check_profile(profile: RadiusCodecProfileV1, count: usize, payload: &[u8]) -> Outcome
+    ensures { λ r. ⌜ says r ≡ first (profileChecks profile count (now (payload .entry))) accepted ⌝ }
 {
-    if bad_length(found, width, count) {
+    if is_bad_profile(profile) {
         return Outcome::Refused {
-            number: MALFORMED_LENGTH,
-            place: found,
+            number: UNDEFINED_PROFILE,
+            place: 0,
         };
     }
-    if room != count {
+    if bad_length(payload.len(), width_of(profile), count) {
         return Outcome::Refused {
-            number: OUTPUT_LENGTH,
-            place: count,
+            number: MALFORMED_LENGTH,
+            place: payload.len(),
         };
+    }
+    Outcome::Done
+}
+
+// The first check of decompress that offends, but for 6.
+fn check_content(
+    profile: RadiusCodecProfileV1,
+    count: usize,
+    range: Range,
+    payload: &[u8],
+) -> Outcome
+    ensures { λ r. ⌜ says r ≡ first (contentChecks profile count range (now (payload .entry))) accepted ⌝ }
+{
+    let fit = check_profile(profile, count, payload);
+    if let Outcome::Refused { number, place } = fit {
+        return Outcome::Refused { number, place };
+    }
+    match profile {
+        RadiusCodecProfileV1::F32 => {
+            let bad = first_bad_floats(payload, count);
+            if bad < count {
+                return Outcome::Refused {
+                    number: MALFORMED_RADIUS,
+                    place: bad,
+                };
+            }
+        }
+        RadiusCodecProfileV1::BlockLinearU16 => {
+            if is_bad_range(range) {
+                return Outcome::Refused {
+                    number: MALFORMED_RANGE,
+                    place: 0,
+                };
+            }
+        }
+        RadiusCodecProfileV1::BlockLogU8 => {}
     }
     Outcome::Done
 }
@@ -398,12 +406,10 @@ fn first_bad_linear(payload: &[u8], range: Range, count: usize) -> usize
     requires { ⌜ 2 * count ≤ length (now payload) ⌝ }
     ensures { λ r. ⌜ r ≡ place badRadius (map (linearRadius range) (chunks 2 count (now (payload .entry)))) ⌝ }
 {
-    let min = range.min;
-    let width = breadth(range);
     let mut i = 0;
     let mut at = 0;
     while i < count {
-        if is_bad_radius(radius_of(min, width, get_number(payload, at))) {
+        if is_bad_radius(get_radius(payload, at, range)) {
             return i;
         }
         i += 1;
@@ -429,6 +435,18 @@ fn first_bad_kept(radii: &[f32], range: Range) -> usize
     i
 }
 
+// Reads as many radii as there is room for.
+fn read_payload(profile: RadiusCodecProfileV1, range: Range, payload: &[u8], out: &mut [f32])
+    requires { ⌜ (badProfile profile ≡ false) × (length (now payload) ≡ widthOf profile * length (now out)) ⌝ }
+    ensures { λ r. ⌜ now (out .exit) ≡ radiiFor profile (length (now (out .entry))) range (now (payload .entry)) ⌝ }
+{
+    match profile {
+        RadiusCodecProfileV1::F32 => read_floats(payload, out),
+        RadiusCodecProfileV1::BlockLinearU16 => read_linear(payload, range, out),
+        RadiusCodecProfileV1::BlockLogU8 => {}
+    }
+}
+
 // Reads floats of four bytes each.
 fn read_floats(payload: &[u8], out: &mut [f32])
     requires { ⌜ length (now payload) ≡ 4 * length (now out) ⌝ }
@@ -448,15 +466,21 @@ fn read_linear(payload: &[u8], range: Range, out: &mut [f32])
     requires { ⌜ length (now payload) ≡ 2 * length (now out) ⌝ }
     ensures { λ r. ⌜ now (out .exit) ≡ map (linearRadius range) (chunks 2 (length (now (out .entry))) (now (payload .entry))) ⌝ }
 {
-    let min = range.min;
-    let width = breadth(range);
     let mut i = 0;
     let mut at = 0;
     while i < out.len() {
-        out[i] = radius_of(min, width, get_number(payload, at));
+        out[i] = get_radius(payload, at, range);
         i += 1;
         at += 2;
     }
+}
+
+// The radius of the two bytes at `at` within a range.
+fn get_radius(payload: &[u8], at: usize, range: Range) -> f32
+    requires { ⌜ at + 2 ≤ length (now payload) ⌝ }
+    ensures { λ r. ⌜ r ≡ linearRadius range (take 2 (drop at (now (payload .entry)))) ⌝ }
+{
+    radius_of(range.min, breadth(range), get_number(payload, at))
 }
 
 // The radius of a number, from `min` at 0 to a `width` above it at 65,535.

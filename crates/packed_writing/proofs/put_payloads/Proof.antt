@@ -7,7 +7,8 @@ use denote.Ref.{now}
 use lib.ListN.{length}
 use Rattle.radius.specs.Codec.{payloadFor}
 use Rattle.packed_writing.specs.Inner.{CodesReady}
-use Rattle.packed.proofs.Headers.{width-most, product-most}
+use Rattle.packed.proofs.Headers.{product-most}
+use Rattle.radius.proofs.Lengths.{width-most}
 use Rattle.packed_writing.proofs.Stores.{lent-back, front-again, store-two}
 use Rattle.packed_writing.proofs.Writing.{radii-pass}
 use borrow.Author.Needs.{needs}
