@@ -9,7 +9,8 @@ use native.Mathlib.Omega.{arith}
 use lib.ListN.{length, getD, take, drop, set, drop-of-length-le, take-append-drop, length-drop}
 use lib.Seq.{drop-cons, take-all, length-take-le, drop-drop}
 use Rattle.digits.specs.Digits.{number, digits}
-use Rattle.digits.proofs.Runs.{store-next}
+use Rattle.digits.specs.Inner.{fourAt}
+use Rattle.digits.proofs.Runs.{run-four, store-next}
 use Rattle.digits.proofs.Laws.{number-nil, number-cons, number-append, digits-none, digits-more}
 
 -- the lowest n digits do not see what stands above them
@@ -34,6 +35,10 @@ number-run base ds i n h =
     ap (number base) (sym (take-append-drop n (drop i ds)))
     ∙ number-append base (take n (drop i ds)) (drop n (drop i ds))
     ∙ rw (length-take-le n (drop i ds) (rw length-drop (omega arith)), drop-drop)
+
+-- a word of four bytes at `at`, and what stands above it
+pub number-word : (bytes : List ℕ) (at : ℕ) → at + 4 ≤ length bytes → number 256 (drop at bytes) ≡ number 256 (fourAt bytes at) + 2 ^ 32 * number 256 (drop (at + 4) bytes)
+number-word bytes at h = number-run 256 bytes at 4 h ∙ rw (run-four {A = ℕ} bytes at 0 h)
 
 -- ---- writing: what stands before k, and the digits that are still to be written from k on
 

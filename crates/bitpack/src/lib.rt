@@ -16,6 +16,7 @@ ghost use Rattle.error.specs.Answer.{place, done, after, clear};
 ghost use Rattle.error.specs.Lengths.{saysLength};
 ghost use Rattle.error.specs.Outcomes.{says};
 ghost use Rattle.digits.specs.Digits.{number, digits};
+ghost use Rattle.digits.specs.Inner.{fourAt};
 ghost use Rattle.bitpack.specs.Padding.{validatePaddingZeroOf};
 ghost use Rattle.bitpack.specs.Inner.{Packable, Unpackable, Eights, Refillable, Refilled};
 ghost use Rattle.bitpack.specs.Packing.{packedLenOf, badIndex, packIndicesOf, firstBadIndexOf, unpackIndicesOf};
@@ -310,7 +311,7 @@ fn refill(packed: &[u8], width: u64, acc: u64, held: u64, at: usize) -> Window
 // The four bytes at `at` as a number.
 fn get_word(packed: &[u8], at: usize) -> u64
     requires { ⌜ at + 4 ≤ length (now packed) ⌝ }
-    ensures { λ r. ⌜ (r ≡ number 256 (take 4 (drop at (now (packed .entry))))) × (r < 2 ^ 32) ⌝ }
+    ensures { λ r. ⌜ (r ≡ number 256 (fourAt (now (packed .entry)) at)) × (r < 2 ^ 32) ⌝ }
 {
     digits::word_of(packed[at], packed[at + 1], packed[at + 2], packed[at + 3]) as u64
 }

@@ -9,7 +9,7 @@ use error::UNDEFINED_PROFILE;
 ghost use Prim.Native.Nat.{_+_, _*_, _≤_, _<_};
 ghost use mathlib.Core.Path.{_≡_};
 ghost use mathlib.Core.Bool.{false};
-ghost use mathlib.Core.List.{_++_, map, flatMap};
+ghost use mathlib.Core.List.{[], _∷_, _++_, map, flatMap};
 ghost use lib.ListN.{length, take, drop};
 ghost use lib.Ieee.{binary32, sub};
 ghost use Rattle.error.specs.Answer.{place, first, accepted, done, after};
@@ -17,6 +17,7 @@ ghost use Rattle.error.specs.Checks.{differs};
 ghost use Rattle.error.specs.Lengths.{saysLength};
 ghost use Rattle.error.specs.Outcomes.{says};
 ghost use Rattle.digits.specs.Digits.{digits, number};
+ghost use Rattle.digits.specs.Inner.{twoAt, fourAt};
 ghost use Rattle.float.specs.Bytes.{ofLeBytes, toLeBytes};
 ghost use Rattle.lists.specs.Chunks.{chunks};
 ghost use Rattle.radius.specs.Radii.{badRadius, badRange, rangeOf};
@@ -478,7 +479,7 @@ fn read_linear(payload: &[u8], range: Range, out: &mut [f32])
 // The radius of the two bytes at `at` within a range.
 fn get_radius(payload: &[u8], at: usize, range: Range) -> f32
     requires { ⌜ at + 2 ≤ length (now payload) ⌝ }
-    ensures { λ r. ⌜ r ≡ linearRadius range (take 2 (drop at (now (payload .entry)))) ⌝ }
+    ensures { λ r. ⌜ r ≡ linearRadius range (twoAt (now (payload .entry)) at) ⌝ }
 {
     radius_of(range.min, breadth(range), get_number(payload, at))
 }
@@ -500,7 +501,7 @@ fn breadth(range: Range) -> f32
 // The float of the four bytes at `at`.
 fn get_float(payload: &[u8], at: usize) -> f32
     requires { ⌜ at + 4 ≤ length (now payload) ⌝ }
-    ensures { λ r. ⌜ r ≡ ofLeBytes (take 4 (drop at (now (payload .entry)))) ⌝ }
+    ensures { λ r. ⌜ r ≡ ofLeBytes (fourAt (now (payload .entry)) at) ⌝ }
 {
     float::from_le_bytes(
         payload[at],
@@ -513,7 +514,14 @@ fn get_float(payload: &[u8], at: usize) -> f32
 // The number of the two bytes at `at`.
 fn get_number(payload: &[u8], at: usize) -> u16
     requires { ⌜ at + 2 ≤ length (now payload) ⌝ }
-    ensures { λ r. ⌜ r ≡ number 256 (take 2 (drop at (now (payload .entry)))) ⌝ }
+    ensures { λ r. ⌜ r ≡ number 256 (twoAt (now (payload .entry)) at) ⌝ }
 {
-    (payload[at] as u16) + 256 * (payload[at + 1] as u16)
+    pair_of(payload[at], payload[at + 1])
+}
+
+// The number of two bytes, the least significant first.
+fn pair_of(a: u8, b: u8) -> u16
+    ensures { λ r. ⌜ r ≡ number 256 (a ∷ b ∷ []) ⌝ }
+{
+    (a as u16) + 256 * (b as u16)
 }

@@ -5,7 +5,7 @@ use native.Mathlib.Omega.{arith}
 use denote.Ref.{now}
 use lib.ListN.{length, drop}
 use Rattle.digits.specs.Digits.{number}
-use Rattle.bitpack.proofs.Digits.{number-run}
+use Rattle.bitpack.proofs.Digits.{number-word}
 use borrow.Author.Needs.{needs}
 use Rattle.bitpack.proofs.get_long.Statement.{statement}
 use Rattle.bitpack.proofs.get_long.Tie as tie
@@ -31,7 +31,7 @@ returns c =
     let at = c .before .before .before .args .at in
     let fits : at + 8 ≤ length packed = c .before .before .before .pre in
     let eight : at + 4 + 4 ≡ at + 8 = omega arith in
-    omega (arith, number-run 256 packed at 4 (omega arith), number-run 256 packed (at + 4) 4 (omega arith), c .before .get-word .ensures .0, c .get-word2 .ensures .0, ap (λ (m : ℕ). number 256 (drop m packed)) eight)
+    omega (arith, number-word packed at (omega arith), number-word packed (at + 4) (omega arith), c .before .get-word .ensures .0, c .get-word2 .ensures .0, ap (λ (m : ℕ). number 256 (drop m packed)) eight)
 
 pub get-long-spec : {M : Type 1} → statement M
 get-long-spec =

@@ -5,7 +5,7 @@ use native.Mathlib.Omega.{arith}
 use denote.Ref.{now}
 use lib.ListN.{length, drop}
 use Rattle.digits.specs.Digits.{number}
-use Rattle.bitpack.proofs.Digits.{number-run}
+use Rattle.bitpack.proofs.Digits.{number-word}
 use Rattle.bitpack.proofs.Windows.{shift-in-exact, shift-in-word}
 use Rattle.bitpack.proofs.Unpacking.{refill-none, refill-word}
 use borrow.Author.Needs.{needs}
@@ -42,7 +42,7 @@ returns-2 c =
     let asked = c .before .before .before .before .pre in
     let short = c .before .before .if1 .left in
     let four : a .at + 4 ≤ length (now (a .packed)) = omega (arith, c .before .if2 .taken) in
-    let read = number-run 256 (now (a .packed)) (a .at) 4 four ∙ ap (λ (m : ℕ). m + 2 ^ 32 * number 256 (drop (a .at + 4) (now (a .packed)))) (sym (c .get-word .ensures .0)) in
+    let read = number-word (now (a .packed)) (a .at) four ∙ ap (λ (m : ℕ). m + 2 ^ 32 * number 256 (drop (a .at + 4) (now (a .packed)))) (sym (c .get-word .ensures .0)) in
     let sum = ap (λ (m : ℕ). a .acc + m) (shift-in-exact (a .held) 32 _ (c .get-word .ensures .1) (omega (arith, short, asked .narrow))) in
     refill-word _ _ _ _ _ asked short _ _ four read (c .get-word .ensures .1) sum
 

@@ -1,5 +1,4 @@
 -- `radius::read_payload` meets its contract: by the profile, which is none but the two. Assumes nothing.
-use mathlib.Core.Path.{sym, _∙_}
 use mathlib.Core.Bool.{true≢false}
 use borrow.Author.Needs.{needs}
 use Rattle.radius.proofs.read_payload.Statement.{statement}
