@@ -11,7 +11,7 @@ use Rattle.error.specs.Answer.{value, refused, place, each, first}
 use Rattle.error.proofs.Places.{place-le, place-passed}
 use Rattle.digits.specs.Digits.{number, digits}
 use Rattle.error.specs.Checks.{wrongBits, wrongRoom}
-use Rattle.bitpack.specs.Padding.{bytesFor, validatePaddingZeroOf, wrongLength, wrongPadding}
+use Rattle.bitpack.specs.Padding.{bytesFor, wrongLength, wrongPadding, unpackChecks, validatePaddingZeroOf}
 use Rattle.bitpack.specs.Packing.{packedLenOf, packIndicesOf, unpackIndicesOf, badIndex, wrongOverflow}
 use Rattle.bitpack.specs.Inner.{Packable, Unpackable}
 use Rattle.error.proofs.Chains.{append-refused, append-passed, first-value, first-passes, or-false}
@@ -85,20 +85,12 @@ module _ (indices : List ℕ) (bits room : ℕ) where
 module _ (packed : List ℕ) (count bits room : ℕ) where
   pub unpack-no-length : {n p : ℕ} → packedLenOf count bits ≡ refused n p → unpackIndicesOf packed count bits room ≡ refused n p
   unfolding packedLenOf unpackIndicesOf
-  unpack-no-length e =
-      append-refused
-      (wrongBits bits ∷ wrongOverflow count bits ∷ [])
-      (wrongLength packed (count * bits) ∷ wrongPadding packed (count * bits) ∷ wrongRoom room count ∷ [])
-      _ _ e
+  unpack-no-length e = append-refused (wrongBits bits ∷ wrongOverflow count bits ∷ []) (unpackChecks packed (count * bits) count room) _ _ e
 
   module _ {need : ℕ} (told : packedLenOf count bits ≡ value need) where
-    unpack-rest : unpackIndicesOf packed count bits room ≡ first (wrongLength packed (count * bits) ∷ wrongPadding packed (count * bits) ∷ wrongRoom room count ∷ []) (value (digits (2 ^ bits) count (number 256 packed)))
+    unpack-rest : unpackIndicesOf packed count bits room ≡ first (unpackChecks packed (count * bits) count room) (value (digits (2 ^ bits) count (number 256 packed)))
     unfolding packedLenOf unpackIndicesOf
-    unpack-rest =
-        append-passed
-        (wrongBits bits ∷ wrongOverflow count bits ∷ [])
-        (wrongLength packed (count * bits) ∷ wrongPadding packed (count * bits) ∷ wrongRoom room count ∷ [])
-        _ _ told
+    unpack-rest = append-passed (wrongBits bits ∷ wrongOverflow count bits ∷ []) (unpackChecks packed (count * bits) count room) _ _ told
 
     pub unpack-padded : {n p : ℕ} → validatePaddingZeroOf packed (count * bits) ≡ refused n p → unpackIndicesOf packed count bits room ≡ refused n p
     unfolding validatePaddingZeroOf

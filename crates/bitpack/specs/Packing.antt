@@ -9,7 +9,7 @@ use lib.ListN.{length}
 use Rattle.error.specs.Answer.{Answer, value, Check, check, first, place, each}
 use Rattle.error.specs.Checks.{wrongBits, wrongRoom}
 use Rattle.digits.specs.Digits.{number, digits}
-use Rattle.bitpack.specs.Padding.{bytesFor, wrongLength, wrongPadding}
+use Rattle.bitpack.specs.Padding.{bytesFor, unpackChecks}
 
 -- '19: count times bits exceeds the largest usize. Place 0.'
 abbrev pub wrongOverflow : ℕ → ℕ → Check
@@ -49,8 +49,5 @@ unpackIndicesOf packed count bits room =
     first
     (wrongBits bits
     ∷ wrongOverflow count bits
-    ∷ wrongLength packed (count * bits)
-    ∷ wrongPadding packed (count * bits)
-    ∷ wrongRoom room count
-    ∷ [])
+    ∷ unpackChecks packed (count * bits) count room)
     (value (digits (2 ^ bits) count (number 256 packed)))

@@ -6,7 +6,7 @@ use mathlib.Core.Bool.{Bool, _&&_}
 use mathlib.Core.List.{List, [], _∷_}
 use lib.ListN.{length, getD}
 use Rattle.error.specs.Answer.{Answer, Check, check, first, accepted}
-use Rattle.error.specs.Checks.{differs}
+use Rattle.error.specs.Checks.{differs, wrongRoom}
 
 -- a number of bits, over 8, rounded up
 abbrev pub bytesFor : ℕ → ℕ
@@ -24,6 +24,10 @@ wrongLength packed used = check (differs (length packed) (bytesFor used)) 13 (le
 -- '14: padding bits not zero. Place: that byte's index in its payload.'
 abbrev pub wrongPadding : List ℕ → ℕ → Check
 wrongPadding packed used = check (badPadding packed used) 14 (length packed - 1)
+
+-- 'Unpacking: .. 13, 14, then 6': of bytes of which so many bits are used, into `room` places for so many items
+abbrev pub unpackChecks : List ℕ → ℕ → ℕ → ℕ → List Check
+unpackChecks packed used count room = wrongLength packed used ∷ wrongPadding packed used ∷ wrongRoom room count ∷ []
 
 -- bytes of which so many bits are used: 13, then 14, or nothing to say
 unfoldable pub validatePaddingZeroOf : List ℕ → ℕ → Answer (Unit {0})

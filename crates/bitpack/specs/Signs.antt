@@ -7,7 +7,7 @@ use lib.IntN.{ℤ, pos, negsuc}
 use lib.ListN.{length}
 use Rattle.error.specs.Answer.{Answer, value, first, place, each}
 use Rattle.digits.specs.Digits.{number, digits}
-use Rattle.bitpack.specs.Padding.{bytesFor, wrongLength, wrongPadding}
+use Rattle.bitpack.specs.Padding.{bytesFor, unpackChecks}
 use Rattle.error.specs.Checks.{wrongRoom}
 
 abbrev pub isPlus : ℤ → Bool
@@ -46,9 +46,4 @@ packSignsOf signs room =
 -- 'Unpacking signs: 13, 14.' 'In every call 6 comes after all input checks.' `room` is the output's length
 unfoldable pub unpackSignsOf : List ℕ → ℕ → ℕ → Answer (List ℤ)
 unpackSignsOf packed count room =
-    first
-    (wrongLength packed count
-    ∷ wrongPadding packed count
-    ∷ wrongRoom room count
-    ∷ [])
-    (value (map signOfBit (digits 2 count (number 256 packed))))
+    first (unpackChecks packed count count room) (value (map signOfBit (digits 2 count (number 256 packed))))

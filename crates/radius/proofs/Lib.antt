@@ -1,6 +1,6 @@
 pub mod Radii
 pub mod Fill
-pub mod Lengths
+pub mod Checks
 pub mod Accepted
 pub mod RoundTrip
 pub mod Scan

@@ -6,7 +6,7 @@ use lib.ListN.{getD}
 use Rattle.error.specs.Answer.{accepted}
 use Rattle.packed.specs.Layout.{headerOf}
 use Rattle.packed.proofs.Headers.{usable, bits-most, projections-most, product-most}
-use Rattle.radius.proofs.Lengths.{width-most}
+use Rattle.radius.proofs.Checks.{width-most}
 use borrow.Author.Needs.{needs}
 use Rattle.packed.proofs.header_of.Statement.{statement}
 use Rattle.packed.proofs.header_of.Tie as tie

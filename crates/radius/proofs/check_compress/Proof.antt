@@ -5,7 +5,7 @@ use native.Mathlib.Omega.{arith}
 use borrow.Author.Tests.{lt-ltb, le-ltb, eq-eqb, ne-eqb}
 use lib.ListN.{length}
 use denote.Ref.{now}
-use Rattle.radius.proofs.Lengths.{width-most}
+use Rattle.radius.proofs.Checks.{width-most}
 use borrow.Author.Needs.{needs}
 use Rattle.radius.proofs.check_compress.Statement.{statement}
 use Rattle.radius.proofs.check_compress.Tie as tie

@@ -11,7 +11,7 @@ use Rattle.error.specs.Outcomes.{says}
 use Rattle.lists.proofs.Chunks.{chunks-length}
 use Rattle.radius.specs.Codec.{wrongContent}
 use Rattle.radius.specs.Inner.{profileChecks, contentChecks}
-use Rattle.radius.proofs.Lengths.{fit-length, fit-content, unfit-content}
+use Rattle.radius.proofs.Checks.{fit-length, fit-content, unfit-content}
 use borrow.Author.Needs.{needs}
 use Rattle.radius.proofs.check_content.Statement.{statement}
 use Rattle.radius.proofs.check_content.Tie as tie

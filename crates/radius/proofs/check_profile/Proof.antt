@@ -1,6 +1,6 @@
 -- `radius::check_profile` meets its contract: the profile, then the length that it needs. Assumes nothing.
 use mathlib.Core.Path.{sym, _∙_}
-use Rattle.radius.proofs.Lengths.{width-known}
+use Rattle.radius.proofs.Checks.{width-known}
 use borrow.Author.Needs.{needs}
 use Rattle.radius.proofs.check_profile.Statement.{statement}
 use Rattle.radius.proofs.check_profile.Tie as tie

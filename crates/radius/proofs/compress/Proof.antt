@@ -1,13 +1,11 @@
 -- `radius::compress` meets its contract: the refusal of its checks, or what was written. Assumes nothing.
 use mathlib.Core.Path.{_≡_, sym, ap, _∙_}
-use borrow.Author.Tests.{eqb-true, not-false}
 use lib.ListN.{length}
 use denote.Ref.{now}
-use Rattle.error.specs.Answer.{value, first, accepted}
+use Rattle.error.specs.Answer.{first, accepted}
 use Rattle.error.specs.Outcomes.{says}
-use Rattle.error.proofs.Answers.{after-refused, after-value}
-use Rattle.error.proofs.Chains.{first-passed, first-refused, first-all}
-use Rattle.radius.specs.Codec.{compressChecks, compressRangeOf, compressBytesOf}
+use Rattle.radius.specs.Codec.{compressChecks}
+use Rattle.radius.proofs.Checks.{compress-refused, compress-room, compress-value}
 use borrow.Author.Needs.{needs}
 use Rattle.radius.proofs.compress.Statement.{statement}
 use Rattle.radius.proofs.compress.Tie as tie
@@ -23,31 +21,19 @@ enum-known-checked : tie.Need-enum-known-checked
 enum-known-checked c = search needs
 
 returns : tie.Need-returns
-unfolding compressRangeOf compressBytesOf
-returns c =
-    let a = c .before .before .before .before .before .before .args in
-    let checks = compressChecks (now (a .radii)) (a .profile) (length (now (a .out))) in
-    let e = sym (c .before .before .before .check-compress .ensures) ∙ ap says (c .before .checked .given .1) in
-    (sym (first-refused checks _ e), sym (after-refused _ _ (first-refused checks _ e)))
+returns c = compress-refused _ _ _ _ (sym (c .before .before .before .check-compress .ensures) ∙ ap says (c .before .checked .given .1))
 
 enum-told : tie.Need-enum-told
 enum-told c = search needs
 
 write-payload-requires : tie.Need-write-payload-requires
-write-payload-requires c κs =
-    let a = c .before .before .before .before .before .before .args in
-    eqb-true _ _ (not-false _ (first-all (compressChecks (now (a .radii)) (a .profile) (length (now (a .out)))) accepted (passed (c .before)) .1 .1 .0))
+write-payload-requires c κs = let a = c .before .before .before .before .before .before .args in compress-room (now (a .radii)) (a .profile) (length (now (a .out))) (passed (c .before))
 
 same-length : tie.Need-same-length
 same-length c = search needs
 
 returns-2 : tie.Need-returns-2
-unfolding compressRangeOf compressBytesOf
-returns-2 c =
-    let a = c .before .before .before .before .before .before .before .before .before .args in
-    let checks = compressChecks (now (a .radii)) (a .profile) (length (now (a .out))) in
-    let e = passed (c .before .before .before .before) in
-    (ap value (c .before .before .write-payload .ensures .0) ∙ sym (first-passed checks _ e), c .before .before .write-payload .ensures .1 ∙ sym (after-value _ _ (first-passed checks _ e)))
+returns-2 c = compress-value _ _ _ _ (passed (c .before .before .before .before)) _ _ (c .before .before .write-payload .ensures .0) (c .before .before .write-payload .ensures .1)
 
 pub compress-spec : {M : Type 1} → statement M
 compress-spec =

@@ -1,15 +1,10 @@
 -- `radius::decompress` meets its contract: the refusal of its checks, or what restore answers. Assumes nothing.
 use mathlib.Core.Path.{sym, ap, _∙_}
-use mathlib.Core.List.{[], _∷_}
 use lib.ListN.{length}
 use denote.Ref.{now}
-use Rattle.error.specs.Checks.{wrongRoom}
 use Rattle.error.specs.Outcomes.{says}
 use Rattle.error.proofs.Answers.{both-refused}
-use Rattle.error.proofs.Chains.{append-refused}
-use Rattle.radius.specs.Codec.{decompressOf}
-use Rattle.radius.specs.Inner.{contentChecks}
-use Rattle.radius.proofs.Lengths.{content-restore}
+use Rattle.radius.proofs.Checks.{content-refused, content-restore}
 use borrow.Author.Needs.{needs}
 use Rattle.radius.proofs.decompress.Statement.{statement}
 use Rattle.radius.proofs.decompress.Tie as tie
@@ -21,10 +16,7 @@ enum-known-checked : tie.Need-enum-known-checked
 enum-known-checked c = search needs
 
 returns : tie.Need-returns
-unfolding decompressOf
-returns c =
-    let a = c .before .before .before .before .before .before .args in
-    both-refused _ _ (append-refused (contentChecks (a .profile) (a .count) (a .range) (now (a .payload))) (wrongRoom (length (now (a .out))) (a .count) ∷ []) tt _ (sym (c .before .before .before .check-content .ensures) ∙ ap says (c .before .checked .given .1)))
+returns c = both-refused _ _ (content-refused _ _ _ _ _ (sym (c .before .before .before .check-content .ensures) ∙ ap says (c .before .checked .given .1)))
 
 enum-told : tie.Need-enum-told
 enum-told c = search needs

@@ -1,6 +1,8 @@
 -- `radius::restore` meets its contract: the refusal of a check, or what was read. Assumes nothing.
 use Prim.Native.Nat.{ℕ, _*_}
 use mathlib.Core.Path.{_≡_, sym, ap, _∙_}
+use native.Mathlib.Omega.{arith}
+use lib.ListN.{length}
 use borrow.Author.Tests.{eq-eqb, ne-eqb}
 use denote.Ref.{now}
 use Rattle.error.specs.Answer.{first, accepted}
@@ -8,7 +10,7 @@ use Rattle.error.specs.Outcomes.{says}
 use Rattle.error.proofs.Answers.{both-refused, both-value}
 use Rattle.radius.specs.Codec.{widthOf, radiiFor}
 use Rattle.radius.specs.Inner.{profileChecks}
-use Rattle.radius.proofs.Lengths.{fit-known, fit-length, fit-restore, unfit-restore}
+use Rattle.radius.proofs.Checks.{fit-known, fit-length, fit-restore, unfit-restore}
 use borrow.Author.Needs.{needs}
 use Rattle.radius.proofs.restore.Statement.{statement}
 use Rattle.radius.proofs.restore.Tie as tie
@@ -24,9 +26,7 @@ enum-known-fit : tie.Need-enum-known-fit
 enum-known-fit c = search needs
 
 returns : tie.Need-returns
-returns c =
-    let a = c .before .before .before .before .before .before .args in
-    both-refused _ _ (unfit-restore (a .profile) (a .count) (a .range) (now (a .payload)) (sym (c .before .before .before .check-profile .ensures) ∙ ap says (c .before .fit .given .1)) _)
+returns c = both-refused _ _ (unfit-restore _ _ _ _ (sym (c .before .before .before .check-profile .ensures) ∙ ap says (c .before .fit .given .1)) _)
 
 enum-told : tie.Need-enum-told
 enum-told c = search needs
@@ -34,7 +34,7 @@ enum-told c = search needs
 returns-2 : tie.Need-returns-2
 returns-2 c =
     let a = c .before .before .before .before .before .before .args in
-    both-refused _ _ (fit-restore (a .profile) (a .count) (now (a .payload)) (fit (c .before)) _ _ ∙ rw (ne-eqb _ _ (c .if1 .taken)))
+    both-refused _ _ (fit-restore _ _ _ (fit (c .before)) _ _ ∙ rw (ne-eqb (length (now (a .out))) (a .count) (λ e. omega arith)))
 
 read-payload-requires : tie.Need-read-payload-requires
 read-payload-requires c κs =
@@ -47,7 +47,7 @@ same-length c = search needs
 returns-3 : tie.Need-returns-3
 returns-3 c =
     let a = c .before .before .before .before .before .before .before .before .before .before .args in
-    both-value _ _ _ (fit-restore (a .profile) (a .count) (now (a .payload)) (fit (c .before .before .before .before .before)) _ _ ∙ rw (eq-eqb _ _ (c .before .before .before .before .if1 .left)))
+    both-value _ _ _ (fit-restore _ _ _ (fit (c .before .before .before .before .before)) _ _ ∙ rw (eq-eqb _ _ (c .before .before .before .before .if1 .left)))
     (c .before .before .read-payload .ensures ∙ ap (λ (n : ℕ). radiiFor (a .profile) n (a .range) (now (a .payload))) (c .before .before .before .before .if1 .left))
 
 pub restore-spec : {M : Type 1} → statement M
