@@ -9,5 +9,8 @@ pub mod TakenApart
 pub mod Rewritten
 pub mod NotBelow
 pub mod LinearRadius
+pub mod Refused
 pub mod LinearRecord
+pub mod Infinite
+pub mod EmptyParts
 pub mod Promised

@@ -1,19 +1,16 @@
 -- The radii of a linear record: how each is read, that none is a NaN or below zero once the range has passed, and that 16 names a radius that reads as infinite.
 -- Bytes are numbers below 256. Assumes nothing.
 use Prim.Native.Nat.{ℕ, _+_, _*_, _^_, _≤_, _<_}
-use mathlib.Core.Path.{_≡_, refl, _∙_, subst}
-use mathlib.Core.Bool.{Bool, true, false, not, cond}
+use mathlib.Core.Path.{_≡_, _∙_, subst}
+use mathlib.Core.Bool.{Bool, true, false, cond}
 use mathlib.Core.List.{List, [], _∷_, _++_}
-use native.Mathlib.Nat.{not-suc-le-zero}
 use native.Mathlib.Omega.{arith}
 use borrow.Author.Tests.{ltb-true}
-use lib.Dec.{T, ltb, eqb, eqb-refl, T-not}
+use lib.Dec.{T, ltb}
 use lib.ListN.{length, getD, take, drop}
 use lib.Ieee.{nan, inf, binary32, fits, isNan, lt}
 use lib.Ieee.Bits.{ofBits-fits}
-use Rattle.error.specs.Answer.{value, refused, Check, check, first, place}
-use Rattle.error.proofs.Chains.{Passed, value-not-refused}
-use Rattle.error.proofs.Places.{place-bad, place-good}
+use Rattle.error.specs.Answer.{refused, check, place}
 use Rattle.digits.specs.Digits.{number}
 use Rattle.digits.proofs.Laws.{Below, number-lt}
 use Rattle.float.specs.Bytes.{ofLeBytes}
@@ -34,6 +31,7 @@ use Rattle.packed.proofs.Payloads.{length-radiiOf}
 use Rattle.packed_laws.proofs.Ranges.{zero-fits}
 use Rattle.packed_laws.proofs.Parts.{part-length, part-below}
 use Rattle.packed_laws.proofs.LinearRadius.{linear-radius-good, linear-radius-infinite}
+use Rattle.packed_laws.proofs.Refused.{refused-here, place-offends}
 
 -- two bytes are a number of 16 bits
 two-bytes : (part : List ℕ) → Below 256 part → length part ≡ 2 → number 256 part ≤ 65535
@@ -73,36 +71,6 @@ module _ (bytes : List ℕ) (b : Below 256 bytes) (linear : hasRange (mapOf byte
   -- one that is refused reads as infinite
   pub linear-record-infinite : badRadius (getD (radiiOf bytes) i nan) ≡ true → getD (radiiOf bytes) i nan ≡ inf false
   linear-record-infinite = rw (linear-radii bytes linear i h) (linear-radius-infinite (boundsOf bytes) (take 2 (drop (2 * i) (radiiBytes bytes))) (max-float bytes) bounds two-small)
-
--- ---- a refusal with a number that one check of the chain has alone
-
-abbrev Other : ℕ → List Check → Type 0
-Other n [] = Unit {0}
-Other n (check b k p ∷ cs) = T (not (eqb k n)) × Other n cs
-
-same-number : (k n : ℕ) → T (not (eqb k n)) → k ≡ n → ⊥
-same-number k n t e = T-not (eqb k n) t (subst (λ (j : ℕ). T (eqb k j)) e (eqb-refl k))
-
-module _ {A : Type 0} (a : A) where
-  not-refused : (n : ℕ) (cs : List Check) {q : ℕ} → Other n cs → first cs (value a) ≡ refused n q → ⊥
-  not-refused n [] o e = value-not-refused e
-  not-refused n (check true k p ∷ cs) o e = same-number k n (o .0) (cc)
-  not-refused n (check false k p ∷ cs) o e = not-refused n cs (o .1) e
-
-  refused-here : (cs : List Check) (b : Bool) (n p : ℕ) (ds : List Check) {q : ℕ} → Other n cs → Other n ds → first (cs ++ (check b n p ∷ ds)) (value a) ≡ refused n q → Passed cs × ((b ≡ true) × (p ≡ q))
-  refused-here [] true n p ds o u e = (tt, (refl, cc))
-  refused-here [] false n p ds o u e = absurd (not-refused n ds u e)
-  refused-here (check true k r ∷ cs) b n p ds o u e = absurd (same-number k n (o .0) (cc))
-  refused-here (check false k r ∷ cs) b n p ds o u e = let rest = refused-here cs b n p ds (o .1) u e in ((refl, rest .0), rest .1)
-
--- the item at the first place that offends does offend
-place-offends : {A : Type 0} (bad : A → Bool) (xs : List A) (d : A) → place bad xs < length xs → bad (getD xs (place bad xs) d) ≡ true
-place-offends bad [] d h = absurd (not-suc-le-zero h)
-place-offends bad (x ∷ xs) d h = split (λ g. place-offends bad xs d g) (bad x) refl
-  where
-    split : (place bad xs < length xs → bad (getD xs (place bad xs) d) ≡ true) → (t : Bool) → bad x ≡ t → bad (getD (x ∷ xs) (place bad (x ∷ xs)) d) ≡ true
-    split rest true e = rw (place-bad bad x xs e) e
-    split rest false e = rw (place-good bad x xs e) (rest (let z = place-good bad x xs e in omega (arith, z, h)))
 
 -- 16 in a linear record names a radius that reads as infinite
 pub linear-refused : (bytes : List ℕ) → Below 256 bytes → hasRange (mapOf bytes) ≡ true → (p : ℕ) → readRecordOf bytes ≡ refused 16 p → getD (radiiOf bytes) p nan ≡ inf false

@@ -1,8 +1,12 @@
--- Acceptance and the round trips of whole records hold. Each is proved in a file of its own; here they are one truth. Assumes nothing.
+-- Acceptance and the round trips of whole records hold, and 16 of linear radii means an infinite one. Each is proved in a file of its own; here they are gathered.
+-- Assumes nothing.
 use Rattle.packed.proofs.Accepted as accepted
 use Rattle.packed_laws.specs.RoundTrips.{RoundTrips}
+use Rattle.packed_laws.specs.Infinite.{Infinite}
 use Rattle.packed_laws.proofs.RoundTrip as trip
 use Rattle.packed_laws.proofs.Rewritten as again
+use Rattle.packed_laws.proofs.LinearRecord as linear
+use Rattle.packed_laws.proofs.Infinite as infinite
 
 pub round-trips : RoundTrips
 round-trips = record {
@@ -19,4 +23,12 @@ round-trips = record {
       };
   rewritten = λ bytes header below read plain. again.rewritten bytes (record { at = below }) read plain;
   rewritten-linear = λ bytes header room next below read linear told. again.rewritten-linear bytes (record { at = below }) read linear room told;
+}
+
+pub infinite-only : Infinite
+infinite-only = record {
+  read-infinite = λ bytes p below ranged told. linear.linear-refused bytes (record { at = below }) ranged p told;
+  write-linear = λ code radii indices signs room p good told. infinite.written-linear radii good code indices signs room p told;
+  write-infinite = λ code radii indices signs room p good told. infinite.written-infinite radii good code indices signs room p told;
+  write-floats = λ code radii indices signs room p good plain told. infinite.written-not-plain radii good code indices signs room p told plain;
 }

@@ -30,11 +30,11 @@ use Rattle.setup.specs.Setups.{counted}
 use Rattle.packed.proofs.Accepted.{read-accepts}
 use Rattle.packed.proofs.Payloads.{length-radiiOf}
 use Rattle.packed.proofs.Radii.{radii-fit, length-indicesOf, indices-below, length-signsOf, signs-good}
-use Rattle.packed_laws.specs.RoundTrips.{SameButRadii, codeAs, codeOf}
+use Rattle.packed_laws.specs.RoundTrips.{SameButRadii, codeAs}
 use Rattle.packed_laws.proofs.Inputs.{written}
 use Rattle.packed_laws.proofs.Fields.{map-written, dim-written, bits-written, projections-written, bounds-written, length-written}
 use Rattle.packed_laws.proofs.Payloads.{floats-readBack, radii-written, indices-bytes-written, signs-bytes-written}
-use Rattle.packed_laws.proofs.TakenApart.{map-again, indices-again, signs-again, parts-again, floats-again}
+use Rattle.packed_laws.proofs.TakenApart.{codeOf, map-again, indices-again, signs-again, parts-again, floats-again}
 
 either-counted : (t : Bool) (n : ℕ) → counted (cond t PolarWithQjl PolarOnly) (cond t n 0) ≡ cond t n 0
 either-counted true n = refl

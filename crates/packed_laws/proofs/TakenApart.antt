@@ -31,8 +31,13 @@ use Rattle.packed_writing.specs.Writing.{rangeBytes, projectionBytes, headerByt
 use Rattle.packed.proofs.Headers.{product-most}
 use Rattle.packed.proofs.Parts.{length-radii, length-indices, length-signs}
 use Rattle.packed.proofs.Payloads.{length-radiiOf}
-use Rattle.packed_laws.specs.RoundTrips.{codeOf}
+use Rattle.packed.specs.declared.Code.{Code}
+use Rattle.packed_laws.specs.RoundTrips.{codeAs}
 use Rattle.packed_laws.proofs.Parts.{part-below, part-two, word-again, float-again, four-parts, six-bytes, header-parts}
+
+-- the scalars that a record's bytes tell, under their own profile
+abbrev pub codeOf : List ℕ → Code
+codeOf bytes = codeAs (profileOf (mapOf bytes)) bytes
 
 -- the map byte is made again from what it tells
 pub map-again : (map : ℕ) → map ≤ 3 → mapFor (profileOf map) (modeOf map) ≡ map

@@ -25,12 +25,9 @@ use Rattle.packed_writing.specs.Writing.{writeRecordOf}
 use Rattle.setup.specs.Setups.{counted}
 use Rattle.radius.specs.Firsts.{readBack}
 
--- the scalars that a record's bytes tell: under a profile, and under their own
+-- the scalars that a record's bytes tell, under a profile
 abbrev pub codeAs : RadiusCodecProfileV1 → List ℕ → Code
 codeAs profile bytes = record { profile = profile; mode = modeOf (mapOf bytes); dim = dimOf bytes; bits = bitsOf bytes; projections = projectionsOf bytes }
-
-abbrev pub codeOf : List ℕ → Code
-codeOf bytes = codeAs (profileOf (mapOf bytes)) bytes
 
 -- the header that a record is written with, by value
 unfoldable pub headerFor : Code → List Float → Header
