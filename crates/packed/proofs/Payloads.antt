@@ -1,14 +1,16 @@
 -- What the checks of the whole length, the range and the payloads answer, case by case, as the code comes to them. Assumes nothing.
 use Prim.Native.Nat.{ℕ, _≤_, _<_}
 use mathlib.Core.Path.{_≡_, sym, _∙_}
-use mathlib.Core.Bool.{true, false}
+use mathlib.Core.Bool.{Bool, true, false, cond}
 use mathlib.Core.List.{List, [], _∷_}
 use borrow.Author.Tests.{lt-ltb, le-ltb, eq-eqb, ne-eqb}
 use lib.ListN.{length}
 use Rattle.error.specs.Answer.{refused, place, first, accepted}
 use Rattle.bitpack.specs.Padding.{bytesFor, wrongPadding, validatePaddingZeroOf}
 use Rattle.error.proofs.Chains.{append-refused, append-passed}
+use Rattle.float.specs.Bytes.{ofLeBytes}
 use Rattle.radius.specs.Codec.{radiiFor}
+use Rattle.radius.specs.Linear.{linearRadius}
 use Rattle.radius.specs.declared.Range.{Range}
 use Rattle.radius.specs.declared.RadiusCodecProfileV1.the-variants.{F32, BlockLinearU16}
 use Rattle.lists.proofs.Chunks.{chunks-length}
@@ -16,11 +18,8 @@ use Rattle.radius.specs.Radii.{badRadius}
 use Rattle.packed.specs.Fields.{mapOf, hasRange, profileOf, boundsOf, projectionsOf}
 use Rattle.packed.specs.Layout.{pairsOf, indicesUsed, recordLength, radiiBytes, indicesBytes, signsBytes}
 use Rattle.packed.specs.Radii.{badBoundsFor}
-use Rattle.packed.specs.Reading.{radiiOf, payloadChecks}
+use Rattle.packed.specs.Reading.{radiiOf, paddingChecks, payloadChecks}
 use Rattle.packed.proofs.Parts.{length-indices, length-signs}
-use mathlib.Core.Bool.{Bool, cond}
-use Rattle.float.specs.Bytes.{ofLeBytes}
-use Rattle.radius.specs.Linear.{linearRadius}
 
 -- as many radii as pairs
 either-length : (t : Bool) (count : ℕ) (range : Range) (payload : List ℕ) → length (radiiFor (cond t BlockLinearU16 F32) count range payload) ≡ count
@@ -48,19 +47,18 @@ module _ (bytes : List ℕ) where
       pub payload-radius : bad < pairsOf bytes → first (payloadChecks bytes) accepted ≡ refused 16 bad
       payload-radius h = rw (eq-eqb _ _ sized, bounds, ← found, length-radiiOf, lt-ltb _ _ h)
 
-      module _ (all : pairsOf bytes ≤ bad) where
-        rest : first (payloadChecks bytes) accepted ≡ first (wrongPadding (indicesBytes bytes) (indicesUsed bytes) ∷ wrongPadding (signsBytes bytes) (projectionsOf bytes) ∷ []) accepted
-        rest = rw (eq-eqb _ _ sized, bounds, ← found, length-radiiOf, le-ltb _ _ all)
+      pub payload-rest : pairsOf bytes ≤ bad → first (payloadChecks bytes) accepted ≡ first (paddingChecks bytes) accepted
+      payload-rest all = rw (eq-eqb _ _ sized, bounds, ← found, length-radiiOf, le-ltb _ _ all)
 
-        pub payload-indices : {n p : ℕ} → validatePaddingZeroOf (indicesBytes bytes) (indicesUsed bytes) ≡ refused n p → first (payloadChecks bytes) accepted ≡ refused n p
-        payload-indices e =
-            rest
-            ∙ append-refused (wrongPadding (indicesBytes bytes) (indicesUsed bytes) ∷ []) (wrongPadding (signsBytes bytes) (projectionsOf bytes) ∷ []) tt accepted
-            (sym (padding-only (indicesBytes bytes) (indicesUsed bytes) (length-indices bytes sized)) ∙ e)
+    -- ---- the padding
 
-        pub payload-signs : validatePaddingZeroOf (indicesBytes bytes) (indicesUsed bytes) ≡ accepted → first (payloadChecks bytes) accepted ≡ validatePaddingZeroOf (signsBytes bytes) (projectionsOf bytes)
-        payload-signs e =
-            rest
-            ∙ append-passed (wrongPadding (indicesBytes bytes) (indicesUsed bytes) ∷ []) (wrongPadding (signsBytes bytes) (projectionsOf bytes) ∷ []) tt accepted
-            (sym (padding-only (indicesBytes bytes) (indicesUsed bytes) (length-indices bytes sized)) ∙ e)
-            ∙ sym (padding-only (signsBytes bytes) (projectionsOf bytes) (length-signs bytes sized))
+    pub padding-indices : {n p : ℕ} → validatePaddingZeroOf (indicesBytes bytes) (indicesUsed bytes) ≡ refused n p → first (paddingChecks bytes) accepted ≡ refused n p
+    padding-indices e =
+        append-refused (wrongPadding (indicesBytes bytes) (indicesUsed bytes) ∷ []) (wrongPadding (signsBytes bytes) (projectionsOf bytes) ∷ []) tt accepted
+        (sym (padding-only (indicesBytes bytes) (indicesUsed bytes) (length-indices bytes sized)) ∙ e)
+
+    pub padding-signs : validatePaddingZeroOf (indicesBytes bytes) (indicesUsed bytes) ≡ accepted → first (paddingChecks bytes) accepted ≡ validatePaddingZeroOf (signsBytes bytes) (projectionsOf bytes)
+    padding-signs e =
+        append-passed (wrongPadding (indicesBytes bytes) (indicesUsed bytes) ∷ []) (wrongPadding (signsBytes bytes) (projectionsOf bytes) ∷ []) tt accepted
+        (sym (padding-only (indicesBytes bytes) (indicesUsed bytes) (length-indices bytes sized)) ∙ e)
+        ∙ sym (padding-only (signsBytes bytes) (projectionsOf bytes) (length-signs bytes sized))

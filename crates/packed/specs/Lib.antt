@@ -3,3 +3,4 @@ pub mod Layout
 pub mod Radii
 pub mod Reading
 pub mod Accepted
+pub mod Inner

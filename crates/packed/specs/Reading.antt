@@ -48,11 +48,15 @@ signsOf bytes = map signOfBit (digits 2 (projectionsOf bytes) (number 256 (signs
 
 -- '13: byte length wrong. Place: the length found.' In a record, the whole record's length
 abbrev pub wrongSize : Bool → List ℕ → Check
-wrongSize wrong bytes = check wrong 13 (length bytes)
+wrongSize bad bytes = check bad 13 (length bytes)
 
--- '18: a map bit not defined .. Place: the map byte': a bit other than 0 and 1
+-- 'a map bit not defined': a bit other than 0 and 1
+abbrev pub badMap : ℕ → Bool
+badMap map = ltb 3 map
+
+-- '18: .. Place: the map byte'
 abbrev pub wrongMap : List ℕ → Check
-wrongMap bytes = check (ltb 3 (mapOf bytes)) 18 (mapOf bytes)
+wrongMap bytes = check (badMap (mapOf bytes)) 18 (mapOf bytes)
 
 -- 'bits outside 1..16', '16 is refused beside bit 1'
 abbrev pub badPolarBits : TurboMode → ℕ → Bool
@@ -80,16 +84,18 @@ headerChecks bytes =
     ∷ wrongProjections (modeOf (mapOf bytes)) (projectionsOf bytes)
     ∷ [])
 
+-- '14 for indices; 14 for signs'. The place is a byte's index in its payload
+abbrev pub paddingChecks : List ℕ → List Check
+paddingChecks bytes = wrongPadding (indicesBytes bytes) (indicesUsed bytes) ∷ wrongPadding (signsBytes bytes) (projectionsOf bytes) ∷ []
+
 -- the checks of the whole length, the range and the payloads. '16: a radius is NaN, infinite or below zero', as it is read: 'A linear radius that
--- reads as infinite is 16'. The place of 14 is a byte's index in its payload
+-- reads as infinite is 16'
 abbrev pub payloadChecks : List ℕ → List Check
 payloadChecks bytes =
     wrongSize (differs (length bytes) (recordLength bytes)) bytes
     ∷ check (badBoundsFor (profileOf (mapOf bytes)) (boundsOf bytes)) 17 0
     ∷ each badRadius 16 (radiiOf bytes)
-    ∷ wrongPadding (indicesBytes bytes) (indicesUsed bytes)
-    ∷ wrongPadding (signsBytes bytes) (projectionsOf bytes)
-    ∷ []
+    ∷ paddingChecks bytes
 
 abbrev pub recordChecks : List ℕ → List Check
 recordChecks bytes = headerChecks bytes ++ payloadChecks bytes

@@ -21,7 +21,8 @@ ghost use Rattle.error.specs.Outcomes.{says};
 ghost use Rattle.packed.specs.Fields.{mapOf, profileOf, modeOf, wordAt, floatAt, boundsOf, projectionsOf};
 ghost use Rattle.packed.specs.Layout.{headerLength, headerOf};
 ghost use Rattle.packed.specs.Radii.{badBounds, badBoundsFor};
-ghost use Rattle.packed.specs.Reading.{saysReading, badRecordDimension, badPolarBits, shapeChecks, headerChecks, payloadChecks, readRecordOf};
+ghost use Rattle.packed.specs.Reading.{saysReading, badRecordDimension, badPolarBits, shapeChecks, headerChecks, paddingChecks, payloadChecks, readRecordOf};
+ghost use Rattle.packed.specs.Inner.{Whole};
 
 // The scalars that a record is written with. Without signs the projections are ignored.
 pub struct Code {
@@ -181,9 +182,7 @@ fn check_payloads(bytes: &[u8], header: Header) -> Outcome
 {
     let radii = header.radii_start;
     let indices = header.indices_start;
-    let signs = header.signs_start;
-    let end = header.end;
-    if bytes.len() != end {
+    if bytes.len() != header.end {
         return Outcome::Refused {
             number: MALFORMED_LENGTH,
             place: bytes.len(),
@@ -197,15 +196,25 @@ fn check_payloads(bytes: &[u8], header: Header) -> Outcome
             place: 0,
         };
     }
-    let pairs = header.dim / 2;
     let bad = radius::first_bad_payload(&bytes[radii..indices], profile, range);
-    if bad < pairs {
+    if bad < header.dim / 2 {
         return Outcome::Refused {
             number: MALFORMED_RADIUS,
             place: bad,
         };
     }
-    let used = pairs * header.bits as usize;
+    check_padding(bytes, header)
+}
+
+// The checks of the padding behind the indices and behind the signs, in a record of the right length.
+fn check_padding(bytes: &[u8], header: Header) -> Outcome
+    requires { ⌜ Whole (now bytes) header ⌝ }
+    ensures { λ r. ⌜ says r ≡ first (paddingChecks (now (bytes .entry))) accepted ⌝ }
+{
+    let indices = header.indices_start;
+    let signs = header.signs_start;
+    let end = header.end;
+    let used = header.dim / 2 * header.bits as usize;
     if let Outcome::Refused {
         number,
         place: byte,

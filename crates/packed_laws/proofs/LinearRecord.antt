@@ -14,7 +14,6 @@ use Rattle.error.specs.Answer.{refused, check, place}
 use Rattle.digits.specs.Digits.{number}
 use Rattle.digits.proofs.Laws.{Below, number-lt}
 use Rattle.float.specs.Bytes.{ofLeBytes}
-use Rattle.bitpack.specs.Padding.{wrongPadding}
 use Rattle.bitpack.proofs.Differs.{differs-same}
 use Rattle.error.specs.Checks.{differs}
 use Rattle.radius.specs.Linear.{linearRadius}
@@ -22,10 +21,10 @@ use Rattle.float.specs.Constants.{posZero}
 use Rattle.radius.specs.Radii.{badRadius}
 use Rattle.radius.specs.declared.Range.{Range}
 use Rattle.lists.proofs.Chunks.{chunks-getD}
-use Rattle.packed.specs.Fields.{mapOf, hasRange, profileOf, floatAt, boundsOf, projectionsOf}
-use Rattle.packed.specs.Layout.{pairsOf, radiiStart, radiiLength, indicesUsed, recordLength, radiiBytes, indicesBytes, signsBytes, headerOf}
+use Rattle.packed.specs.Fields.{mapOf, hasRange, profileOf, floatAt, boundsOf}
+use Rattle.packed.specs.Layout.{pairsOf, radiiStart, radiiLength, recordLength, radiiBytes, headerOf}
 use Rattle.packed.specs.Radii.{badBounds, badBoundsFor}
-use Rattle.packed.specs.Reading.{radiiOf, wrongSize, headerChecks, readRecordOf}
+use Rattle.packed.specs.Reading.{radiiOf, wrongSize, headerChecks, paddingChecks, readRecordOf}
 use Rattle.packed.proofs.Parts.{length-radii}
 use Rattle.packed.proofs.Payloads.{length-radiiOf}
 use Rattle.packed_laws.proofs.Ranges.{zero-fits}
@@ -77,9 +76,8 @@ pub linear-refused : (bytes : List ℕ) → Below 256 bytes → hasRange (mapOf 
 unfolding readRecordOf
 linear-refused bytes b linear p told =
     let before = headerChecks bytes ++ (wrongSize (differs (length bytes) (recordLength bytes)) bytes ∷ check (badBoundsFor (profileOf (mapOf bytes)) (boundsOf bytes)) 17 0 ∷ []) in
-    let behind = wrongPadding (indicesBytes bytes) (indicesUsed bytes) ∷ wrongPadding (signsBytes bytes) (projectionsOf bytes) ∷ [] in
     let bad = place badRadius (radiiOf bytes) in
-    let found = refused-here (headerOf bytes) before (ltb bad (length (radiiOf bytes))) 16 bad behind (tt, (tt, (tt, (tt, (tt, (tt, (tt, (tt, (tt, (tt, tt)))))))))) (tt, (tt, tt)) told in
+    let found = refused-here (headerOf bytes) before (ltb bad (length (radiiOf bytes))) 16 bad (paddingChecks bytes) (tt, (tt, (tt, (tt, (tt, (tt, (tt, (tt, (tt, (tt, tt)))))))))) (tt, (tt, tt)) told in
     let passed = found .0 .1 .1 .1 .1 .1 .1 .1 .1 in
     let below : bad < length (radiiOf bytes) = ltb-true bad (length (radiiOf bytes)) (found .1 .0) in
     let sized : length bytes ≡ recordLength bytes = differs-same (length bytes) (recordLength bytes) (passed .0) in

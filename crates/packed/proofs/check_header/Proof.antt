@@ -19,6 +19,12 @@ use borrow.Author.Needs.{needs}
 use Rattle.packed.proofs.check_header.Statement.{statement}
 use Rattle.packed.proofs.check_header.Tie as tie
 
+returns : tie.Need-returns
+returns c = simp (lt-ltb _ _ (c .if1 .taken))
+
+returns-2 : tie.Need-returns-2
+returns-2 c = simp (le-ltb _ _ (c .before .before .if1 .left), lt-ltb _ _ (c .if2 .taken))
+
 -- at the check of dimension and bits, the two checks before it have passed
 long : (c : tie.After-check-shape) → ltb (length (now (c .before .before .before .before .before .before .before .before .args .bytes))) 6 ≡ false
 long c = le-ltb _ _ (c .before .before .before .before .before .before .if1 .left)
@@ -56,17 +62,11 @@ passed c =
 asked : (c : tie.After-outside-projections) → let bytes = now (c .before .before .before .before .before .before .before .before .before .before .before .before .before .before .before .args .bytes) in c .outside-projections .result ≡ badProjections (modeOf (mapOf bytes)) (projectionsOf bytes)
 asked c = c .outside-projections .ensures ∙ rw (c .before .mode-of2 .ensures, c .before .before .projections-of .ensures)
 
-returns : tie.Need-returns
-returns c = simp (lt-ltb _ _ (c .if1 .taken))
-
 shared-slice-read-map : tie.Need-shared-slice-read-map
 shared-slice-read-map c = search needs
 
 cast-t11 : tie.Need-cast-t11
 cast-t11 c = omega (arith, c .before .shared-slice-known2 .given 0)
-
-returns-2 : tie.Need-returns-2
-returns-2 c = simp (le-ltb _ _ (c .before .before .if1 .left), lt-ltb _ _ (c .if2 .taken))
 
 mode-of-requires : tie.Need-mode-of-requires
 mode-of-requires c κs = search needs
