@@ -1,5 +1,5 @@
--- Scoring by a prepared query equals scoring by the query: what `prepare_query` leaves passes the checks of a prepared query, and the score is the same.
--- Assumes nothing.
+-- Scoring by a prepared query equals scoring by the query: what `prepare_query` answers passes the checks of a prepared query, and the score is the same.
+-- So demand 3 holds of it too. Assumes nothing.
 use Prim.Native.Nat.{ℕ}
 use mathlib.Core.Path.{_≡_, sym, ap, _∙_}
 use mathlib.Core.List.{List, [], _∷_}
@@ -10,13 +10,13 @@ use Rattle.error.specs.Answer.{value, first, each, accepted}
 use Rattle.error.specs.Checks.{wrongInput, wrongRoom, badValue}
 use Rattle.error.proofs.Chains.{first-passes, first-accepts, first-clear, first-value, append-left, append-right}
 use Rattle.bitpack.proofs.Differs.{differs-not}
-use Rattle.rounding.specs.Sums.{products}
+use Rattle.rounding.specs.Sums.{products, AllFit}
 use Rattle.rounding.specs.Butterfly.{stages}
 use Rattle.float.specs.Constants.{posZero}
 use Rattle.rounding.proofs.Lists.{length-products}
 use Rattle.rounding.proofs.Butterflies.{stages-length}
 use Rattle.rotation.specs.Rotation.{inverseRoot, scaled, hadamardOf, rotated}
-use Rattle.setup.specs.Lent.{Lent}
+use Rattle.setup.specs.Lent.{Lent, lent}
 use Rattle.setup.specs.declared.Setup.{Setup}
 use Rattle.setup.specs.Setups.{countedProjectionsOf}
 use Rattle.setup.specs.Checks.{setupChecks}
@@ -25,6 +25,8 @@ use Rattle.qjl.specs.Sketch.{vectorChecks}
 use Rattle.qjl.proofs.Answers.{vector-setup, vector-rowed}
 use Rattle.turbo_query.specs.Query.{rotatedQuery, projectedQuery, preparedChecks, queryChecks, prepareChecks, prepareRotatedOf, prepareProjectedOf}
 use Rattle.turbo.specs.Estimates.{readyChecks, innerProductEstimateOf, innerProductEstimatePreparedOf, lengthsAndValues}
+use Rattle.turbo.specs.Prepared.{IsPrepared, Prepared}
+use Rattle.turbo.proofs.Demand.{demand}
 use Rattle.turbo.proofs.Answers.{estimate-passed, ready-rest, prepared-passed}
 use Rattle.rounding.proofs.Rows.{projected-length}
 
@@ -63,18 +65,32 @@ module _ (s : Setup) (l : Lent) (query : List Float) (passed : first (queryCheck
   estimate-equal-prepared bytes =
       prepared-passed s (l .directions) (rotatedQuery s l query) (projectedQuery s l query) bytes passed-ready ∙ sym (estimate-passed s l query bytes passed)
 
--- So do the lists that a call of `prepare_query` left in memory.
-pub estimate-equal-left : (s : Setup) (l : Lent) (query : List Float) (room space : ℕ) {xs ys : List Float}
-    → prepareRotatedOf s l query room space ≡ value xs
-    → prepareProjectedOf s l query room space ≡ value ys
-    → (bytes : List ℕ) → innerProductEstimatePreparedOf s (l .directions) xs ys bytes ≡ innerProductEstimateOf s l query bytes
-unfolding prepareRotatedOf prepareProjectedOf
-estimate-equal-left s l query room space {xs} {ys} e f bytes =
-    let checks = prepareChecks s l query room space in
-    let clear = first-clear checks (value (rotatedQuery s l query)) e in
-    let passed = append-left (queryChecks s l query) (wrongRoom room (s .dim) ∷ wrongRoom space (countedProjectionsOf s) ∷ []) accepted clear in
-    let same-rotated = first-value checks (rotatedQuery s l query) e in
-    let same-projected = first-value checks (projectedQuery s l query) f in
-    ap (λ (ts : List Float). innerProductEstimatePreparedOf s (l .directions) ts ys bytes) (sym same-rotated)
-    ∙ ap (λ (rs : List Float). innerProductEstimatePreparedOf s (l .directions) (rotatedQuery s l query) rs bytes) (sym same-projected)
-    ∙ estimate-equal-prepared s l query passed bytes
+-- So do the lists that `prepare_query` has answered, and demand 3 is that of the query.
+module _ (s : Setup) (l : Lent) (query : List Float) {xs ys : List Float} (prepared : IsPrepared s l query xs ys) where
+  prepared-clear : first (prepareChecks s l query (prepared .room) (prepared .space)) accepted ≡ accepted
+  unfolding prepareRotatedOf
+  prepared-clear = first-clear (prepareChecks s l query (prepared .room) (prepared .space)) (value (rotatedQuery s l query)) (prepared .rotated-is)
+
+  prepared-query : first (queryChecks s l query) accepted ≡ accepted
+  prepared-query = append-left (queryChecks s l query) (wrongRoom (prepared .room) (s .dim) ∷ wrongRoom (prepared .space) (countedProjectionsOf s) ∷ []) accepted prepared-clear
+
+  prepared-rotated : rotatedQuery s l query ≡ xs
+  unfolding prepareRotatedOf
+  prepared-rotated = first-value (prepareChecks s l query (prepared .room) (prepared .space)) (rotatedQuery s l query) (prepared .rotated-is)
+
+  prepared-projected : projectedQuery s l query ≡ ys
+  unfolding prepareProjectedOf
+  prepared-projected = first-value (prepareChecks s l query (prepared .room) (prepared .space)) (projectedQuery s l query) (prepared .projected-is)
+
+  estimate-equal-left : (bytes : List ℕ) → innerProductEstimatePreparedOf s (l .directions) xs ys bytes ≡ innerProductEstimateOf s l query bytes
+  estimate-equal-left bytes =
+      ap (λ (ts : List Float). innerProductEstimatePreparedOf s (l .directions) ts ys bytes) (sym prepared-rotated)
+      ∙ ap (λ (rs : List Float). innerProductEstimatePreparedOf s (l .directions) (rotatedQuery s l query) rs bytes) (sym prepared-projected)
+      ∙ estimate-equal-prepared s l query prepared-query bytes
+
+pub prepared-stands : (s : Setup) (directions rotated projected : List Float) → AllFit directions → Prepared s directions rotated projected
+prepared-stands s directions rotated projected fit =
+    record {
+      same = λ signs matrix query prepared bytes. estimate-equal-left s (lent signs directions matrix) query prepared bytes;
+      demanded = λ signs matrix query prepared signs-fit matrix-fit query-fit. demand s (lent signs directions matrix) query signs-fit fit matrix-fit query-fit;
+    }

@@ -27,6 +27,7 @@ ghost use Rattle.turbo.specs.Estimates.{innerProductEstimateOf, saysPhas
 ghost use Rattle.turbo.specs.Distance.{squaredNorm, cutAtZero, l2DistanceEstimateOf};
 ghost use Rattle.turbo.specs.Inner.{saysMeasured, HeaderRead, joined, recordScoreOf};
 ghost use Rattle.turbo.specs.Order.{Demand};
+ghost use Rattle.turbo.specs.Prepared.{Prepared};
 
 // A score with its value, or a refusal with its phase: before the record is read, or from its reading on.
 pub enum Phased {
@@ -79,7 +80,8 @@ pub fn inner_product_estimate_prepared(
     projected: &[f32],
     bytes: &[u8],
 ) -> Scored
-    ensures { λ r. ⌜ saysScore r ≡ innerProductEstimatePreparedOf setup (now (directions .entry)) (now (rotated .entry)) (now (projected .entry)) (now (bytes .entry)) ⌝ }
+    ensures said { λ r. ⌜ saysScore r ≡ innerProductEstimatePreparedOf setup (now (directions .entry)) (now (rotated .entry)) (now (projected .entry)) (now (bytes .entry)) ⌝ }
+    ensures ordered { λ r. ⌜ Prepared setup (now (directions .entry)) (now (rotated .entry)) (now (projected .entry)) ⌝ }
 {
     let checked = check_prepared(setup, directions, rotated, projected);
     if let Outcome::Refused { number, place } = checked {

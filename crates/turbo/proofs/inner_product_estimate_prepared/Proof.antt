@@ -1,11 +1,22 @@
--- `turbo::inner_product_estimate_prepared` meets its contract: a prepared query that passes its checks is scored. Assumes nothing.
+-- `turbo::inner_product_estimate_prepared` meets its contract: a prepared query that passes its checks is scored, and demand 3 asks only
+-- that the lent floats are f32. Assumes nothing.
 use mathlib.Core.Path.{sym, ap, _∙_}
 use borrow.Author.Needs.{needs}
+use lib.Ieee.{nan}
 use Rattle.error.specs.Outcomes.{says}
+use Rattle.rounding.proofs.Folds.{all-fit-from}
+use Rattle.turbo.specs.Prepared.{Prepared}
 use Rattle.turbo.specs.Inner.{joined}
 use Rattle.turbo.proofs.Answers.{prepared-refused, prepared-passed, ready-usable}
+use Rattle.turbo.proofs.Prepared.{prepared-stands}
 use Rattle.turbo.proofs.inner_product_estimate_prepared.Statement.{statement}
 use Rattle.turbo.proofs.inner_product_estimate_prepared.Tie as tie
+
+-- the lent directions are f32
+stands : (c : tie.After-shared-slice-known4) → let a = c .before .before .before .before .args in Prepared (a .setup) (a .directions .now) (a .rotated .now) (a .projected .now)
+stands c =
+    let a = c .before .before .before .before .args in
+    prepared-stands (a .setup) (a .directions .now) (a .rotated .now) (a .projected .now) (all-fit-from (a .directions .now) nan (λ j h. c .before .before .before .shared-slice-known .given j))
 
 check-prepared-requires : tie.Need-check-prepared-requires
 check-prepared-requires c κs = search needs
@@ -16,7 +27,7 @@ enum-known-checked c = search needs
 returns : tie.Need-returns
 returns c =
     let a = c .before .before .before .before .before .before .before .before .args in
-    sym (prepared-refused (a .setup) (a .directions .now) (a .rotated .now) (a .projected .now) (a .bytes .now) (sym (c .before .before .before .check-prepared .ensures) ∙ ap says (c .before .checked .given .1)))
+    (sym (prepared-refused (a .setup) (a .directions .now) (a .rotated .now) (a .projected .now) (a .bytes .now) (sym (c .before .before .before .check-prepared .ensures) ∙ ap says (c .before .checked .given .1))), stands (c .before .before .before .before))
 
 enum-told : tie.Need-enum-told
 enum-told c = search needs
@@ -35,10 +46,12 @@ without-phase-requires c κs = search needs
 returns-2 : tie.Need-returns-2
 returns-2 c =
     let t = c .before .before .before in
-    let a = t .before .before .before .before .before .before .before .args in
-    c .without-phase .ensures
-    ∙ ap joined (c .before .without-header .ensures ∙ c .before .before .record-score .ensures .0)
-    ∙ sym (prepared-passed (a .setup) (a .directions .now) (a .rotated .now) (a .projected .now) (a .bytes .now) (sym (t .before .before .check-prepared .ensures) ∙ ap says (t .enum-told .given .1)))
+    let a = t .before .before .before .before .before .before .before .args in (
+      c .without-phase .ensures
+          ∙ ap joined (c .before .without-header .ensures ∙ c .before .before .record-score .ensures .0)
+          ∙ sym (prepared-passed (a .setup) (a .directions .now) (a .rotated .now) (a .projected .now) (a .bytes .now) (sym (t .before .before .check-prepared .ensures) ∙ ap says (t .enum-told .given .1))),
+      stands (t .before .before .before),
+    )
 
 pub inner-product-estimate-prepared-spec : {M : Type 1} → statement M
 inner-product-estimate-prepared-spec =

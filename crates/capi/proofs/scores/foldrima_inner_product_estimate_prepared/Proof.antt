@@ -20,7 +20,7 @@ tell-score-requires c κs = search needs
 returns : tie.Need-returns
 returns c =
     let a = c .before .before .before .before .before .before .before .before .before .before .args in
-    let e = c .before .before .before .before .inner-product-estimate-prepared .ensures ∙ ap (λ (s : Setup). innerProductEstimatePreparedOf s (now (a .directions)) (now (a .rotated)) (now (a .projected)) (now (a .bytes))) (c .before .before .before .before .before .setup .ensures) in
+    let e = c .before .before .before .before .inner-product-estimate-prepared .ensures .0 ∙ ap (λ (s : Setup). innerProductEstimatePreparedOf s (now (a .directions)) (now (a .rotated)) (now (a .projected)) (now (a .bytes))) (c .before .before .before .before .before .setup .ensures) in
     (told-as (c .tell-score .ensures .0) e, left-as (now (a .value)) (c .tell-score .ensures .1) e)
 
 pub foldrima-inner-product-estimate-prepared-spec : {M : Type 1} → statement M
