@@ -5,14 +5,15 @@ use mathlib.Core.Path.{_≡_, sym, ap, _∙_}
 use mathlib.Core.List.{List, [], _∷_}
 use lib.Count.{trailingZeros}
 use lib.ListN.{length, length-map}
-use lib.Ieee.{Float, binary32, add, sub, mul}
+use lib.Ieee.{Float, nan, binary32, add, sub, mul}
 use Rattle.error.specs.Answer.{value, first, each, accepted}
 use Rattle.error.specs.Checks.{wrongInput, wrongRoom, badValue}
 use Rattle.error.proofs.Chains.{first-passes, first-accepts, first-clear, first-value, append-left, append-right}
 use Rattle.bitpack.proofs.Differs.{differs-not}
-use Rattle.rounding.specs.Sums.{products, AllFit}
+use Rattle.rounding.specs.Sums.{products}
 use Rattle.rounding.specs.Butterfly.{stages}
 use Rattle.float.specs.Constants.{posZero}
+use Rattle.rounding.proofs.Folds.{all-fit-from}
 use Rattle.rounding.proofs.Lists.{length-products}
 use Rattle.rounding.proofs.Butterflies.{stages-length}
 use Rattle.rotation.specs.Rotation.{inverseRoot, scaled, hadamardOf, rotated}
@@ -25,7 +26,7 @@ use Rattle.qjl.specs.Sketch.{vectorChecks}
 use Rattle.qjl.proofs.Answers.{vector-setup, vector-rowed}
 use Rattle.turbo_query.specs.Query.{rotatedQuery, projectedQuery, preparedChecks, queryChecks, prepareChecks, prepareRotatedOf, prepareProjectedOf}
 use Rattle.turbo.specs.Estimates.{readyChecks, innerProductEstimateOf, innerProductEstimatePreparedOf, lengthsAndValues}
-use Rattle.turbo.specs.Prepared.{IsPrepared, Prepared}
+use Rattle.turbo.specs.Prepared.{AreF32, IsPrepared, Prepared}
 use Rattle.turbo.proofs.Demand.{demand}
 use Rattle.turbo.proofs.Answers.{estimate-passed, ready-rest, prepared-passed}
 use Rattle.rounding.proofs.Rows.{projected-length}
@@ -88,9 +89,10 @@ module _ (s : Setup) (l : Lent) (query : List Float) {xs ys : List Float} (prepa
       ∙ ap (λ (rs : List Float). innerProductEstimatePreparedOf s (l .directions) (rotatedQuery s l query) rs bytes) (sym prepared-projected)
       ∙ estimate-equal-prepared s l query prepared-query bytes
 
-pub prepared-stands : (s : Setup) (directions rotated projected : List Float) → AllFit directions → Prepared s directions rotated projected
+pub prepared-stands : (s : Setup) (directions rotated projected : List Float) → AreF32 directions → Prepared s directions rotated projected
 prepared-stands s directions rotated projected fit =
     record {
       same = λ signs matrix query prepared bytes. estimate-equal-left s (lent signs directions matrix) query prepared bytes;
-      demanded = λ signs matrix query prepared signs-fit matrix-fit query-fit. demand s (lent signs directions matrix) query signs-fit fit matrix-fit query-fit;
+      demanded = λ signs matrix query prepared signs-fit matrix-fit query-fit.
+          demand s (lent signs directions matrix) query (all-fit-from signs nan signs-fit) (all-fit-from directions nan fit) (all-fit-from matrix nan matrix-fit) (all-fit-from query nan query-fit);
     }

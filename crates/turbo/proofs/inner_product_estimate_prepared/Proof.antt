@@ -2,9 +2,7 @@
 -- that the lent floats are f32. Assumes nothing.
 use mathlib.Core.Path.{sym, ap, _∙_}
 use borrow.Author.Needs.{needs}
-use lib.Ieee.{nan}
 use Rattle.error.specs.Outcomes.{says}
-use Rattle.rounding.proofs.Folds.{all-fit-from}
 use Rattle.turbo.specs.Prepared.{Prepared}
 use Rattle.turbo.specs.Inner.{joined}
 use Rattle.turbo.proofs.Answers.{prepared-refused, prepared-passed, ready-usable}
@@ -16,7 +14,7 @@ use Rattle.turbo.proofs.inner_product_estimate_prepared.Tie as tie
 stands : (c : tie.After-shared-slice-known4) → let a = c .before .before .before .before .args in Prepared (a .setup) (a .directions .now) (a .rotated .now) (a .projected .now)
 stands c =
     let a = c .before .before .before .before .args in
-    prepared-stands (a .setup) (a .directions .now) (a .rotated .now) (a .projected .now) (all-fit-from (a .directions .now) nan (λ j h. c .before .before .before .shared-slice-known .given j))
+    prepared-stands (a .setup) (a .directions .now) (a .rotated .now) (a .projected .now) (λ j h. c .before .before .before .shared-slice-known .given j)
 
 check-prepared-requires : tie.Need-check-prepared-requires
 check-prepared-requires c κs = search needs
