@@ -37,7 +37,7 @@ use Rattle.packed.specs.Reading.{recordChecks, readRecordOf, readRadiiOf, readI
 use Rattle.packed_size.specs.Size.{neededFor, codeChecks, recordSizeOf}
 use Rattle.packed_writing.specs.Writing.{fieldChecks, valueChecks, writeRecordOf}
 use Rattle.turbo_query.specs.Query.{prepareChecks, prepareRotatedOf}
-use Rattle.turbo.specs.Scoring.{recordScoreChecks}
+use Rattle.turbo.specs.Scoring.{recordScore, readingChecks}
 use Rattle.turbo.specs.Estimates.{estimateChecks, innerProductEstimateOf, readyChecks, innerProductEstimatePreparedOf}
 use Rattle.turbo.specs.Distance.{distance, l2DistanceEstimateOf}
 use Rattle.turbo_decode.specs.Decode.{decodeChecks, decodeApproximateOf}
@@ -218,4 +218,4 @@ module _ (s : Setup) (l : Lent) (query : List Float) (bytes : List ℕ) where
 pub estimate-prepared-numbered : (s : Setup) (directions rotated values : List Float) (bytes : List ℕ) → Numbered (innerProductEstimatePreparedOf s directions rotated values bytes)
 unfolding innerProductEstimatePreparedOf
 estimate-prepared-numbered s directions rotated values bytes =
-    chain (readyChecks s directions rotated values ++ recordScoreChecks s directions rotated values bytes) _ refl
+    chain (readyChecks s directions rotated values ++ readingChecks s bytes (recordScore s directions rotated values bytes)) _ refl

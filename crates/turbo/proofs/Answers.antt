@@ -22,10 +22,10 @@ use Rattle.qjl.specs.Sketch.{vectorChecks}
 use Rattle.packed.specs.Reading.{radiiOf, signsOf}
 use Rattle.turbo_order.specs.Scores.{accountOf, polarPart, scoreFrom, scoreOf}
 use Rattle.turbo_query.specs.Query.{rotatedQuery, projectedQuery, preparedChecks, queryChecks, prepareChecks, prepareRotatedOf, prepareProjectedOf}
-use Rattle.turbo_opening.specs.Opening.{contentOf, openChecks}
-use Rattle.turbo.specs.Scoring.{recordScore, recordScoreChecks}
+use Rattle.turbo_opening.specs.Opening.{contentOf}
+use Rattle.turbo.specs.Scoring.{recordScore, readingChecks}
 use Rattle.turbo.specs.Inner.{joined, recordScoreOf}
-use Rattle.turbo.specs.Estimates.{readingChecks, innerProductEstimatePhasedOf, estimate, scoredChecks, estimateChecks, innerProductEstimateOf, readyChecks, innerProductEstimatePreparedOf, lengthsAndValues}
+use Rattle.turbo.specs.Estimates.{innerProductEstimatePhasedOf, estimate, estimateChecks, innerProductEstimateOf, readyChecks, innerProductEstimatePreparedOf, lengthsAndValues}
 use Rattle.turbo.specs.Distance.{distanceSum, cutAtZero, distance, l2DistanceEstimateOf}
 use Rattle.turbo.proofs.Demand.{scored-estimate}
 
@@ -60,17 +60,14 @@ module _ (s : Setup) (l : Lent) (query : List Float) (bytes : List ℕ) where
   unfolding innerProductEstimatePhasedOf recordScoreOf
   phased-passed e =
       first-passed (queryChecks s l query) _ e
-      ∙ ap (λ (x : Float). value (first (openChecks s bytes ++ (wrongScore x ∷ [])) (value x))) estimate-record
+      ∙ ap (λ (x : Float). value (first (readingChecks s bytes x) (value x))) estimate-record
 
   -- without the phase it is the estimate
   pub phased-joined : joined (innerProductEstimatePhasedOf s l query bytes) ≡ innerProductEstimateOf s l query bytes
   unfolding innerProductEstimatePhasedOf innerProductEstimateOf
   phased-joined =
-      let last = first (wrongScore (estimate s l query bytes) ∷ []) (value (estimate s l query bytes)) in
-      joined-first (queryChecks s l query) (first (readingChecks s l query bytes) (value (estimate s l query bytes)))
-      ∙ ap (first (queryChecks s l query)) (first-append (openChecks s bytes) (wrongScore (estimate s l query bytes) ∷ []) (value (estimate s l query bytes)))
-      ∙ sym (first-append (queryChecks s l query) (openChecks s bytes) last)
-      ∙ sym (first-append (scoredChecks s l query bytes) (wrongScore (estimate s l query bytes) ∷ []) (value (estimate s l query bytes)))
+      joined-first (queryChecks s l query) (first (readingChecks s bytes (estimate s l query bytes)) (value (estimate s l query bytes)))
+      ∙ sym (first-append (queryChecks s l query) (readingChecks s bytes (estimate s l query bytes)) (value (estimate s l query bytes)))
 
   pub estimate-passed : first (queryChecks s l query) accepted ≡ accepted
       → innerProductEstimateOf s l query bytes ≡ recordScoreOf s (l .directions) (rotatedQuery s l query) (projectedQuery s l query) bytes
@@ -153,11 +150,11 @@ module _ (s : Setup) (directions rotated projected : List Float) where
   module _ (bytes : List ℕ) where
     pub prepared-refused : {n p : ℕ} → first (readyChecks s directions rotated projected) accepted ≡ refused n p → innerProductEstimatePreparedOf s directions rotated projected bytes ≡ refused n p
     unfolding innerProductEstimatePreparedOf
-    prepared-refused e = append-refused (readyChecks s directions rotated projected) (recordScoreChecks s directions rotated projected bytes) tt (value (recordScore s directions rotated projected bytes)) e
+    prepared-refused e = append-refused (readyChecks s directions rotated projected) (readingChecks s bytes (recordScore s directions rotated projected bytes)) tt (value (recordScore s directions rotated projected bytes)) e
 
     pub prepared-passed : first (readyChecks s directions rotated projected) accepted ≡ accepted → innerProductEstimatePreparedOf s directions rotated projected bytes ≡ recordScoreOf s directions rotated projected bytes
     unfolding innerProductEstimatePreparedOf recordScoreOf
-    prepared-passed e = append-passed (readyChecks s directions rotated projected) (recordScoreChecks s directions rotated projected bytes) tt (value (recordScore s directions rotated projected bytes)) e
+    prepared-passed e = append-passed (readyChecks s directions rotated projected) (readingChecks s bytes (recordScore s directions rotated projected bytes)) tt (value (recordScore s directions rotated projected bytes)) e
 
 -- ---- the distance
 

@@ -2,7 +2,7 @@
 -- lent floats are f32. Assumes nothing.
 use Prim.Native.Nat.{ℕ, _+_, _*_}
 use mathlib.Core.Path.{_≡_, _∙_, subst}
-use mathlib.Core.List.{List, [], _∷_, _++_}
+use mathlib.Core.List.{List, [], _∷_}
 use native.Mathlib.Omega.{arith}
 use borrow.Author.Tests.{not-false}
 use lib.Dec.{T}
@@ -31,46 +31,44 @@ use Rattle.turbo_query.specs.Query.{preparedChecks, queryChecks}
 use Rattle.turbo_opening.specs.Opening.{contentOf, openChecks}
 use Rattle.turbo_opening.specs.Inner.{openedOf}
 use Rattle.turbo_opening.proofs.Answers.{opened-accepted, opened-dim, opened-projections}
-use Rattle.turbo.specs.Estimates.{estimate, scoredChecks, innerProductEstimateOf}
+use Rattle.turbo.specs.Scoring.{readingChecks}
+use Rattle.turbo.specs.Estimates.{estimate, estimateChecks, innerProductEstimateOf}
 use Rattle.turbo.specs.Order.{IsScored, atScale, exactOf, boundFor, Demand}
 
 -- ---- a record that is scored
 
 module _ (s : Setup) (l : Lent) (query : List Float) (bytes : List ℕ) {x : Float} (scored : IsScored s l query bytes x) where
-  scored-clear : first (scoredChecks s l query bytes) accepted ≡ accepted
-  unfolding innerProductEstimateOf
-  scored-clear = append-left (scoredChecks s l query bytes) (wrongScore (estimate s l query bytes) ∷ []) (value (estimate s l query bytes)) scored
-
   -- the checks of the setup and the query pass
-  pub scored-query : first (queryChecks s l query) accepted ≡ accepted
-  scored-query = append-left (queryChecks s l query) (openChecks s bytes) accepted scored-clear
+  scored-query : first (queryChecks s l query) accepted ≡ accepted
+  unfolding innerProductEstimateOf
+  scored-query = append-left (queryChecks s l query) (readingChecks s bytes (estimate s l query bytes)) (value (estimate s l query bytes)) scored
 
   scored-vector : first (vectorChecks s l query) accepted ≡ accepted
   scored-vector = append-left (vectorChecks s l query) (preparedChecks s l query) accepted scored-query
 
-  -- and those of the record
-  scored-opened : first (openChecks s bytes) accepted ≡ accepted
-  scored-opened = append-right (queryChecks s l query) (openChecks s bytes) accepted scored-clear
+  -- and those from record reading on
+  scored-reading : first (readingChecks s bytes (estimate s l query bytes)) (value (estimate s l query bytes)) ≡ value x
+  unfolding innerProductEstimateOf
+  scored-reading = append-right (queryChecks s l query) (readingChecks s bytes (estimate s l query bytes)) (value (estimate s l query bytes)) scored
 
   -- the record is opened, which needs every check of the reader
   pub scored-open : openedOf s bytes ≡ value (headerOf bytes)
   unfolding openedOf
-  scored-open = first-passed (openChecks s bytes) (value (headerOf bytes)) scored-opened
+  scored-open = first-passed (openChecks s bytes) (value (headerOf bytes)) (append-left (openChecks s bytes) (wrongScore (estimate s l query bytes) ∷ []) (value (estimate s l query bytes)) scored-reading)
 
   -- two coordinates for each radius
-  scored-pairs : 2 * length (radiiOf bytes) ≡ s .dim
+  pub scored-pairs : 2 * length (radiiOf bytes) ≡ s .dim
   scored-pairs = omega (arith, length-radiiOf bytes, opened-accepted s bytes scored-open .even, opened-dim s bytes scored-open)
 
   -- what is answered is the record's score
   pub scored-estimate : estimate s l query bytes ≡ x
   unfolding innerProductEstimateOf
-  scored-estimate = first-value (scoredChecks s l query bytes ++ (wrongScore (estimate s l query bytes) ∷ [])) (estimate s l query bytes) scored
+  scored-estimate = first-value (estimateChecks s l query bytes) (estimate s l query bytes) scored
 
   -- '12: a score .. is not finite' is not answered
   pub scored-finite : T (finite (estimate s l query bytes))
-  unfolding innerProductEstimateOf
   scored-finite =
-      let last = append-right (scoredChecks s l query bytes) (wrongScore (estimate s l query bytes) ∷ []) (value (estimate s l query bytes)) scored in
+      let last = append-right (openChecks s bytes) (wrongScore (estimate s l query bytes) ∷ []) (value (estimate s l query bytes)) scored-reading in
       let known = not-false (finite (estimate s l query bytes)) (first-passes (wrongScore (estimate s l query bytes) ∷ []) (estimate s l query bytes) last .0) in
       rw known tt
 

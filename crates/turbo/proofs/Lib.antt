@@ -2,4 +2,5 @@ pub mod Scoring
 pub mod Demand
 pub mod Answers
 pub mod Prepared
+pub mod Front
 pub mod Norms

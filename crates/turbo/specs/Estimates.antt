@@ -5,17 +5,17 @@ use mathlib.Core.List.{List, [], _∷_, _++_}
 use lib.ListN.{length}
 use lib.Ieee.{Float}
 use Rattle.error.specs.Answer.{Answer, value, refused, Check, first, each}
-use Rattle.error.specs.Checks.{wrongInput, badValue, wrongScore}
+use Rattle.error.specs.Checks.{wrongInput, badValue}
 use Rattle.setup.specs.Lent.{Lent}
 use Rattle.setup.specs.declared.Setup.{Setup}
 use Rattle.setup.specs.Setups.{countedProjectionsOf}
 use Rattle.setup.specs.Checks.{scalarChecks, directionChecks}
 use Rattle.turbo_order.specs.Scores.{scoreOf}
 use Rattle.turbo_query.specs.Query.{queryChecks}
-use Rattle.turbo_opening.specs.Opening.{contentOf, openChecks}
+use Rattle.turbo_opening.specs.Opening.{contentOf}
 use Rattle.turbo.specs.declared.Phased.{Phased}
 use Rattle.turbo.specs.declared.Phased.the-variants.{Score, BeforeReading, FromReading}
-use Rattle.turbo.specs.Scoring.{recordScore, recordScoreChecks}
+use Rattle.turbo.specs.Scoring.{recordScore, readingChecks}
 
 -- ---- by a query
 
@@ -23,13 +23,9 @@ use Rattle.turbo.specs.Scoring.{recordScore, recordScoreChecks}
 abbrev pub estimate : Setup → Lent → List Float → List ℕ → Float
 estimate s l query bytes = scoreOf s l query (contentOf bytes)
 
--- 'setup, query length 5, query 11, rotated 11, projected 11, record reading, 5, 20'
-abbrev pub scoredChecks : Setup → Lent → List Float → List ℕ → List Check
-scoredChecks s l query bytes = queryChecks s l query ++ openChecks s bytes
-
--- '.. then 12'
+-- 'setup, query length 5, query 11, rotated 11, projected 11, record reading, 5, 20, then 12'
 abbrev pub estimateChecks : Setup → Lent → List Float → List ℕ → List Check
-estimateChecks s l query bytes = scoredChecks s l query bytes ++ (wrongScore (estimate s l query bytes) ∷ [])
+estimateChecks s l query bytes = queryChecks s l query ++ readingChecks s bytes (estimate s l query bytes)
 
 unfoldable pub innerProductEstimateOf : Setup → Lent → List Float → List ℕ → Answer Float
 innerProductEstimateOf s l query bytes = first (estimateChecks s l query bytes) (value (estimate s l query bytes))
@@ -42,12 +38,8 @@ saysPhased (Score x) = value (value x)
 saysPhased (BeforeReading n p) = refused n p
 saysPhased (FromReading n p) = value (refused n p)
 
--- 'record reading, 5, 20, then 12'
-abbrev pub readingChecks : Setup → Lent → List Float → List ℕ → List Check
-readingChecks s l query bytes = openChecks s bytes ++ (wrongScore (estimate s l query bytes) ∷ [])
-
 unfoldable pub innerProductEstimatePhasedOf : Setup → Lent → List Float → List ℕ → Answer (Answer Float)
-innerProductEstimatePhasedOf s l query bytes = first (queryChecks s l query) (value (first (readingChecks s l query bytes) (value (estimate s l query bytes))))
+innerProductEstimatePhasedOf s l query bytes = first (queryChecks s l query) (value (first (readingChecks s bytes (estimate s l query bytes)) (value (estimate s l query bytes))))
 
 -- ---- by a prepared query, which needs neither signs nor matrix
 
@@ -66,4 +58,4 @@ readyChecks s directions rotated projected = scalarChecks s ++ directionChecks s
 
 unfoldable pub innerProductEstimatePreparedOf : Setup → List Float → List Float → List Float → List ℕ → Answer Float
 innerProductEstimatePreparedOf s directions rotated projected bytes =
-    first (readyChecks s directions rotated projected ++ recordScoreChecks s directions rotated projected bytes) (value (recordScore s directions rotated projected bytes))
+    first (readyChecks s directions rotated projected ++ readingChecks s bytes (recordScore s directions rotated projected bytes)) (value (recordScore s directions rotated projected bytes))

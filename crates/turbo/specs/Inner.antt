@@ -2,25 +2,24 @@
 use Prim.Native.Nat.{ℕ}
 use mathlib.Core.Path.{_≡_}
 use mathlib.Core.List.{List}
+use lib.ListN.{length, take}
 use lib.Ieee.{Float}
 use Rattle.error.specs.Answer.{Answer, value, refused, first}
 use Rattle.setup.specs.declared.Setup.{Setup}
-use Rattle.packed.specs.Reading.{readRecordOf}
-use Rattle.turbo.specs.declared.Measured.{Measured}
-use Rattle.turbo.specs.declared.Measured.the-variants.{Score, BeforeReading, FromReading}
-use Rattle.turbo.specs.Scoring.{recordScore, recordScoreChecks}
+use Rattle.packed.specs.Reading.{radiiOf}
+use Rattle.turbo.specs.declared.Phased.{Phased}
+use Rattle.turbo.specs.declared.Phased.the-variants.{Score, BeforeReading, FromReading}
+use Rattle.turbo.specs.Scoring.{recordScore, readingChecks}
 
--- the score, or a refusal with its phase
-abbrev pub saysMeasured : Measured → Answer (Answer Float)
-saysMeasured (Score x h) = value (value x)
-saysMeasured (BeforeReading n p) = refused n p
-saysMeasured (FromReading n p) = value (refused n p)
+-- the radii of a record stand in front of room that was lent for them
+abbrev pub RadiiInFront : List ℕ → List Float → Type 0
+RadiiInFront bytes room = take (length (radiiOf bytes)) room ≡ radiiOf bytes
 
--- the header beside a score is the one that was read from the record
-abbrev pub HeaderRead : Measured → List ℕ → Type 0
-HeaderRead (Score x h) bytes = readRecordOf bytes ≡ value h
-HeaderRead (BeforeReading n p) bytes = Unit {0}
-HeaderRead (FromReading n p) bytes = Unit {0}
+-- they do where a score is answered
+abbrev pub RadiiLeft : Phased → List ℕ → List Float → Type 0
+RadiiLeft (Score x) bytes room = RadiiInFront bytes room
+RadiiLeft (BeforeReading n p) bytes room = Unit {0}
+RadiiLeft (FromReading n p) bytes room = Unit {0}
 
 -- an answer without the phase of its refusal
 abbrev pub joined : {A : Type 0} → Answer (Answer A) → Answer A
@@ -29,4 +28,4 @@ joined (refused n p) = refused n p
 
 -- the answer from record reading on
 unfoldable pub recordScoreOf : Setup → List Float → List Float → List Float → List ℕ → Answer Float
-recordScoreOf s directions rotated projected bytes = first (recordScoreChecks s directions rotated projected bytes) (value (recordScore s directions rotated projected bytes))
+recordScoreOf s directions rotated projected bytes = first (readingChecks s bytes (recordScore s directions rotated projected bytes)) (value (recordScore s directions rotated projected bytes))

@@ -12,6 +12,6 @@ use Rattle.turbo_opening.specs.Opening.{contentOf, openChecks}
 abbrev pub recordScore : Setup → List Float → List Float → List Float → List ℕ → Float
 recordScore s directions rotated projected bytes = scoreFrom s directions rotated projected (contentOf bytes)
 
--- 'record reading, 5, 20, then 12'
-abbrev pub recordScoreChecks : Setup → List Float → List Float → List Float → List ℕ → List Check
-recordScoreChecks s directions rotated projected bytes = openChecks s bytes ++ (wrongScore (recordScore s directions rotated projected bytes) ∷ [])
+-- 'record reading, 5, 20, then 12', where the score is x
+abbrev pub readingChecks : Setup → List ℕ → Float → List Check
+readingChecks s bytes x = openChecks s bytes ++ (wrongScore x ∷ [])

@@ -13,6 +13,7 @@ use packed::Reading;
 use setup::Setup;
 use setup::TurboMode;
 ghost use mathlib.Core.Path.{_≡_};
+ghost use lib.ListN.{length};
 ghost use Rattle.error.specs.Answer.{value, first, accepted};
 ghost use Rattle.error.specs.Outcomes.{says, saysScore};
 ghost use Rattle.setup.specs.Lent.{lent};
@@ -25,20 +26,13 @@ ghost use Rattle.turbo_opening.specs.Inner.{openedOf};
 ghost use Rattle.turbo.specs.Scoring.{recordScore};
 ghost use Rattle.turbo.specs.Estimates.{innerProductEstimateOf, saysPhased, innerProductEstimatePhasedOf, readyChecks, innerProductEstimatePreparedOf, lengthsAndValues};
 ghost use Rattle.turbo.specs.Distance.{squaredNorm, cutAtZero, l2DistanceEstimateOf};
-ghost use Rattle.turbo.specs.Inner.{saysMeasured, HeaderRead, joined, recordScoreOf};
+ghost use Rattle.turbo.specs.Inner.{RadiiInFront, RadiiLeft, joined, recordScoreOf};
 ghost use Rattle.turbo.specs.Order.{Demand};
 ghost use Rattle.turbo.specs.Prepared.{Prepared};
 
 // A score with its value, or a refusal with its phase: before the record is read, or from its reading on.
 pub enum Phased {
     Score(f32),
-    BeforeReading { number: u32, place: usize },
-    FromReading { number: u32, place: usize },
-}
-
-// A score with its value and the header of its record, or a refusal with its phase.
-enum Measured {
-    Score { score: f32, header: Header },
     BeforeReading { number: u32, place: usize },
     FromReading { number: u32, place: usize },
 }
@@ -69,7 +63,8 @@ pub fn inner_product_estimate_phased(
 ) -> Phased
     ensures { λ r. ⌜ saysPhased r ≡ innerProductEstimatePhasedOf setup (lent (now (signs .entry)) (now (directions .entry)) (now (matrix .entry))) (now (query .entry)) (now (bytes .entry)) ⌝ }
 {
-    without_header(measure(setup, signs, directions, matrix, query, bytes))
+    let mut radii = no_radii();
+    measure(setup, signs, directions, matrix, query, bytes, &mut radii)
 }
 
 // The same by a query that is prepared, which needs neither signs nor matrix.
@@ -87,7 +82,8 @@ pub fn inner_product_estimate_prepared(
     if let Outcome::Refused { number, place } = checked {
         return Scored::Refused { number, place };
     }
-    without_phase(without_header(record_score(setup, directions, rotated, projected, bytes)))
+    let mut radii = no_radii();
+    without_phase(record_score(setup, directions, rotated, projected, bytes, &mut radii))
 }
 
 // The estimated squared distance of a query from the vector that a record stands for.
@@ -101,17 +97,18 @@ pub fn l2_distance_estimate(
 ) -> Scored
     ensures { λ r. ⌜ saysScore r ≡ l2DistanceEstimateOf setup (lent (now (signs .entry)) (now (directions .entry)) (now (matrix .entry))) (now (query .entry)) (now (bytes .entry)) ⌝ }
 {
-    match measure(setup, signs, directions, matrix, query, bytes) {
-        Measured::Score { score, header } => {
-            let norms = squared_norm(query) + radii_norm(bytes, header);
+    let pairs = setup.dim / 2;
+    let mut radii = no_radii();
+    match without_phase(measure(setup, signs, directions, matrix, query, bytes, &mut radii)) {
+        Scored::Score(score) => {
+            let norms = squared_norm(query) + squared_norm(&radii[0..pairs]);
             error::finite_score(cut_at_zero(norms - 2.0 * score))
         }
-        Measured::BeforeReading { number, place } => Scored::Refused { number, place },
-        Measured::FromReading { number, place } => Scored::Refused { number, place },
+        Scored::Refused { number, place } => Scored::Refused { number, place },
     }
 }
 
-// The score by a query, with the header that was read for it.
+// The score by a query; beside a score, the radii of the record are left in front of the room that is lent for them.
 fn measure(
     setup: Setup,
     signs: &[f32],
@@ -119,15 +116,16 @@ fn measure(
     matrix: &[f32],
     query: &[f32],
     bytes: &[u8],
-) -> Measured
-    ensures said { λ r. ⌜ saysMeasured r ≡ innerProductEstimatePhasedOf setup (lent (now (signs .entry)) (now (directions .entry)) (now (matrix .entry))) (now (query .entry)) (now (bytes .entry)) ⌝ }
-    ensures read { λ r. ⌜ HeaderRead r (now (bytes .entry)) ⌝ }
+    radii: &mut [f32],
+) -> Phased
+    requires { ⌜ length (now radii) ≡ 2048 ⌝ }
+    ensures said { λ r. ⌜ saysPhased r ≡ innerProductEstimatePhasedOf setup (lent (now (signs .entry)) (now (directions .entry)) (now (matrix .entry))) (now (query .entry)) (now (bytes .entry)) ⌝ }
+    ensures left { λ r. ⌜ RadiiLeft r (now (bytes .entry)) (now (radii .exit)) ⌝ }
 {
-    let checked = setup::check_scalars(setup);
-    if let Outcome::Refused { number, place } = checked {
-        return Measured::BeforeReading { number, place };
+    match setup::check_scalars(setup) {
+        Outcome::Done => measure_query(setup, signs, directions, matrix, query, bytes, radii),
+        Outcome::Refused { number, place } => Phased::BeforeReading { number, place },
     }
-    measure_query(setup, signs, directions, matrix, query, bytes)
 }
 
 // The same under a setup whose scalars have passed.
@@ -138,10 +136,11 @@ fn measure_query(
     matrix: &[f32],
     query: &[f32],
     bytes: &[u8],
-) -> Measured
-    requires { ⌜ first (scalarChecks setup) accepted ≡ accepted ⌝ }
-    ensures said { λ r. ⌜ saysMeasured r ≡ innerProductEstimatePhasedOf setup (lent (now (signs .entry)) (now (directions .entry)) (now (matrix .entry))) (now (query .entry)) (now (bytes .entry)) ⌝ }
-    ensures read { λ r. ⌜ HeaderRead r (now (bytes .entry)) ⌝ }
+    radii: &mut [f32],
+) -> Phased
+    requires { ⌜ (first (scalarChecks setup) accepted ≡ accepted) × (length (now radii) ≡ 2048) ⌝ }
+    ensures said { λ r. ⌜ saysPhased r ≡ innerProductEstimatePhasedOf setup (lent (now (signs .entry)) (now (directions .entry)) (now (matrix .entry))) (now (query .entry)) (now (bytes .entry)) ⌝ }
+    ensures left { λ r. ⌜ RadiiLeft r (now (bytes .entry)) (now (radii .exit)) ⌝ }
 {
     let dim = setup.dim;
     let rows = setup::counted_projections(setup);
@@ -157,7 +156,7 @@ fn measure_query(
         &mut projected[0..rows],
     );
     if let Outcome::Refused { number, place } = prepared {
-        return Measured::BeforeReading { number, place };
+        return Phased::BeforeReading { number, place };
     }
     record_score(
         setup,
@@ -165,6 +164,7 @@ fn measure_query(
         &rotated[0..dim],
         &projected[0..rows],
         bytes,
+        radii,
     )
 }
 
@@ -175,23 +175,24 @@ fn record_score(
     rotated: &[f32],
     projected: &[f32],
     bytes: &[u8],
-) -> Measured
-    requires { ⌜ first (scalarChecks setup) accepted ≡ accepted ⌝ }
-    ensures said { λ r. ⌜ saysMeasured r ≡ value (recordScoreOf setup (now (directions .entry)) (now (rotated .entry)) (now (projected .entry)) (now (bytes .entry))) ⌝ }
-    ensures read { λ r. ⌜ HeaderRead r (now (bytes .entry)) ⌝ }
+    radii: &mut [f32],
+) -> Phased
+    requires { ⌜ (first (scalarChecks setup) accepted ≡ accepted) × (length (now radii) ≡ 2048) ⌝ }
+    ensures said { λ r. ⌜ saysPhased r ≡ value (recordScoreOf setup (now (directions .entry)) (now (rotated .entry)) (now (projected .entry)) (now (bytes .entry))) ⌝ }
+    ensures left { λ r. ⌜ RadiiLeft r (now (bytes .entry)) (now (radii .exit)) ⌝ }
 {
     match turbo_opening::open_record(setup, bytes) {
         Reading::Read(header) => {
-            let score = opened_score(setup, directions, rotated, projected, bytes, header);
+            let score = opened_score(setup, directions, rotated, projected, bytes, header, radii);
             if float::is_finite(score) {
-                return Measured::Score { score, header };
+                return Phased::Score(score);
             }
-            Measured::FromReading {
+            Phased::FromReading {
                 number: NON_FINITE_SCORE,
                 place: 0,
             }
         }
-        Reading::Refused { number, place } => Measured::FromReading { number, place },
+        Reading::Refused { number, place } => Phased::FromReading { number, place },
     }
 }
 
@@ -203,11 +204,13 @@ fn opened_score(
     projected: &[f32],
     bytes: &[u8],
     header: Header,
+    radii: &mut [f32],
 ) -> f32
-    requires { ⌜ openedOf setup (now bytes) ≡ value header ⌝ }
-    ensures { λ r. ⌜ r ≡ recordScore setup (now (directions .entry)) (now (rotated .entry)) (now (projected .entry)) (now (bytes .entry)) ⌝ }
+    requires { ⌜ (openedOf setup (now bytes) ≡ value header) × (length (now radii) ≡ 2048) ⌝ }
+    ensures scored { λ r. ⌜ r ≡ recordScore setup (now (directions .entry)) (now (rotated .entry)) (now (projected .entry)) (now (bytes .entry)) ⌝ }
+    ensures left { λ _. ⌜ RadiiInFront (now (bytes .entry)) (now (radii .exit)) ⌝ }
 {
-    let polar = polar_part(directions, rotated, bytes, header);
+    let polar = polar_part(directions, rotated, bytes, header, radii);
     let mode = setup.mode;
     match mode {
         TurboMode::PolarOnly => polar,
@@ -216,12 +219,18 @@ fn opened_score(
 }
 
 // The polar sum of a record, by the header that was read from it.
-fn polar_part(directions: &[f32], rotated: &[f32], bytes: &[u8], header: Header) -> f32
-    requires { ⌜ readRecordOf (now bytes) ≡ value header ⌝ }
-    ensures { λ r. ⌜ r ≡ polarSumOf (now (rotated .entry)) (now (directions .entry)) (indicesOf (now (bytes .entry))) (radiiOf (now (bytes .entry))) ⌝ }
+fn polar_part(
+    directions: &[f32],
+    rotated: &[f32],
+    bytes: &[u8],
+    header: Header,
+    radii: &mut [f32],
+) -> f32
+    requires { ⌜ (readRecordOf (now bytes) ≡ value header) × (length (now radii) ≡ 2048) ⌝ }
+    ensures summed { λ r. ⌜ r ≡ polarSumOf (now (rotated .entry)) (now (directions .entry)) (indicesOf (now (bytes .entry))) (radiiOf (now (bytes .entry))) ⌝ }
+    ensures left { λ _. ⌜ RadiiInFront (now (bytes .entry)) (now (radii .exit)) ⌝ }
 {
     let pairs = header.dim / 2;
-    let mut radii = no_radii();
     let mut indices = no_indices();
     packed_parts::radii_at(bytes, header, &mut radii[0..pairs]);
     packed_parts::indices_at(bytes, header, &mut indices[0..pairs]);
@@ -272,32 +281,21 @@ fn check_lengths_and_values(setup: Setup, rotated: &[f32], projected: &[f32]) ->
             place: projected.len(),
         };
     }
-    let turned = error::first_non_finite(rotated);
-    if turned < rotated.len() {
+    let rotated_place = error::first_non_finite(rotated);
+    if rotated_place < rotated.len() {
         return Outcome::Refused {
             number: NON_FINITE_INPUT,
-            place: turned,
+            place: rotated_place,
         };
     }
-    let row = error::first_non_finite(projected);
-    if row < projected.len() {
+    let projected_place = error::first_non_finite(projected);
+    if projected_place < projected.len() {
         return Outcome::Refused {
             number: NON_FINITE_INPUT,
-            place: row,
+            place: projected_place,
         };
     }
     Outcome::Done
-}
-
-// The squared norm of the radii of a record, by the header that was read from it.
-fn radii_norm(bytes: &[u8], header: Header) -> f32
-    requires { ⌜ readRecordOf (now bytes) ≡ value header ⌝ }
-    ensures { λ r. ⌜ r ≡ squaredNorm (radiiOf (now (bytes .entry))) ⌝ }
-{
-    let pairs = header.dim / 2;
-    let mut radii = no_radii();
-    packed_parts::radii_at(bytes, header, &mut radii[0..pairs]);
-    squared_norm(&radii[0..pairs])
 }
 
 // The sum of the squares, in index order.
@@ -328,17 +326,6 @@ fn zeros() -> [f32; 4096] {
 // Room for the radii of a record, of which there are at most 2,048.
 fn no_radii() -> [f32; 2048] {
     [0.0f32; 2048]
-}
-
-// A score without the header of its record.
-fn without_header(measured: Measured) -> Phased
-    ensures { λ r. ⌜ saysPhased r ≡ saysMeasured measured ⌝ }
-{
-    match measured {
-        Measured::Score { score, header: _ } => Phased::Score(score),
-        Measured::BeforeReading { number, place } => Phased::BeforeReading { number, place },
-        Measured::FromReading { number, place } => Phased::FromReading { number, place },
-    }
 }
 
 // A score without the phase of a refusal.

@@ -1,6 +1,7 @@
 -- `turbo::inner_product_estimate_prepared` meets its contract: a prepared query that passes its checks is scored, and demand 3 asks only
 -- that the lent floats are f32. Assumes nothing.
 use mathlib.Core.Path.{sym, ap, _∙_}
+use native.Mathlib.Omega.{arith}
 use borrow.Author.Needs.{needs}
 use Rattle.error.specs.Outcomes.{says}
 use Rattle.turbo.specs.Prepared.{Prepared}
@@ -30,23 +31,27 @@ returns c =
 enum-told : tie.Need-enum-told
 enum-told c = search needs
 
+no-radii-requires : tie.Need-no-radii-requires
+no-radii-requires c κs = search needs
+
+slice-aggregate-record-score : tie.Need-slice-aggregate-record-score
+slice-aggregate-record-score c = search needs
+
 record-score-requires : tie.Need-record-score-requires
 record-score-requires c κs =
-    let a = c .before .before .before .before .before .before .before .args in
-    ready-usable (a .setup) (a .directions .now) (a .rotated .now) (a .projected .now) (sym (c .before .before .check-prepared .ensures) ∙ ap says (c .enum-told .given .1))
-
-without-header-requires : tie.Need-without-header-requires
-without-header-requires c κs = search needs
+    let t = c .before .before in
+    let a = t .before .before .before .before .before .before .before .args in
+    (ready-usable (a .setup) (a .directions .now) (a .rotated .now) (a .projected .now) (sym (t .before .before .check-prepared .ensures) ∙ ap says (t .enum-told .given .1)), omega (arith, c .before .no-radii .ok))
 
 without-phase-requires : tie.Need-without-phase-requires
 without-phase-requires c κs = search needs
 
 returns-2 : tie.Need-returns-2
 returns-2 c =
-    let t = c .before .before .before in
+    let t = c .before .before .before .before .before in
     let a = t .before .before .before .before .before .before .before .args in (
       c .without-phase .ensures
-          ∙ ap joined (c .before .without-header .ensures ∙ c .before .before .record-score .ensures .0)
+          ∙ ap joined (c .before .before .record-score .ensures .0)
           ∙ sym (prepared-passed (a .setup) (a .directions .now) (a .rotated .now) (a .projected .now) (a .bytes .now) (sym (t .before .before .check-prepared .ensures) ∙ ap says (t .enum-told .given .1))),
       stands (t .before .before .before),
     )
@@ -59,7 +64,8 @@ inner-product-estimate-prepared-spec =
     enum-known-checked
     returns
     enum-told
+    no-radii-requires
+    slice-aggregate-record-score
     record-score-requires
-    without-header-requires
     without-phase-requires
     returns-2)

@@ -10,30 +10,35 @@ use Rattle.turbo.proofs.measure.Tie as tie
 check-scalars-requires : tie.Need-check-scalars-requires
 check-scalars-requires c κs = search needs
 
-enum-known-checked : tie.Need-enum-known-checked
-enum-known-checked c = search needs
-
-returns : tie.Need-returns
-returns c =
-    let a = c .before .before .before .before .before .before .before .before .before .args in
-    (sym (phased-refused (a .setup) (lent (a .signs .now) (a .directions .now) (a .matrix .now)) (a .query .now) (a .bytes .now) (query-scalars (a .setup) (lent (a .signs .now) (a .directions .now) (a .matrix .now)) (a .query .now) (sym (c .before .before .before .check-scalars .ensures) ∙ ap says (c .before .checked .given .1)))), tt)
-
 enum-told : tie.Need-enum-told
 enum-told c = search needs
 
 measure-query-requires : tie.Need-measure-query-requires
-measure-query-requires c κs = sym (c .before .before .check-scalars .ensures) ∙ ap says (c .enum-told .given .1)
+measure-query-requires c κs = let t = c .before in (sym (t .before .before .check-scalars .ensures) ∙ ap says (t .enum-told .given .1), t .before .before .before .before .before .before .before .before .before .pre)
+
+enum-known-number : tie.Need-enum-known-number
+enum-known-number c = search needs
+
+same-length : tie.Need-same-length
+same-length c = search needs
+
+returns : tie.Need-returns
+returns c = c .before .before .measure-query .ensures
 
 returns-2 : tie.Need-returns-2
-returns-2 c = c .measure-query .ensures
+returns-2 c =
+    let a = c .before .before .before .before .before .before .before .before .before .before .args in
+    let l = lent (a .signs .now) (a .directions .now) (a .matrix .now) in
+    (sym (phased-refused (a .setup) l (a .query .now) (a .bytes .now) (query-scalars (a .setup) l (a .query .now) (sym (c .before .before .before .check-scalars .ensures) ∙ ap says (c .before .number .given .1)))), tt)
 
 pub measure-spec : {M : Type 1} → statement M
 measure-spec =
     tie.close
     (tie.spec
     check-scalars-requires
-    enum-known-checked
-    returns
     enum-told
     measure-query-requires
+    enum-known-number
+    same-length
+    returns
     returns-2)

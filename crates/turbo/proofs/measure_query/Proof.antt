@@ -20,33 +20,33 @@ use Rattle.turbo.proofs.measure_query.Statement.{statement}
 use Rattle.turbo.proofs.measure_query.Tie as tie
 
 -- both arrays have room
-room : (c : tie.After-zeros2) → c .before .before .before .before .before .before .before .before .args .setup .dim ≤ length (c .before .zeros .result)
-room c = let most = scalars-usable (c .before .before .before .before .before .before .before .before .args .setup) (c .before .before .before .before .before .before .before .before .pre) .most in omega (arith, most, c .before .zeros .ok)
+room : (c : tie.After-zeros2) → c .before .before .before .before .before .before .before .before .before .args .setup .dim ≤ length (c .before .zeros .result)
+room c = let most = scalars-usable (c .before .before .before .before .before .before .before .before .before .args .setup) (c .before .before .before .before .before .before .before .before .before .pre .0) .most in omega (arith, most, c .before .zeros .ok)
 
 space : (c : tie.After-zeros2) → c .before .before .counted-projections .result ≤ length (c .zeros2 .result)
-space c = let most = scalars-usable (c .before .before .before .before .before .before .before .before .args .setup) (c .before .before .before .before .before .before .before .before .pre) .most-projections in omega (arith, most, c .before .before .counted-projections .ensures, c .zeros2 .ok)
+space c = let most = scalars-usable (c .before .before .before .before .before .before .before .before .before .args .setup) (c .before .before .before .before .before .before .before .before .before .pre .0) .most-projections in omega (arith, most, c .before .before .counted-projections .ensures, c .zeros2 .ok)
 
 -- the query is prepared
-ready : (c : tie.After-enum-told) → let p = c .before .before .before .before in let a = p .before .before .before .before .before .before .before .before .before .before .before .args in
+ready : (c : tie.After-enum-told) → let p = c .before .before .before .before in let a = p .before .before .before .before .before .before .before .before .before .before .before .before .args in
     done (prepareRotatedOf (a .setup) (lent (a .signs .now) (a .directions .now) (a .matrix .now)) (a .query .now) (length (take (a .setup .dim - 0) (p .before .before .before .before .zeros .result))) (length (take (p .before .before .before .before .before .counted-projections .result - 0) (p .before .before .before .zeros2 .result)))) ≡ accepted
 ready c = sym (c .before .before .before .before .prepare-query .ensures .0) ∙ ap says (c .enum-told .given .1)
 
 -- what the two parts hold then
-rotated-part : (c : tie.After-enum-told) → let p = c .before .before .before .before in let a = p .before .before .before .before .before .before .before .before .before .before .before .args in
+rotated-part : (c : tie.After-enum-told) → let p = c .before .before .before .before in let a = p .before .before .before .before .before .before .before .before .before .before .before .before .args in
     take (a .setup .dim - 0) (p .prepare-query .last .1 .1 .1 .1 .1 .0 ++ postOf 0 (a .setup .dim - 0) (p .before .before .before .before .zeros .result)) ≡ rotatedQuery (a .setup) (lent (a .signs .now) (a .directions .now) (a .matrix .now)) (a .query .now)
 rotated-part c =
     let p = c .before .before .before .before in
-    let a = p .before .before .before .before .before .before .before .before .before .before .before .args in
+    let a = p .before .before .before .before .before .before .before .before .before .before .before .before .args in
     let xs = p .before .before .before .before .zeros .result in
     part-read (a .setup .dim) xs (room (p .before .before .before)) (p .prepare-query .last .1 .1 .1 .1 .1 .0) (postOf 0 (a .setup .dim - 0) xs) (p .prepare-query .kept .1 .1 .1 .1 .1 .0)
     ∙ p .prepare-query .ensures .1 .0
     ∙ after-value _ (take (a .setup .dim - 0) xs) (prepare-rotated (a .setup) (lent (a .signs .now) (a .directions .now) (a .matrix .now)) (a .query .now) _ _ (ready c))
 
-projected-part : (c : tie.After-enum-told) → let p = c .before .before .before .before in let a = p .before .before .before .before .before .before .before .before .before .before .before .args in let m = p .before .before .before .before .before .counted-projections .result in
+projected-part : (c : tie.After-enum-told) → let p = c .before .before .before .before in let a = p .before .before .before .before .before .before .before .before .before .before .before .before .args in let m = p .before .before .before .before .before .counted-projections .result in
     take (m - 0) (p .prepare-query .last .1 .1 .1 .1 .1 .1 .0 ++ postOf 0 (m - 0) (p .before .before .before .zeros2 .result)) ≡ projectedQuery (a .setup) (lent (a .signs .now) (a .directions .now) (a .matrix .now)) (a .query .now)
 projected-part c =
     let p = c .before .before .before .before in
-    let a = p .before .before .before .before .before .before .before .before .before .before .before .args in
+    let a = p .before .before .before .before .before .before .before .before .before .before .before .before .args in
     let m = p .before .before .before .before .before .counted-projections .result in
     let xs = p .before .before .before .zeros2 .result in
     part-read m xs (space (p .before .before .before)) (p .prepare-query .last .1 .1 .1 .1 .1 .1 .0) (postOf 0 (m - 0) xs) (p .prepare-query .kept .1 .1 .1 .1 .1 .1 .0)
@@ -88,7 +88,7 @@ enum-known-prepared c = search needs
 
 returns : tie.Need-returns
 returns c = let p = c .before .before .before .before .before in
-    let a = p .before .before .before .before .before .before .before .before .before .before .before .args in
+    let a = p .before .before .before .before .before .before .before .before .before .before .before .before .args in
     let z = p .before .before .before in (
       sym
           (phased-refused (a .setup) (lent (a .signs .now) (a .directions .now) (a .matrix .now)) (a .query .now) (a .bytes .now)
@@ -108,7 +108,7 @@ part-record-score-start c = search needs
 
 part-record-score-end : tie.Need-part-record-score-end
 part-record-score-end c = let p = c .before .before .before .before .before in
-    let a = p .before .before .before .before .before .before .before .before .before .before .before .args in
+    let a = p .before .before .before .before .before .before .before .before .before .before .before .before .args in
     let xs = p .before .before .before .before .zeros .result in
     omega (arith, part-enough (a .setup .dim) xs (room (p .before .before .before)) (p .prepare-query .last .1 .1 .1 .1 .1 .0) (postOf 0 (a .setup .dim - 0) xs) (p .prepare-query .kept .1 .1 .1 .1 .1 .0))
 
@@ -125,18 +125,21 @@ part-record-score-end-2 c = let p = c .before .before .before .before .before .b
     omega (arith, part-enough m xs (space (p .before .before .before)) (p .prepare-query .last .1 .1 .1 .1 .1 .1 .0) (postOf 0 (m - 0) xs) (p .prepare-query .kept .1 .1 .1 .1 .1 .1 .0))
 
 record-score-requires : tie.Need-record-score-requires
-record-score-requires c κs = let e = c .before .before .before .before in e .before .before .before .before .before .before .before .before .before .before .before .before .before .before .before .pre
+record-score-requires c κs = c .before .before .before .before .before .before .before .before .before .before .before .before .before .before .before .before .before .before .before .before .before .pre
+
+same-length : tie.Need-same-length
+same-length c = search needs
 
 returns-2 : tie.Need-returns-2
-returns-2 c = let e = c .before .before .before .before .before in
-    let a = e .before .before .before .before .before .before .before .before .before .before .before .before .before .before .before .args in
+returns-2 c = let e = c .before .before .before .before .before .before .before .before in
     let p = e .before .before .before .before in
+    let a = p .before .before .before .before .before .before .before .before .before .before .before .before .args in
     let m = p .before .before .before .before .before .counted-projections .result in (
-      c .record-score .ensures .0
+      c .before .before .record-score .ensures .0
           ∙ ap (λ (vs : List Float). value (recordScoreOf (a .setup) (a .directions .now) vs (take (m - 0) (p .prepare-query .last .1 .1 .1 .1 .1 .1 .0 ++ postOf 0 (m - 0) (p .before .before .before .zeros2 .result))) (a .bytes .now))) (rotated-part e)
           ∙ ap (λ (vs : List Float). value (recordScoreOf (a .setup) (a .directions .now) (rotatedQuery (a .setup) (lent (a .signs .now) (a .directions .now) (a .matrix .now)) (a .query .now)) vs (a .bytes .now))) (projected-part e)
           ∙ sym (phased-passed (a .setup) (lent (a .signs .now) (a .directions .now) (a .matrix .now)) (a .query .now) (a .bytes .now) (prepare-passed (a .setup) (lent (a .signs .now) (a .directions .now) (a .matrix .now)) (a .query .now) _ _ (ready e))),
-      c .record-score .ensures .1,
+      c .before .before .record-score .ensures .1,
     )
 
 pub measure-query-spec : {M : Type 1} → statement M
@@ -163,4 +166,5 @@ measure-query-spec =
     part-record-score-start-2
     part-record-score-end-2
     record-score-requires
+    same-length
     returns-2)

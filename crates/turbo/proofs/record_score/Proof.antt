@@ -4,16 +4,16 @@ use borrow.Author.Needs.{needs}
 use Rattle.error.specs.Answer.{value}
 use Rattle.packed.specs.Reading.{saysReading}
 use Rattle.turbo_opening.specs.Inner.{openedOf}
-use Rattle.turbo_opening.proofs.Answers.{open-usable, opened-as-read}
+use Rattle.turbo_opening.proofs.Answers.{open-usable}
 use Rattle.turbo.proofs.Scoring.{record-refused, record-finite, record-infinite}
 use Rattle.turbo.proofs.record_score.Statement.{statement}
 use Rattle.turbo.proofs.record_score.Tie as tie
 
 -- the record is opened
-opened : (c : tie.After-known-told) → let s = c .before .before .before .before .before .before .before .before in openedOf (s .args .setup) (s .args .bytes .now) ≡ value (c .before .header .given .0 .0)
+opened : (c : tie.After-known-told) → let s = c .before .before .before .before .before .before .before .before .before in openedOf (s .args .setup) (s .args .bytes .now) ≡ value (c .before .header .given .0 .0)
 opened c =
-    let s = c .before .before .before .before .before .before .before .before in
-    sym (open-usable (s .args .setup) (s .args .bytes .now) (s .pre)) ∙ sym (c .before .before .before .open-record .ensures) ∙ ap saysReading (c .before .header .given .1)
+    let s = c .before .before .before .before .before .before .before .before .before in
+    sym (open-usable (s .args .setup) (s .args .bytes .now) (s .pre .0)) ∙ sym (c .before .before .before .open-record .ensures) ∙ ap saysReading (c .before .header .given .1)
 
 open-record-requires : tie.Need-open-record-requires
 open-record-requires c κs = search needs
@@ -22,33 +22,39 @@ enum-known-header : tie.Need-enum-known-header
 enum-known-header c = search needs
 
 opened-score-requires : tie.Need-opened-score-requires
-opened-score-requires c κs = opened c
+opened-score-requires c κs = (opened (c .before), c .before .before .before .before .before .before .before .before .before .before .pre .1)
 
 is-finite-requires : tie.Need-is-finite-requires
 is-finite-requires c κs = search needs
 
+same-length : tie.Need-same-length
+same-length c = search needs
+
 returns : tie.Need-returns
 returns c =
-    let k = c .before .before .before in
-    let s = k .before .before .before .before .before .before .before .before in
-    let a = s .args in
-    (ap value (sym (record-finite (a .setup) (a .directions .now) (a .rotated .now) (a .projected .now) (a .bytes .now) (opened k) _ (c .before .before .opened-score .ensures) (sym (c .before .is-finite .ensures) ∙ c .if1 .taken))), opened-as-read (a .setup) (a .bytes .now) (opened k))
+    let o = c .before .before .before .before in
+    let k = o .before .before in
+    let a = k .before .before .before .before .before .before .before .before .before .args in
+    (ap value (sym (record-finite (a .setup) (a .directions .now) (a .rotated .now) (a .projected .now) (a .bytes .now) (opened k) _ (o .opened-score .ensures .0) (sym (c .before .is-finite .ensures) ∙ c .if1 .taken))), o .opened-score .ensures .1)
 
 enum-known-number : tie.Need-enum-known-number
 enum-known-number c = search needs
 
+same-length-2 : tie.Need-same-length-2
+same-length-2 c = search needs
+
 returns-2 : tie.Need-returns-2
 returns-2 c =
-    let k = c .before .before .before in
-    let s = k .before .before .before .before .before .before .before .before in
-    let a = s .args in
-    (ap value (sym (record-infinite (a .setup) (a .directions .now) (a .rotated .now) (a .projected .now) (a .bytes .now) (opened k) _ (c .before .before .opened-score .ensures) (sym (c .before .is-finite .ensures) ∙ c .if1 .left))), tt)
+    let o = c .before .before .before .before in
+    let k = o .before .before in
+    let a = k .before .before .before .before .before .before .before .before .before .args in
+    (ap value (sym (record-infinite (a .setup) (a .directions .now) (a .rotated .now) (a .projected .now) (a .bytes .now) (opened k) _ (o .opened-score .ensures .0) (sym (c .before .is-finite .ensures) ∙ c .if1 .left))), tt)
 
 returns-3 : tie.Need-returns-3
 returns-3 c =
-    let s = c .before .before .before .before .before .before .before .before in
+    let s = c .before .before .before .before .before .before .before .before .before in
     let a = s .args in
-    (ap value (sym (record-refused (a .setup) (a .directions .now) (a .rotated .now) (a .projected .now) (a .bytes .now) (sym (open-usable (a .setup) (a .bytes .now) (s .pre)) ∙ sym (c .before .before .before .open-record .ensures) ∙ ap saysReading (c .before .number .given .1)))), tt)
+    (ap value (sym (record-refused (a .setup) (a .directions .now) (a .rotated .now) (a .projected .now) (a .bytes .now) (sym (open-usable (a .setup) (a .bytes .now) (s .pre .0)) ∙ sym (c .before .before .before .open-record .ensures) ∙ ap saysReading (c .before .number .given .1)))), tt)
 
 pub record-score-spec : {M : Type 1} → statement M
 record-score-spec =
@@ -58,7 +64,9 @@ record-score-spec =
     enum-known-header
     opened-score-requires
     is-finite-requires
+    same-length
     returns
     enum-known-number
+    same-length-2
     returns-2
     returns-3)
