@@ -21,8 +21,11 @@ signs-made values old new c s = record { clean = λ e. c; signs = λ e. s; kept 
 pub signs-same : {values others : List Float} {old new : List ℤ} {wrote : Bool} → values ≡ others → FiniteSigns values old wrote new → FiniteSigns others old wrote new
 signs-same {values} {others} {old} {new} {wrote} e s = subst (λ (vs : List Float). FiniteSigns vs old wrote new) e s
 
-pub at-once-left : (answer : Answer (List ℤ)) (old : List ℤ) → AtOnce answer old false old
-at-once-left answer old = record { made = λ e. absurd (false≢true e); kept = λ e. refl }
+pub at-once-left : {A : Type 0} (answer : Answer A) (old new : A) → new ≡ old → AtOnce answer old false new
+at-once-left answer old new h = record { made = λ e. absurd (false≢true e); kept = λ e. h }
+
+pub at-once-made : {A : Type 0} (answer : Answer A) (old new : A) → answer ≡ value new → AtOnce answer old true new
+at-once-made answer old new h = record { made = λ e. h; kept = λ e. absurd (true≢false e) }
 
 pub at-once-signs : {values : List Float} {old new : List ℤ} {wrote : Bool} (answer : Answer (List ℤ)) → (ltb (place badValue values) (length values) ≡ false → answer ≡ value (map signOfSum values))
     → FiniteSigns values old wrote new

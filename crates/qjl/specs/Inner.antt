@@ -73,6 +73,6 @@ pub record FiniteSigns (values : List Float) (old : List ℤ) (wrote : Bool) (ne
   pub kept : wrote ≡ false → new ≡ old
 
 -- what a call leaves that writes the answer's value or nothing, and says whether it did
-pub record AtOnce (answer : Answer (List ℤ)) (old : List ℤ) (wrote : Bool) (new : List ℤ) : Type 0 where
+pub record AtOnce {A : Type 0} (answer : Answer A) (old : A) (wrote : Bool) (new : A) : Type 0 where
   pub made : wrote ≡ true → answer ≡ value new
   pub kept : wrote ≡ false → new ≡ old

@@ -1,22 +1,28 @@
 -- The answers of the calls, case by case, from what their checks find. Assumes nothing.
 use Prim.Native.Nat.{ℕ, _≤_, _<_}
 use mathlib.Core.Path.{_≡_, refl, sym, ap, _∙_, subst}
-use mathlib.Core.Bool.{not}
-use mathlib.Core.List.{List}
-use borrow.Author.Tests.{eqb-true, not-false, eq-eqb, ne-eqb}
+use mathlib.Core.Bool.{true, false, not}
+use mathlib.Core.List.{List, [], _∷_, _++_}
+use borrow.Author.Tests.{eqb-true, not-true, not-false, eq-eqb, ne-eqb, ltb-false}
 use lib.ListN.{length}
 use lib.Ieee.{Float}
-use Rattle.error.specs.Answer.{Answer, value, refused, first, place, accepted, done, after}
-use Rattle.error.proofs.Chains.{first-passed, first-refused, first-passes, first-accepts, first-done, append-passed, append-refused}
+use Rattle.error.specs.Answer.{Answer, value, refused, first, each, place, accepted, done, after}
+use Rattle.error.proofs.Chains.{first-passed, first-refused, first-passes, first-accepts, first-done, append-passed, append-refused, append-left}
 use Rattle.error.proofs.Answers.{done-refused, after-refused, after-value}
 use Rattle.error.proofs.Places.{each-offends, each-passes}
+use Rattle.error.specs.Sweep.{clear}
 use Rattle.rotation.specs.Checks.{rotationChecks}
 use Rattle.setup.specs.Lent.{Lent}
 use Rattle.setup.specs.declared.Setup.{Setup}
 use Rattle.setup.specs.Setups.{countedProjectionsOf}
-use Rattle.error.specs.Checks.{badValue}
+use Rattle.setup.specs.Checks.{entryChecks, setupChecks, setupChecksButEntries}
+use Rattle.setup.proofs.Accepted.{but-entries-usable, but-entries-long, but-entries-rest}
+use Rattle.error.specs.Checks.{wrongInput, badValue}
+use Rattle.qjl.specs.Inner.{Rowed, AtOnce}
 use Rattle.qjl.specs.Sketch.{vectorChecks}
-use Rattle.qjl.proofs.Answers.{vector-setup, vector-rowed}
+use Rattle.qjl.proofs.Answers.{vector-rowed, vector-passed}
+use Rattle.qjl.proofs.FiniteSums.{matrix-finite}
+use Rattle.qjl.proofs.FiniteSigns.{at-once-left, at-once-made}
 use Rattle.turbo_query.specs.Query.{rotatedQuery, projectedQuery, prepareRotatedOf, prepareProjectedOf}
 use Rattle.turbo_query.specs.Inner.{handedChecks, Handed, Queryable}
 
@@ -80,23 +86,44 @@ handed-same {k = k} {m = m} {o = o} {rotated = rotated} {us = us} {projected = p
     (subst (λ (i : ℕ). Handed k i rotated projected out other said new also) b
     (subst (λ (i : ℕ). Handed i m rotated projected out other said new also) a h)))
 
--- ---- a query that has passed its checks
+-- ---- a query of the right length, where the setup passes but for the matrix's entries
 
-module _ (s : Setup) (l : Lent) (query : List Float) (passed : first (vectorChecks s l query) accepted ≡ accepted) where
-  pub vector-queryable : Queryable (s .dim) (countedProjectionsOf s) (l .signs) (l .matrix) query
-  vector-queryable =
-      let k = first-passes (vectorChecks s l query) tt passed in
+module _ (s : Setup) (l : Lent) (query : List Float) (passed : first (setupChecksButEntries s l) accepted ≡ accepted) (long : length query ≡ s .dim) where
+  shaped-rowed : Rowed (s .dim) (l .matrix) query (countedProjectionsOf s)
+  shaped-rowed = record { query-long = long; matrix-long = but-entries-long s l passed }
+
+  shaped-queryable : Queryable (s .dim) (countedProjectionsOf s) (l .signs) (l .matrix) query
+  shaped-queryable =
+      let k = first-passes (setupChecksButEntries s l) tt passed in
       record {
-        small = vector-setup s l query passed .usable .most;
-        few = vector-setup s l query passed .usable .most-projections;
+        small = but-entries-usable s l passed .most;
+        few = but-entries-usable s l passed .most-projections;
         turnable = first-accepts (rotationChecks (s .dim) (l .signs) (length query) (s .dim)) accepted
-            (k .0, (k .1 .0, (k .1 .1 .1 .1 .0, (k .1 .1 .1 .1 .1 .0, (k .1 .1 .1 .1 .1 .1 .1 .1 .0, (k .1 .1 .1 .1 .1 .1 .1 .1 .1 .1 .1 .0, (ap not (eq-eqb (s .dim) (s .dim) refl), tt)))))));
-        rowed = vector-rowed s l query passed;
+            (k .0, (k .1 .0, (k .1 .1 .1 .1 .0, (k .1 .1 .1 .1 .1 .0, (k .1 .1 .1 .1 .1 .1 .1 .1 .0, (ap not (eq-eqb (length query) (s .dim) long), (ap not (eq-eqb (s .dim) (s .dim) refl), tt)))))));
+        rowed = shaped-rowed;
       }
 
   -- an equal number of rows
+  pub shaped-rows : {rows : ℕ} → rows ≡ countedProjectionsOf s → Queryable (s .dim) rows (l .signs) (l .matrix) query
+  shaped-rows e = subst (λ (m : ℕ). Queryable (s .dim) m (l .signs) (l .matrix) query) (sym e) shaped-queryable
+
+  -- where what is handed over passes too, every projection is finite, and so is every entry of the matrix
+  shaped-passed : (room space : ℕ) → clear badValue query ≡ true
+      → first (handedChecks (s .dim) (countedProjectionsOf s) (rotatedQuery s l query) (projectedQuery s l query) room space) accepted ≡ accepted
+      → first (vectorChecks s l query) accepted ≡ accepted
+  shaped-passed room space whole handed =
+      let k = first-passes (handedChecks (s .dim) (countedProjectionsOf s) (rotatedQuery s l query) (projectedQuery s l query) room space) tt handed in
+      let entries : first (setupChecks s l) accepted ≡ accepted = but-entries-rest s l passed ∙ simp (matrix-finite (s .dim) (countedProjectionsOf s) (l .matrix) query shaped-rowed (k .1 .0)) in
+      vector-passed s l query {i = place badValue query} entries long refl (ltb-false _ _ (not-true _ whole))
+
+-- ---- a query that has passed its checks
+
+module _ (s : Setup) (l : Lent) (query : List Float) (passed : first (vectorChecks s l query) accepted ≡ accepted) where
   pub vector-rows : {rows : ℕ} → rows ≡ countedProjectionsOf s → Queryable (s .dim) rows (l .signs) (l .matrix) query
-  vector-rows e = subst (λ (m : ℕ). Queryable (s .dim) m (l .signs) (l .matrix) query) (sym e) vector-queryable
+  vector-rows =
+      shaped-rows s l query
+      (append-left (setupChecksButEntries s l) (entryChecks (l .matrix) ++ (wrongInput (length query) (s .dim) ∷ each badValue 11 query ∷ [])) accepted passed)
+      (vector-rowed s l query passed .query-long)
 
 -- ---- preparing
 
@@ -136,3 +163,45 @@ module _ (s : Setup) (l : Lent) (query rotated projected : List Float) where
         × ((rotated ≡ after (prepareRotatedOf s l query (length rotated) (length projected)) rotated)
         × (projected ≡ after (prepareProjectedOf s l query (length rotated) (length projected)) projected))
     prepare-refused = (sym (done-refused _ rotated-refused), (sym (after-refused _ rotated rotated-refused), sym (after-refused _ projected projected-refused)))
+
+-- ---- preparing at once, or not at all
+
+module _ (s : Setup) (l : Lent) (query rotated projected : List Float) {said : Answer (Unit {0})} {new also : List Float}
+    (h : Handed (s .dim) (countedProjectionsOf s) (rotatedQuery s l query) (projectedQuery s l query) rotated projected said new also) where
+  pub prepare-made : first (setupChecksButEntries s l) accepted ≡ accepted → length query ≡ s .dim → clear badValue query ≡ true → said ≡ accepted
+      → AtOnce (prepareRotatedOf s l query (length rotated) (length projected)) rotated true new
+      × AtOnce (prepareProjectedOf s l query (length rotated) (length projected)) projected true also
+  prepare-made passed long whole is =
+      let cs = handedChecks (s .dim) (countedProjectionsOf s) (rotatedQuery s l query) (projectedQuery s l query) (length rotated) (length projected) in
+      let handed : first cs accepted ≡ accepted = sym (h .answer) ∙ is in
+      let all = shaped-passed s l query passed long (length rotated) (length projected) whole handed in
+      let one = first-passed cs (value (rotatedQuery s l query)) handed in
+      let two = first-passed cs (value (projectedQuery s l query)) handed in (
+        at-once-made _ rotated new (rotated-passed s l query rotated projected all ∙ one ∙ ap value (sym (h .rotated-after ∙ after-value _ rotated one))),
+        at-once-made _ projected also (projected-passed s l query rotated projected all ∙ two ∙ ap value (sym (h .projected-after ∙ after-value _ projected two))),
+      )
+
+  -- a refusal has written nothing
+  pub prepare-left : {number place : ℕ} → said ≡ refused number place
+      → AtOnce (prepareRotatedOf s l query (length rotated) (length projected)) rotated false new
+      × AtOnce (prepareProjectedOf s l query (length rotated) (length projected)) projected false also
+  prepare-left is =
+      let cs = handedChecks (s .dim) (countedProjectionsOf s) (rotatedQuery s l query) (projectedQuery s l query) (length rotated) (length projected) in
+      let stopped = sym (h .answer) ∙ is in (
+        at-once-left _ rotated new (h .rotated-after ∙ after-refused _ rotated (first-refused cs (value (rotatedQuery s l query)) stopped)),
+        at-once-left _ projected also (h .projected-after ∙ after-refused _ projected (first-refused cs (value (projectedQuery s l query)) stopped)),
+      )
+
+module _ (s : Setup) (l : Lent) (query : List Float) where
+  -- what a call says and leaves, of outputs that held these
+  abbrev Prepared : List Float → List Float → Answer (Unit {0}) → List Float → List Float → Type 0
+  Prepared rotated projected said new also =
+      (said ≡ done (prepareRotatedOf s l query (length rotated) (length projected)))
+      × ((new ≡ after (prepareRotatedOf s l query (length rotated) (length projected)) rotated)
+      × (also ≡ after (prepareProjectedOf s l query (length rotated) (length projected)) projected))
+
+  -- after a try that left both outputs as they were
+  pub prepare-again : {mid old between former new also : List Float} {said : Answer (Unit {0})} → mid ≡ old → between ≡ former
+      → Prepared mid between said new also → Prepared old former said new also
+  prepare-again {mid} {old} {between} {former} {new} {also} {said} e f h =
+      subst (λ (xs : List Float). Prepared old xs said new also) f (subst (λ (xs : List Float). Prepared xs between said new also) e h)

@@ -12,13 +12,66 @@ ghost use Rattle.error.specs.Outcomes.{says};
 ghost use Rattle.rotation.specs.Checks.{rotationChecks};
 ghost use Rattle.rotation.specs.Rotation.{rotated as rotatedBy};
 ghost use Rattle.setup.specs.Lent.{lent};
-ghost use Rattle.qjl.specs.Inner.{Rowed};
+ghost use Rattle.qjl.specs.Inner.{Rowed, AtOnce};
 ghost use Rattle.rounding.specs.Rows.{projected as projectedOn};
 ghost use Rattle.turbo_query.specs.Query.{prepareRotatedOf, prepareProjectedOf};
 ghost use Rattle.turbo_query.specs.Inner.{handedChecks, Handed, Queryable};
 
 // Prepares a query: rotated into one output, projected into the other. Neither is written unless both fit.
 pub fn prepare_query(
+    setup: Setup,
+    signs: &[f32],
+    directions: &[f32],
+    matrix: &[f32],
+    query: &[f32],
+    rotated: &mut [f32],
+    projected: &mut [f32],
+) -> Outcome
+    ensures said { λ r. ⌜ says r ≡ done (prepareRotatedOf setup (lent (now (signs .entry)) (now (directions .entry)) (now (matrix .entry))) (now (query .entry)) (length (now (rotated .entry))) (length (now (projected .entry)))) ⌝ }
+    ensures rotated { λ _. ⌜ now (rotated .exit) ≡ after (prepareRotatedOf setup (lent (now (signs .entry)) (now (directions .entry)) (now (matrix .entry))) (now (query .entry)) (length (now (rotated .entry))) (length (now (projected .entry)))) (now (rotated .entry)) ⌝ }
+    ensures projected { λ _. ⌜ now (projected .exit) ≡ after (prepareProjectedOf setup (lent (now (signs .entry)) (now (directions .entry)) (now (matrix .entry))) (now (query .entry)) (length (now (rotated .entry))) (length (now (projected .entry)))) (now (projected .entry)) ⌝ }
+{
+    if prepare_at_once(setup, signs, directions, matrix, query, rotated, projected) {
+        return Outcome::Done;
+    }
+    prepare_checked(setup, signs, directions, matrix, query, rotated, projected)
+}
+
+// Both outputs where nothing offends, and else false with neither written. A finite projection has finite terms only, so the matrix
+// needs no pass of its own.
+fn prepare_at_once(
+    setup: Setup,
+    signs: &[f32],
+    directions: &[f32],
+    matrix: &[f32],
+    query: &[f32],
+    rotated: &mut [f32],
+    projected: &mut [f32],
+) -> bool
+    ensures rotated { λ r. ⌜ AtOnce (prepareRotatedOf setup (lent (now (signs .entry)) (now (directions .entry)) (now (matrix .entry))) (now (query .entry)) (length (now (rotated .entry))) (length (now (projected .entry)))) (now (rotated .entry)) r (now (rotated .exit)) ⌝ }
+    ensures projected { λ r. ⌜ AtOnce (prepareProjectedOf setup (lent (now (signs .entry)) (now (directions .entry)) (now (matrix .entry))) (now (query .entry)) (length (now (rotated .entry))) (length (now (projected .entry)))) (now (projected .entry)) r (now (projected .exit)) ⌝ }
+{
+    let checked = setup::check_but_entries(setup, signs, directions, matrix);
+    if let Outcome::Refused { number, place } = checked {
+        return false;
+    }
+    let dim = setup.dim;
+    let rows = setup::counted_projections(setup);
+    if query.len() != dim {
+        return false;
+    }
+    if !error::all_finite(query) {
+        return false;
+    }
+    let handed = prepare(dim, rows, signs, matrix, query, rotated, projected);
+    if let Outcome::Refused { number, place } = handed {
+        return false;
+    }
+    true
+}
+
+// Both outputs, check by check: the checks of the matrix's entries come before those of the query.
+fn prepare_checked(
     setup: Setup,
     signs: &[f32],
     directions: &[f32],
@@ -40,7 +93,7 @@ pub fn prepare_query(
     prepare(dim, rows, signs, matrix, query, rotated, projected)
 }
 
-// The same for a query that has passed its checks: rotated and projected in memory of its own, then handed over.
+// A query of the right length under tables of the right lengths: rotated and projected in memory of its own, then handed over.
 fn prepare(
     dim: usize,
     rows: usize,

@@ -1,5 +1,5 @@
 -- `qjl::sketch_at_once` meets its contract: finite projections stand for the checks of the matrix's entries and of the vector. Assumes nothing.
-use mathlib.Core.Path.{_≡_, sym, ap, _∙_}
+use mathlib.Core.Path.{_≡_, refl, sym, ap, _∙_}
 use borrow.Author.Needs.{needs}
 use Rattle.error.specs.Answer.{first, accepted}
 use Rattle.error.specs.Outcomes.{says}
@@ -21,7 +21,7 @@ enum-known-checked : tie.Need-enum-known-checked
 enum-known-checked c = search needs
 
 returns : tie.Need-returns
-returns c = at-once-left _ _
+returns c = at-once-left _ _ _ refl
 
 enum-told : tie.Need-enum-told
 enum-told c = search needs
@@ -30,13 +30,13 @@ counted-projections-requires : tie.Need-counted-projections-requires
 counted-projections-requires c κs = search needs
 
 returns-2 : tie.Need-returns-2
-returns-2 c = at-once-left _ _
+returns-2 c = at-once-left _ _ _ refl
 
 returns-3 : tie.Need-returns-3
-returns-3 c = at-once-left _ _
+returns-3 c = at-once-left _ _ _ refl
 
 returns-4 : tie.Need-returns-4
-returns-4 c = at-once-left _ _
+returns-4 c = at-once-left _ _ _ refl
 
 sketch-finite-requires : tie.Need-sketch-finite-requires
 sketch-finite-requires c κs = let a = c .before .before .before .before .before .before .before .before .before .before .before .before .args in

@@ -1,4 +1,4 @@
--- `query::check_handed` meets its contract: each return is one case of the laws of its checks. Assumes nothing.
+-- `turbo_query::check_handed` meets its contract: each return is one case of the laws of its checks. Assumes nothing.
 use mathlib.Core.Path.{sym}
 use borrow.Author.Needs.{needs}
 use lib.ListN.{length}

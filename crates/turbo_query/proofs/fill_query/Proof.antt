@@ -1,4 +1,4 @@
--- `query::fill_query` meets its contract: neither the rotation nor the projection refuses. Assumes nothing.
+-- `turbo_query::fill_query` meets its contract: neither the rotation nor the projection refuses. Assumes nothing.
 use mathlib.Core.Path.{_∙_}
 use borrow.Author.Needs.{needs}
 use Rattle.error.proofs.Answers.{after-value}

@@ -1,4 +1,4 @@
--- `query::hand_over` meets its contract: where the checks pass, both outputs are as long as what is copied to them. Assumes nothing.
+-- `turbo_query::hand_over` meets its contract: where the checks pass, both outputs are as long as what is copied to them. Assumes nothing.
 use mathlib.Core.Path.{_≡_, sym, ap, _∙_}
 use borrow.Author.Needs.{needs}
 use lib.ListN.{length}

@@ -1,4 +1,4 @@
--- `query::prepare` meets its contract: the parts of the two arrays that `fill_query` wrote are the parts that are handed over. Assumes nothing.
+-- `turbo_query::prepare` meets its contract: the parts of the two arrays that `fill_query` wrote are the parts that are handed over. Assumes nothing.
 use Prim.Native.Nat.{ℕ, _-_, _*_, _≤_}
 use mathlib.Core.Path.{_≡_, sym, ap, _∙_, subst}
 use native.Mathlib.Omega.{arith}

@@ -1,43 +1,15 @@
--- `query::prepare_query` meets its contract: the query's checks refuse, or what is handed over decides. Assumes nothing.
-use Prim.Native.Nat.{ℕ}
-use mathlib.Core.Path.{_≡_, refl, sym, ap, _∙_}
+-- `turbo_query::prepare_query` meets its contract: both outputs are written at once, or they are as they were and the query is prepared check by check.
+-- Assumes nothing.
+use mathlib.Core.Path.{refl}
 use borrow.Author.Needs.{needs}
-use Rattle.error.specs.Answer.{first, accepted}
-use Rattle.error.specs.Outcomes.{says}
+use Rattle.error.proofs.Answers.{both-value}
 use Rattle.setup.specs.Lent.{lent}
-use Rattle.qjl.specs.Sketch.{vectorChecks}
-use Rattle.turbo_query.proofs.Answers.{handed-same, vector-rows, prepare-refused, prepare-passed}
+use Rattle.turbo_query.proofs.Answers.{prepare-again}
 use Rattle.turbo_query.proofs.prepare_query.Statement.{statement}
 use Rattle.turbo_query.proofs.prepare_query.Tie as tie
-use Rattle.rounding.specs.Rows.{projected}
 
--- what the checks leave, where they are done
-passed : (c : tie.After-enum-told) → let a = c .before .before .before .before .before .before .before .before .before .args in first (vectorChecks (a .setup) (lent (a .signs .now) (a .directions .now) (a .matrix .now)) (a .query .now)) accepted ≡ accepted
-passed c = sym (c .before .before .check-vector .ensures) ∙ ap says (c .enum-told .given .1)
-
-check-vector-requires : tie.Need-check-vector-requires
-check-vector-requires c κs = search needs
-
-enum-known-checked : tie.Need-enum-known-checked
-enum-known-checked c = search needs
-
-returns : tie.Need-returns
-returns c =
-    let h = c .before .before .before in
-    let a = h .before .before .before .before .before .before .before .args in
-    prepare-refused (a .setup) (lent (a .signs .now) (a .directions .now) (a .matrix .now)) (a .query .now) (a .rotated .now) (a .projected .now) (sym (h .check-vector .ensures) ∙ ap says (c .before .checked .given .1))
-
-enum-told : tie.Need-enum-told
-enum-told c = search needs
-
-counted-projections-requires : tie.Need-counted-projections-requires
-counted-projections-requires c κs = search needs
-
-prepare-requires : tie.Need-prepare-requires
-prepare-requires c κs =
-    let m = c .before .before in
-    let a = m .before .before .before .before .before .before .before .before .before .before .args in
-    vector-rows (a .setup) (lent (a .signs .now) (a .directions .now) (a .matrix .now)) (a .query .now) (passed (m .before)) (m .counted-projections .ensures)
+prepare-at-once-requires : tie.Need-prepare-at-once-requires
+prepare-at-once-requires c κs = search needs
 
 same-length : tie.Need-same-length
 same-length c = search needs
@@ -45,24 +17,38 @@ same-length c = search needs
 same-length-2 : tie.Need-same-length-2
 same-length-2 c = search needs
 
+returns : tie.Need-returns
+returns c =
+    let h = c .before .before .before .before .before .prepare-at-once .ensures in
+    let rotated = both-value _ _ _ (h .0 .made (c .if1 .taken)) refl in
+    (rotated .0, (rotated .1, both-value _ _ _ (h .1 .made (c .if1 .taken)) refl .1))
+
+prepare-checked-requires : tie.Need-prepare-checked-requires
+prepare-checked-requires c κs = search needs
+
+same-length-3 : tie.Need-same-length-3
+same-length-3 c = search needs
+
+same-length-4 : tie.Need-same-length-4
+same-length-4 c = search needs
+
 returns-2 : tie.Need-returns-2
 returns-2 c =
     let p = c .before .before .before .before in
-    let m = p .before .before .before in
-    let a = m .before .before .before .before .before .before .before .before .before .before .args in
-    prepare-passed (a .setup) (lent (a .signs .now) (a .directions .now) (a .matrix .now)) (a .query .now) (a .rotated .now) (a .projected .now) (passed (m .before))
-    (handed-same refl (m .counted-projections .ensures) refl (ap (λ (k : ℕ). projected (a .setup .dim) k (a .matrix .now) (a .query .now)) (m .counted-projections .ensures)) (p .prepare .ensures))
+    let e = p .before .before .before in
+    let h = e .before .before .before .before .before in
+    let a = h .before .before .before .before .before .before .before .before .before .args in
+    prepare-again (a .setup) (lent (a .signs .now) (a .directions .now) (a .matrix .now)) (a .query .now) (h .prepare-at-once .ensures .0 .kept (e .if1 .left)) (h .prepare-at-once .ensures .1 .kept (e .if1 .left)) (p .prepare-checked .ensures)
 
 pub prepare-query-spec : {M : Type 1} → statement M
 prepare-query-spec =
     tie.close
     (tie.spec
-    check-vector-requires
-    enum-known-checked
-    returns
-    enum-told
-    counted-projections-requires
-    prepare-requires
+    prepare-at-once-requires
     same-length
     same-length-2
+    returns
+    prepare-checked-requires
+    same-length-3
+    same-length-4
     returns-2)
