@@ -11,6 +11,8 @@ use Rattle.error.proofs.Chains.{first-passed, first-refused, first-passes, firs
 use Rattle.error.proofs.Answers.{done-refused, after-refused, after-value}
 use Rattle.error.proofs.Places.{each-offends, each-passes}
 use Rattle.error.specs.Sweep.{clear}
+use Rattle.float.specs.Copying.{copyIntoOf}
+use Rattle.float.proofs.Copying.{copy-into-same}
 use Rattle.rotation.specs.Checks.{rotationChecks}
 use Rattle.setup.specs.Lent.{Lent}
 use Rattle.setup.specs.declared.Setup.{Setup}
@@ -47,12 +49,6 @@ module _ (n m : ℕ) (rotated projected : List Float) (room space : ℕ) where
         pub handed-passed : space ≡ m → first (handedChecks n m rotated projected room space) accepted ≡ accepted
         handed-passed g = simp (each-passes badValue rotated p l, each-passes badValue projected q k, eq-eqb room n h, eq-eqb space m g)
 
-  -- where nothing offends, both outputs fit
-  pub handed-rooms : first (handedChecks n m rotated projected room space) accepted ≡ accepted → (room ≡ n) × (space ≡ m)
-  handed-rooms passed =
-      let k = first-passes (handedChecks n m rotated projected room space) tt passed in
-      (eqb-true room n (not-false _ (k .1 .1 .0)), eqb-true space m (not-false _ (k .1 .1 .1 .0)))
-
 -- ---- the answer and both outputs
 
 module _ (n m : ℕ) (rotated projected out other : List Float) where
@@ -67,14 +63,21 @@ module _ (n m : ℕ) (rotated projected out other : List Float) where
         projected-after = sym (after-refused _ other (first-refused cs (value projected) e));
       }
 
-  pub handed-value : {new also : List Float} → first (handedChecks n m rotated projected (length out) (length other)) accepted ≡ accepted → new ≡ rotated → also ≡ projected
-      → Handed n m rotated projected out other accepted new also
-  handed-value e f g =
-      let cs = handedChecks n m rotated projected (length out) (length other) in
+-- where nothing offends, both outputs are as long as what is copied to them
+module _ (rotated projected out other : List Float) where
+  pub handed-copied : {new also : List Float}
+      → first (handedChecks (length rotated) (length projected) rotated projected (length out) (length other)) accepted ≡ accepted
+      → new ≡ copyIntoOf rotated out → also ≡ copyIntoOf projected other
+      → Handed (length rotated) (length projected) rotated projected out other accepted new also
+  handed-copied e f g =
+      let cs = handedChecks (length rotated) (length projected) rotated projected (length out) (length other) in
+      let k = first-passes cs tt e in
+      let room = eqb-true (length out) (length rotated) (not-false _ (k .1 .1 .0)) in
+      let space = eqb-true (length other) (length projected) (not-false _ (k .1 .1 .1 .0)) in
       record {
         answer = sym e;
-        rotated-after = f ∙ sym (after-value _ out (first-passed cs (value rotated) e));
-        projected-after = g ∙ sym (after-value _ other (first-passed cs (value projected) e));
+        rotated-after = f ∙ copy-into-same rotated out (sym room) ∙ sym (after-value _ out (first-passed cs (value rotated) e));
+        projected-after = g ∙ copy-into-same projected other (sym space) ∙ sym (after-value _ other (first-passed cs (value projected) e));
       }
 
 -- the values and their numbers by other names
