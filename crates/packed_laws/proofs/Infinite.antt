@@ -18,7 +18,7 @@ use Rattle.digits.specs.Digits.{number}
 use Rattle.digits.proofs.Laws.{length-digits, digits-below, number-lt}
 use Rattle.bitpack.specs.Packing.{badIndex}
 use Rattle.bitpack.specs.Signs.{badSketchSign}
-use Rattle.lists.proofs.Chunks.{chunks-joined, chunks-length}
+use Rattle.lists.proofs.Chunks.{chunks-joined}
 use Rattle.radius.specs.Codec.{badProfile}
 use Rattle.radius.specs.Firsts.{readBack}
 use Rattle.radius.specs.Linear.{quantized, spanOf, linearBytes, linearRadius}
@@ -28,6 +28,7 @@ use Rattle.radius.specs.declared.RadiusCodecProfileV1.{RadiusCodecProfileV1}
 use Rattle.radius.specs.declared.RadiusCodecProfileV1.the-variants.{F32, BlockLinearU16, BlockLogU8}
 use Rattle.packed.specs.declared.Code.{Code}
 use Rattle.packed_writing.specs.Writing.{recordOf, neededFor, fieldChecks, writeRecordOf}
+use Rattle.packed_writing.proofs.Written.{length-readBack}
 use Rattle.packed_laws.specs.Infinite.{GoodRadii}
 use Rattle.packed_laws.proofs.Ranges.{max-fits, range-good}
 use Rattle.packed_laws.proofs.Payloads.{floats-readBack}
@@ -57,10 +58,6 @@ linear-back : (radii : List Float) → readBack BlockLinearU16 radii ≡ map (λ
 unfolding readBack
 linear-back radii = chunks-joined (linearBytes (rangeOf radii)) 2 (length-linearBytes (rangeOf radii)) (linearRadius (rangeOf radii)) radii
 
-length-linear-back : (radii : List Float) → length (readBack BlockLinearU16 radii) ≡ length radii
-unfolding readBack
-length-linear-back radii = chunks-length (linearRadius (rangeOf radii)) 2 (length radii) _
-
 module _ (radii : List Float) (g : GoodRadii radii) where
   -- one that is refused as it would be read back reads as infinite
   linear-back-infinite : (i : ℕ) → i < length radii → badRadius (getD (readBack BlockLinearU16 radii) i nan) ≡ true → getD (readBack BlockLinearU16 radii) i nan ≡ inf false
@@ -84,7 +81,7 @@ module _ (radii : List Float) (g : GoodRadii radii) where
   back-infinite found =
       let back = readBack BlockLinearU16 radii in
       let below : place badRadius back < length back = ltb-true (place badRadius back) (length back) found in
-      linear-back-infinite (place badRadius back) (omega (arith, below, length-linear-back radii)) (place-offends badRadius back nan below)
+      linear-back-infinite (place badRadius back) (omega (arith, below, length-readBack BlockLinearU16 radii refl)) (place-offends badRadius back nan below)
 
   -- ---- the writer's refusal
 

@@ -9,7 +9,7 @@ use lib.Dec.{ltb}
 use lib.IntN.{ℤ}
 use lib.ListN.{length}
 use lib.Ieee.{Float}
-use Rattle.error.specs.Answer.{value, refused, check, place, first, each, accepted}
+use Rattle.error.specs.Answer.{value, refused, check, place, first, accepted}
 use Rattle.error.proofs.Chains.{first-all, append-left, append-refused, append-passed}
 use Rattle.error.specs.Checks.{wrongRoom}
 use Rattle.bitpack.proofs.Differs.{differs-same}
@@ -28,11 +28,17 @@ use Rattle.packed.specs.declared.Code.{Code}
 use Rattle.packed.specs.Layout.{headerLength}
 use Rattle.packed_size.specs.Size.{mapFor, neededFor, codeChecks}
 use Rattle.packed_size.proofs.Scalars.{code-small}
-use Rattle.packed_writing.specs.Writing.{recordOf, lengthChecks, fieldChecks, valueChecks, writeRecordOf}
+use Rattle.packed_writing.specs.Writing.{itemChecks, recordOf, lengthChecks, fieldChecks, valueChecks, writeRecordOf}
 use Rattle.setup.specs.Setups.{counted}
-use Rattle.packed_writing.specs.Inner.{Sized}
+use Rattle.packed_writing.specs.Inner.{Codes}
 
 -- ---- what the scalars and the lengths tell
+
+-- a profile that is not refused, and lengths that fit
+pub record Sized (profile : RadiusCodecProfileV1) (bits radii indices signs : ℕ) : Type 0 where
+  pub known : badProfile profile ≡ false
+  pub radii-most : radii ≤ 2048
+  pub codes : Codes bits indices signs
 
 module _ (code : Code) (radii indices signs : ℕ) (pass : first (fieldChecks code radii indices signs) accepted ≡ accepted) where
   -- one radius and one index for each pair, one sign for each projection that counts
@@ -99,20 +105,23 @@ module _ (profile : RadiusCodecProfileV1) (bits : ℕ) (radii : List Float) (ind
 
   module _ (fine : length radii ≤ bad) (known : badProfile profile ≡ false) {lost : ℕ} (lost-at : lost ≡ firstBadReadBackOf radii profile) where
     -- the checks that are left
-    rest : first (valueChecks profile bits radii indices signs) accepted ≡ first (check (ltb lost (length radii)) 16 lost ∷ each (badIndex bits) 15 indices ∷ each badSketchSign 10 signs ∷ []) accepted
+    rest : first (valueChecks profile bits radii indices signs) accepted ≡ first (check (ltb lost (length radii)) 16 lost ∷ itemChecks bits indices signs) accepted
     unfolding firstBadReadBackOf
     rest = simp (← found, le-ltb _ _ fine, length-readBack profile radii known, ← lost-at)
 
     pub values-lost : lost < length radii → first (valueChecks profile bits radii indices signs) accepted ≡ refused 16 lost
     values-lost h = rest ∙ simp (lt-ltb _ _ h)
 
-    module _ (kept : length radii ≤ lost) {large : ℕ} (large-at : large ≡ place (badIndex bits) indices) where
-      pub values-large : large < length indices → first (valueChecks profile bits radii indices signs) accepted ≡ refused 15 large
-      values-large h = rest ∙ simp (le-ltb _ _ kept, ← large-at, lt-ltb _ _ h)
+    pub values-codes : length radii ≤ lost → first (valueChecks profile bits radii indices signs) accepted ≡ first (itemChecks bits indices signs) accepted
+    values-codes kept = rest ∙ simp (le-ltb _ _ kept)
 
-      module _ (small : length indices ≤ large) {stray : ℕ} (stray-at : stray ≡ place badSketchSign signs) where
-        pub values-stray : stray < length signs → first (valueChecks profile bits radii indices signs) accepted ≡ refused 10 stray
-        values-stray h = rest ∙ simp (le-ltb _ _ kept, ← large-at, le-ltb _ _ small, ← stray-at, lt-ltb _ _ h)
+module _ (bits : ℕ) (indices : List ℕ) (signs : List ℤ) {large : ℕ} (large-at : large ≡ place (badIndex bits) indices) where
+  pub codes-large : large < length indices → first (itemChecks bits indices signs) accepted ≡ refused 15 large
+  codes-large h = simp (← large-at, lt-ltb _ _ h)
 
-        pub values-pass : length signs ≤ stray → first (valueChecks profile bits radii indices signs) accepted ≡ accepted
-        values-pass h = rest ∙ simp (le-ltb _ _ kept, ← large-at, le-ltb _ _ small, ← stray-at, le-ltb _ _ h)
+  module _ (small : length indices ≤ large) {stray : ℕ} (stray-at : stray ≡ place badSketchSign signs) where
+    pub codes-stray : stray < length signs → first (itemChecks bits indices signs) accepted ≡ refused 10 stray
+    codes-stray h = simp (← large-at, le-ltb _ _ small, ← stray-at, lt-ltb _ _ h)
+
+    pub codes-pass : length signs ≤ stray → first (itemChecks bits indices signs) accepted ≡ accepted
+    codes-pass h = simp (← large-at, le-ltb _ _ small, ← stray-at, le-ltb _ _ h)

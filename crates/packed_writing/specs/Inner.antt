@@ -23,11 +23,6 @@ pub record Codes (bits indices signs : ℕ) : Type 0 where
   pub indices-most : indices ≤ 2048
   pub signs-most : signs ≤ 4096
 
-pub record Sized (profile : RadiusCodecProfileV1) (bits radii indices signs : ℕ) : Type 0 where
-  pub known : badProfile profile ≡ false
-  pub radii-most : radii ≤ 2048
-  pub codes : Codes bits indices signs
-
 -- ---- what the writing of the payloads asks: values that have passed their checks, and room for them
 
 pub record CodesReady (indices : List ℕ) (bits : ℕ) (signs : List ℤ) (room : ℕ) : Type 0 where

@@ -67,14 +67,16 @@ lengthChecks pairs m radii indices signs = wrongInput radii pairs ∷ wrongInput
 abbrev pub fieldChecks : Code → ℕ → ℕ → ℕ → List Check
 fieldChecks code radii indices signs = codeChecks code ++ lengthChecks (code .dim / 2) (counted (code .mode) (code .projections)) radii indices signs
 
+-- '15, 10'
+abbrev pub itemChecks : ℕ → List ℕ → List ℤ → List Check
+itemChecks bits indices signs = each (badIndex bits) 15 indices ∷ each badSketchSign 10 signs ∷ []
+
 -- '16 for bad radii, 16 for radii that would read as infinite, 15, 10'
 abbrev pub valueChecks : RadiusCodecProfileV1 → ℕ → List Float → List ℕ → List ℤ → List Check
 valueChecks profile bits radii indices signs =
     each badRadius 16 radii
     ∷ each badRadius 16 (readBack profile radii)
-    ∷ each (badIndex bits) 15 indices
-    ∷ each badSketchSign 10 signs
-    ∷ []
+    ∷ itemChecks bits indices signs
 
 -- 'In every call 6 comes after all input checks.' `room` is the output's length
 unfoldable pub writeRecordOf : Code → List Float → List ℕ → List ℤ → ℕ → Answer (List ℕ)

@@ -25,7 +25,7 @@ ghost use Rattle.setup.specs.Setups.{byMode};
 ghost use Rattle.radius.specs.Codec.{badProfile, compressChecks, rangeFor, payloadFor};
 ghost use Rattle.packed.specs.Layout.{headerLength};
 ghost use Rattle.packed_size.specs.Size.{byProfile, mapFor};
-ghost use Rattle.packed_writing.specs.Writing.{rangeBytes, projectionBytes, headerBytes, indexBytes, signBytes, lengthChecks, fieldChecks, valueChecks, writeRecordOf};
+ghost use Rattle.packed_writing.specs.Writing.{itemChecks, rangeBytes, projectionBytes, headerBytes, indexBytes, signBytes, lengthChecks, fieldChecks, valueChecks, writeRecordOf};
 ghost use Rattle.packed_writing.specs.Inner.{CodesReady, Payloads};
 
 // Writes a record into exactly the bytes that it needs. Without signs the projections are ignored.
@@ -142,6 +142,13 @@ fn check_values(
             place: lost,
         };
     }
+    check_codes(bits, indices, signs)
+}
+
+// The checks of indices and of signs.
+fn check_codes(bits: u8, indices: &[u16], signs: &[i8]) -> Outcome
+    ensures { λ r. ⌜ says r ≡ first (itemChecks bits (now (indices .entry)) (now (signs .entry))) accepted ⌝ }
+{
     let large = bitpack::first_bad_index(indices, bits);
     if large < indices.len() {
         return Outcome::Refused {

@@ -1,8 +1,8 @@
 -- `packed_writing::check_values` meets its contract: each return is one case of the checks, in their order. Assumes nothing.
-use mathlib.Core.Path.{sym}
+use mathlib.Core.Path.{sym, _∙_}
 use denote.Ref.{now}
 use borrow.Author.Needs.{needs}
-use Rattle.packed_writing.proofs.Written.{values-radius, values-lost, values-large, values-stray, values-pass}
+use Rattle.packed_writing.proofs.Written.{values-radius, values-lost, values-codes}
 use Rattle.packed_writing.proofs.check_values.Statement.{statement}
 use Rattle.packed_writing.proofs.check_values.Tie as tie
 
@@ -18,20 +18,11 @@ first-bad-read-back-requires c κs = search needs
 returns-2 : tie.Need-returns-2
 returns-2 c = let s = c .before .before .before .before .before .before in let a = s .args in sym (values-lost (a .profile) (a .bits) (now (a .radii)) (now (a .indices)) (now (a .signs)) (c .before .before .before .first-bad-radius .ensures) (c .before .before .if1 .left) (s .pre) (c .before .first-bad-read-back .ensures) (c .if2 .taken))
 
-first-bad-index-requires : tie.Need-first-bad-index-requires
-first-bad-index-requires c κs = search needs
+check-codes-requires : tie.Need-check-codes-requires
+check-codes-requires c κs = search needs
 
 returns-3 : tie.Need-returns-3
-returns-3 c = let s = c .before .before .before .before .before .before .before .before in let a = s .args in sym (values-large (a .profile) (a .bits) (now (a .radii)) (now (a .indices)) (now (a .signs)) (c .before .before .before .before .before .first-bad-radius .ensures) (c .before .before .before .before .if1 .left) (s .pre) (c .before .before .before .first-bad-read-back .ensures) (c .before .before .if2 .left) (c .before .first-bad-index .ensures) (c .if3 .taken))
-
-first-bad-sketch-sign-requires : tie.Need-first-bad-sketch-sign-requires
-first-bad-sketch-sign-requires c κs = search needs
-
-returns-4 : tie.Need-returns-4
-returns-4 c = let s = c .before .before .before .before .before .before .before .before .before .before in let a = s .args in sym (values-stray (a .profile) (a .bits) (now (a .radii)) (now (a .indices)) (now (a .signs)) (c .before .before .before .before .before .before .before .first-bad-radius .ensures) (c .before .before .before .before .before .before .if1 .left) (s .pre) (c .before .before .before .before .before .first-bad-read-back .ensures) (c .before .before .before .before .if2 .left) (c .before .before .before .first-bad-index .ensures) (c .before .before .if3 .left) (c .before .first-bad-sketch-sign .ensures) (c .if4 .taken))
-
-returns-5 : tie.Need-returns-5
-returns-5 c = let s = c .before .before .before .before .before .before .before .before .before .before in let a = s .args in sym (values-pass (a .profile) (a .bits) (now (a .radii)) (now (a .indices)) (now (a .signs)) (c .before .before .before .before .before .before .before .first-bad-radius .ensures) (c .before .before .before .before .before .before .if1 .left) (s .pre) (c .before .before .before .before .before .first-bad-read-back .ensures) (c .before .before .before .before .if2 .left) (c .before .before .before .first-bad-index .ensures) (c .before .before .if3 .left) (c .before .first-bad-sketch-sign .ensures) (c .if4 .left))
+returns-3 c = let s = c .before .before .before .before .before .before .before in let a = s .args in c .check-codes .ensures ∙ sym (values-codes (a .profile) (a .bits) (now (a .radii)) (now (a .indices)) (now (a .signs)) (c .before .before .before .before .first-bad-radius .ensures) (c .before .before .before .if1 .left) (s .pre) (c .before .before .first-bad-read-back .ensures) (c .before .if2 .left))
 
 pub check-values-spec : {M : Type 1} → statement M
 check-values-spec =
@@ -41,8 +32,5 @@ check-values-spec =
     returns
     first-bad-read-back-requires
     returns-2
-    first-bad-index-requires
-    returns-3
-    first-bad-sketch-sign-requires
-    returns-4
-    returns-5)
+    check-codes-requires
+    returns-3)

@@ -15,11 +15,10 @@ use Rattle.radius.specs.declared.Range.{Range}
 use Rattle.packed.specs.Layout.{headerLength}
 use Rattle.packed_size.specs.Size.{mapFor, neededFor}
 use Rattle.packed_writing.specs.Writing.{headerBytes, recordOf, fieldChecks, valueChecks}
-use Rattle.packed_writing.specs.Inner.{Sized}
 use Rattle.packed.proofs.Headers.{product-most}
 use Rattle.radius.proofs.Checks.{width-most}
 use Rattle.packed_writing.proofs.Stores.{lent-back, front-again, store-two}
-use Rattle.packed_writing.proofs.Written.{fields-sized, fields-needed, write-fields, write-values, write-no-room, write-value}
+use Rattle.packed_writing.proofs.Written.{Sized, fields-sized, fields-needed, write-fields, write-values, write-no-room, write-value}
 use borrow.Author.Needs.{needs}
 use Rattle.packed_writing.proofs.write_record.Statement.{statement}
 use Rattle.packed_writing.proofs.write_record.Tie as tie
