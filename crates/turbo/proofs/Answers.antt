@@ -20,7 +20,8 @@ use Rattle.setup.specs.Checks.{scalarChecks, tableChecks, setupChecks, directio
 use Rattle.qjl.specs.Score.{unitResidual}
 use Rattle.qjl.specs.Sketch.{vectorChecks}
 use Rattle.packed.specs.Reading.{radiiOf, signsOf}
-use Rattle.turbo_order.specs.Scores.{accountOf, polarPart, scoreFrom, scoreOf}
+use Rattle.turbo_order.specs.Scores.{accountOf, scoreFrom, scoreOf}
+use Rattle.turbo_order.proofs.Within.{polarPart}
 use Rattle.turbo_query.specs.Query.{rotatedQuery, projectedQuery, preparedChecks, queryChecks, prepareChecks, prepareRotatedOf, prepareProjectedOf}
 use Rattle.turbo_opening.specs.Opening.{contentOf}
 use Rattle.turbo.specs.Scoring.{recordScore, readingChecks}

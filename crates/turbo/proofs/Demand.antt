@@ -23,7 +23,7 @@ use Rattle.packed.specs.Layout.{headerOf}
 use Rattle.packed.specs.Reading.{radiiOf}
 use Rattle.packed.proofs.Payloads.{length-radiiOf}
 use Rattle.packed.proofs.Radii.{radii-fit, length-signsOf, signs-good}
-use Rattle.turbo_order.specs.Account.{Sound}
+use Rattle.turbo_order.proofs.Sound.{Sound}
 use Rattle.turbo_order.specs.Scores.{accountOf, scoreOf}
 use Rattle.turbo_order.proofs.Within.{Scorable, score-within, scores-ordered}
 use Rattle.turbo_order.proofs.Hadamard.{hadamard-sound}

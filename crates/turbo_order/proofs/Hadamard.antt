@@ -1,5 +1,5 @@
--- The Hadamard rotation's account is sound for every accepted setup, and its size of a polar sum is the product that document 01 writes. Assumes nothing.
-use Prim.Native.Nat.{ℕ, _*_, _≤_}
+-- The Hadamard rotation's account is sound for every accepted setup, and its size and bound are those that document 01 writes. Assumes nothing.
+use Prim.Native.Nat.{ℕ, _+_, _*_, _≤_}
 use mathlib.Core.Path.{_≡_, refl, sym, ap, transport}
 use mathlib.Core.List.{List}
 use native.Mathlib.Nat.{le-refl, one-mul}
@@ -17,9 +17,11 @@ use Rattle.setup.specs.Lent.{Lent}
 use Rattle.setup.specs.declared.Setup.{Setup}
 use Rattle.setup.proofs.Usable.{AcceptedSetup}
 use Rattle.polar.specs.Exact.{polarSize, directionSum}
+use Rattle.setup.specs.Setups.{byMode, countedProjectionsOf}
 use Rattle.polar.proofs.Counts.{polar-size-even}
-use Rattle.turbo_order.specs.Account.{Sound, hadamardAccount}
-use Rattle.turbo_order.specs.Scores.{accountOf}
+use Rattle.turbo_order.specs.Scores.{Content, accountOf, polarPartSize, residualPartSize, sizeBy, perStep, perRadius, boundBy, scoreBound}
+use Rattle.turbo_order.specs.AsWritten.{writtenPolarSize, writtenSize, AsWritten}
+use Rattle.turbo_order.proofs.Sound.{Sound}
 
 module _ (s : Setup) (l : Lent) (query : List Float) (accepted : AcceptedSetup s l) (query-long : length query ≡ s .dim) where
   rotatable : Rotatable (s .dim) (l .signs) (length query) (s .dim)
@@ -50,9 +52,22 @@ module _ (s : Setup) (l : Lent) (query : List Float) (accepted : AcceptedSetup s
         some = le-refl 1;
       }
 
--- '(1/sqrt(n)) × X × sum of r(|c| + |s|)'
-pub hadamard-size : (n : ℕ) (signs query directions : List Float) (indices : List ℕ) (radii : List Float) → 2 * length radii ≤ n
-    → polarSize (hadamardAccount n signs query .sizes) directions indices radii ≡ mag (inverseRoot n) * absoluteSum query * directionSum directions indices radii
-hadamard-size n signs query directions indices radii half =
-    polar-size-even (mag (inverseRoot n) * absoluteSum query) (replicate n (mag (inverseRoot n) * absoluteSum query)) directions indices radii
-    (λ j k. getD-replicate n j (mag (inverseRoot n) * absoluteSum query) 0 (omega arith))
+-- ---- the products of document 01
+
+module _ (s : Setup) (l : Lent) (query : List Float) (c : Content) (half : 2 * length (c .radii) ≤ s .dim) where
+  hadamard-size : polarPartSize (accountOf s l query) l c ≡ writtenPolarSize s l query c
+  hadamard-size =
+      polar-size-even (mag (inverseRoot (s .dim)) * absoluteSum query) (replicate (s .dim) (mag (inverseRoot (s .dim)) * absoluteSum query)) (l .directions) (c .indices) (c .radii)
+      (λ j k. getD-replicate (s .dim) j (mag (inverseRoot (s .dim)) * absoluteSum query) 0 (omega arith))
+
+  hadamard-sizes : sizeBy (accountOf s l query) s l query c ≡ writtenSize s l query c
+  unfolding sizeBy
+  hadamard-sizes = ap (λ (k : ℕ). byMode (s .mode) k (k + residualPartSize s l query)) hadamard-size
+
+  hadamard-bound : scoreBound s l query c
+      ≡ (s .dim + countedProjectionsOf s + 16) * writtenSize s l query c + (perRadius * absoluteSum (c .radii) + perStep * (s .dim * countedProjectionsOf s + s .dim))
+  unfolding boundBy
+  hadamard-bound = rw (hadamard-sizes, one-mul)
+
+pub as-written : AsWritten
+as-written = record { size = λ s l query c half. hadamard-sizes s l query c half; bound = λ s l query c half. hadamard-bound s l query c half }

@@ -1,3 +1,4 @@
+pub mod Sound
 pub mod Scales
 pub mod Within
 pub mod Hadamard

@@ -28,12 +28,15 @@ use Rattle.setup.specs.declared.TurboMode.the-variants.{PolarOnly, PolarWithQjl
 use Rattle.setup.specs.Setups.{byMode, countedProjectionsOf}
 use Rattle.setup.specs.Checks.{badDirection}
 use Rattle.setup.proofs.Usable.{Usable, Directions}
-use Rattle.polar.specs.Polar.{valueAt}
+use Rattle.polar.specs.Polar.{valueAt, polarSumOf}
 use Rattle.polar.proofs.Directions.{within-small, missing-small}
 use Rattle.polar.proofs.Counts.{close-polar-most}
+use Rattle.rounding.specs.Rows.{projected}
+use Rattle.qjl.specs.Score.{unitResidual}
 use Rattle.qjl.proofs.ScaleBound.{close-unit-residual}
-use Rattle.turbo_order.specs.Account.{Account, Sound}
-use Rattle.turbo_order.specs.Scores.{Content, polarPart, residualPart, scoreFrom, scoreBy, exactPolarPart, exactResidualPart, exactBy, polarPartSize, residualPartSize, sizeBy, perUnit, perStep, perRadius, boundBy}
+use Rattle.turbo_order.specs.Account.{Account}
+use Rattle.turbo_order.specs.Scores.{Content, scoreFrom, scoreBy, exactPolarPart, exactResidualPart, exactBy, polarPartSize, residualPartSize, sizeBy, perUnit, boundBy}
+use Rattle.turbo_order.proofs.Sound.{Sound}
 use Rattle.turbo_order.proofs.Scales.{per-one, per-radius, scaled-unit, alone-within, residual-within}
 
 -- what the checks of setup, query and record leave, whatever the rotation
@@ -47,6 +50,13 @@ pub record Scorable (s : Setup) (l : Lent) (query : List Float) (c : Content) : 
   pub radii-long : 2 * length (c .radii) ≡ s .dim
   pub marks-long : length (c .signs) ≡ countedProjectionsOf s
   pub marks-good : (i : ℕ) → i < length (c .signs) → badSketchSign (getD (c .signs) i (pos 0)) ≡ false
+
+-- the polar sum and the residual of the score that an account gives
+abbrev pub polarPart : Account → Lent → Content → Float
+polarPart a l c = polarSumOf (a .entries) (l .directions) (c .indices) (c .radii)
+
+abbrev pub residualPart : Setup → Lent → List Float → Content → Float
+residualPart s l query c = unitResidual (s .projections) (projected (s .dim) (s .projections) (l .matrix) query) (c .signs)
 
 -- a direction that passes is at most 1.0 in size
 direction-small : (x : Float) → badDirection x ≡ false → mag x ≤ unit
@@ -103,32 +113,39 @@ module _ (a : Account) (s : Setup) (l : Lent) (query : List Float) (c : Content)
       let rows = h .usable .most-projections in
       close-add (omega (arith, same)) (close-weaken (omega (arith, few)) (le-refl _) (le-refl _) close-polar-part) (close-weaken (omega arith) (le-refl _) (le-refl _) (close-residual-part e))
 
-  -- ---- the first half: within the bound, by mode
-  bound-at : ℕ → ℕ → ℕ
-  bound-at m size = (a .count + m + 16) * size + (perRadius * (a .factor * absoluteSum (c .radii)) + perStep * (s .dim * m + s .dim))
+  -- ---- what the roundings come to, by mode
+  error-at : TurboMode → ℕ
+  error-at mode =
+      byMode mode
+      ((sound .roundings + 3 + length (c .radii)) * polarPartSize a l c + 2 ^ 24 * polarPartError)
+      ((a .count + s .projections + 15 + 1) * (polarPartSize a l c + residualPartSize s l query) + 2 ^ 24 * (polarPartError + (2 * s .dim + 1) * (unit * unit * unit)))
 
-  by-mode : (mode : TurboMode) → s .mode ≡ mode → T (finite (byMode mode (polarPart a l c) (add binary32 (polarPart a l c) (residualPart s l query c))))
-      → Near (perUnit ⊙ val (byMode mode (polarPart a l c) (add binary32 (polarPart a l c) (residualPart s l query c)))) (2 ^ 23 ⊙ byMode mode (exactPolarPart a l c) (exactPolarPart a l c ⊞ exactResidualPart s l query c))
-      (bound-at (byMode mode 0 (s .projections)) (byMode mode (polarPartSize a l c) (polarPartSize a l c + residualPartSize s l query)))
-  unfolding bound-at polarPartError
-  by-mode PolarOnly e known =
-      let most = sound .most in
-      let near = close-error (omega (arith, few)) known close-polar-part in
-      let bound = alone-within (sound .roundings) (a .count) (a .factor) (length (c .radii)) (s .dim) (polarPartSize a l c) (absoluteSum (c .radii)) (unit * unit) (unit * unit * unit) (sound .counted) (h .radii-long) in
-      rw (scaled-unit, per-radius, per-one) (near-weaken bound near)
-  by-mode PolarWithQjl e known =
+  near-at : (mode : TurboMode) → s .mode ≡ mode → T (finite (byMode mode (polarPart a l c) (add binary32 (polarPart a l c) (residualPart s l query c))))
+      → Near (perUnit ⊙ val (byMode mode (polarPart a l c) (add binary32 (polarPart a l c) (residualPart s l query c)))) (2 ^ 23 ⊙ byMode mode (exactPolarPart a l c) (exactPolarPart a l c ⊞ exactResidualPart s l query c)) (error-at mode)
+  unfolding error-at
+  near-at PolarOnly e known = let most = sound .most in rw scaled-unit (close-error (omega (arith, few)) known close-polar-part)
+  near-at PolarWithQjl e known =
       let same = counted e in
       let most = sound .most in
       let rows = h .usable .most-projections in
+      rw scaled-unit (close-error (omega (arith, same)) known (close-whole e))
+
+  -- the bound is at least that
+  bound-enough : (mode : TurboMode) → s .mode ≡ mode → error-at mode ≤ boundBy a s l query c
+  unfolding error-at polarPartError boundBy sizeBy
+  bound-enough PolarOnly e =
+      let bound = alone-within (sound .roundings) (a .count) (a .factor) (length (c .radii)) (s .dim) (polarPartSize a l c) (absoluteSum (c .radii)) (unit * unit) (unit * unit * unit) (sound .counted) (h .radii-long) in
+      rw (e, per-radius, per-one) (omega (arith, bound))
+  bound-enough PolarWithQjl e =
+      let same = counted e in
       let some = h .usable .residual-projections e in
-      let near = close-error (omega (arith, same)) known (close-whole e) in
       let bound = residual-within (sound .roundings) (a .count) (a .factor) (length (c .radii)) (s .dim) (polarPartSize a l c) (absoluteSum (c .radii)) (unit * unit) (unit * unit * unit) (sound .counted) (h .radii-long) (s .projections) (residualPartSize s l query) (omega (arith, same)) pairs-some in
-      rw (scaled-unit, per-radius, per-one) (near-weaken bound near)
+      rw (e, per-radius, per-one) (omega (arith, bound))
 
   -- Each finite score lies within its bound of its exact score.
   pub score-within : T (finite (scoreBy a s l query c)) → Near (perUnit ⊙ val (scoreBy a s l query c)) (2 ^ 23 ⊙ exactBy a s l query c) (boundBy a s l query c)
-  unfolding scoreFrom exactBy sizeBy boundBy bound-at
-  score-within known = by-mode (s .mode) refl known
+  unfolding scoreFrom exactBy
+  score-within known = near-weaken (bound-enough (s .mode) refl) (near-at (s .mode) refl known)
 
 -- Of two records under one setup, query and rotation, scores that differ by more than the sum of their bounds have exact scores in the same strict order.
 pub scores-ordered : (a : Account) (s : Setup) (l : Lent) (query : List Float) (c d : Content) → Sound (s .dim) a → Scorable s l query c → Scorable s l query d → T (finite (scoreBy a s l query c)) → T (finite (scoreBy a s l query d))

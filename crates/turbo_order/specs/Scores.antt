@@ -39,13 +39,6 @@ scoreFrom s directions rotated values c =
     (polarSumOf rotated directions (c .indices) (c .radii))
     (add binary32 (polarSumOf rotated directions (c .indices) (c .radii)) (unitResidual (s .projections) values (c .signs)))
 
--- the polar sum and the residual of the score that an account gives
-abbrev pub polarPart : Account → Lent → Content → Float
-polarPart a l c = polarSumOf (a .entries) (l .directions) (c .indices) (c .radii)
-
-abbrev pub residualPart : Setup → Lent → List Float → Content → Float
-residualPart s l query c = unitResidual (s .projections) (projected (s .dim) (s .projections) (l .matrix) query) (c .signs)
-
 -- the score by an account of the query's rotation, with the query projected on the matrix
 abbrev pub scoreBy : Account → Setup → Lent → List Float → Content → Float
 scoreBy a s l query c = scoreFrom s (l .directions) (a .entries) (projected (s .dim) (s .projections) (l .matrix) query) c
@@ -64,8 +57,8 @@ exactBy a s l query c = byMode (s .mode) (exactPolarPart a l c) (exactPolarPart 
 
 -- ---- 'A = (1/sqrt(n)) × X × sum of r(|c| + |s|), plus K × the sum of all |matrix entry × query entry|', in units of 2 ^ -596;
 -- 'Without residual the K part is 0.'
--- the sum of r(|c| × a + |s| × b), where a and b are the sums that bound the pair's two entries; each is (1/sqrt(n)) × X for the Hadamard rotation, and the
--- law `hadamard-size` has the product that document 01 writes
+-- the sum of r(|c| × a + |s| × b), where a and b are the sums that bound the pair's two entries; each is (1/sqrt(n)) × X for the Hadamard rotation, and
+-- `AsWritten` has the product that document 01 writes
 abbrev pub polarPartSize : Account → Lent → Content → ℕ
 polarPartSize a l c = polarSize (a .sizes) (l .directions) (c .indices) (c .radii)
 
