@@ -6,11 +6,10 @@ use mathlib.Core.List.{List, [], _∷_, _++_}
 use borrow.Author.Tests.{eqb-true, not-true, not-false, eq-eqb, ne-eqb, ltb-false}
 use lib.ListN.{length}
 use lib.Ieee.{Float}
-use Rattle.error.specs.Answer.{Answer, value, refused, first, each, place, accepted, done, after}
+use Rattle.error.specs.Answer.{Answer, value, refused, first, each, place, accepted, done, after, clear}
 use Rattle.error.proofs.Chains.{first-passed, first-refused, first-passes, first-accepts, first-done, append-passed, append-refused, append-left}
 use Rattle.error.proofs.Answers.{done-refused, after-refused, after-value}
 use Rattle.error.proofs.Places.{each-offends, each-passes}
-use Rattle.error.specs.Sweep.{clear}
 use Rattle.float.specs.Copying.{copyIntoOf}
 use Rattle.float.proofs.Copying.{copy-into-same}
 use Rattle.rotation.specs.Checks.{rotationChecks}
