@@ -1,7 +1,7 @@
 pub mod Rows
 pub mod Filling
 pub mod FiniteSums
-pub mod FiniteSigns
+pub mod AtOnce
 pub mod Signs
 pub mod SignSums
 pub mod Answers

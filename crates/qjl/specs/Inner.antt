@@ -66,9 +66,10 @@ pub record FourDots (matrix query : List Float) (from : ℕ) (a b c d : Float) :
 
 -- ---- signs, all or none
 
--- what a call leaves that writes the signs of values only where all of the values are finite, and says whether it did
-pub record FiniteSigns (values : List Float) (old : List ℤ) (wrote : Bool) (new : List ℤ) : Type 0 where
-  pub clean : wrote ≡ true → ltb (place badValue values) (length values) ≡ false
+-- what a call leaves that writes the signs of values, but where they are judged only if all of them are finite, and says whether it did
+pub record JudgedSigns (judged : Bool) (values : List Float) (old : List ℤ) (wrote : Bool) (new : List ℤ) : Type 0 where
+  pub whole : judged ≡ false → wrote ≡ true
+  pub clean : judged ≡ true → wrote ≡ true → ltb (place badValue values) (length values) ≡ false
   pub signs : wrote ≡ true → new ≡ map signOfSum values
   pub kept : wrote ≡ false → new ≡ old
 

@@ -5,12 +5,12 @@ use mathlib.Core.Bool.{false}
 use mathlib.Core.List.{List, [], _∷_, map}
 use lib.IntN.{ℤ, pos}
 use lib.ListN.{length}
-use lib.Ieee.{Float, binary32, mul, div, ofInt, ofBits}
+use lib.Ieee.{Float, binary32, mul, div, ofInt}
 use Rattle.error.specs.Answer.{Answer, value, Check, first, each}
 use Rattle.bitpack.specs.Signs.{badSketchSign}
 use Rattle.float.specs.SquareRoot.{squareRoot}
 use Rattle.rounding.specs.Sums.{dot}
-use Rattle.float.specs.Constants.{posZero, one, pi}
+use Rattle.float.specs.Constants.{posZero, one, two, pi}
 use Rattle.error.specs.Checks.{wrongInput, wrongScore, badValue}
 use Rattle.setup.specs.Lent.{Lent}
 use Rattle.setup.specs.declared.Setup.{Setup}
@@ -21,7 +21,7 @@ use Rattle.rounding.specs.Rows.{projected}
 
 -- 'PI is 40490FDB'; root(PI / 2), quotient and root each rounded once
 unfoldable pub root : Float
-root = squareRoot (div binary32 pi (ofBits binary32 0x4000_0000))
+root = squareRoot (div binary32 pi two)
 
 -- 'the scale K is root(PI / 2) × 1.0 / m', with the norm in the place of 1.0
 unfoldable pub scaleOf : ℕ → Float → Float

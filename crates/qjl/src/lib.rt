@@ -23,7 +23,7 @@ ghost use Rattle.qjl.specs.Projection.{projectOf};
 ghost use Rattle.rounding.specs.Rows.{projected};
 ghost use Rattle.setup.specs.Lent.{lent};
 ghost use Rattle.qjl.specs.Sketch.{signOfSum, vectorChecks, sketchOf};
-ghost use Rattle.qjl.specs.Inner.{Filled, SoFar, FourSoFar, FourDots, fourMore, onRow, Rowed, FiniteSigns, AtOnce};
+ghost use Rattle.qjl.specs.Inner.{Filled, SoFar, FourSoFar, FourDots, fourMore, onRow, Rowed, JudgedSigns, AtOnce};
 ghost use Rattle.qjl.specs.Score.{scaleOf, signSumOf, residualOf, signedScore, sketchScoreOf};
 
 // The sums of four rows.
@@ -129,7 +129,7 @@ pub fn residual(projections: u16, norm: f32, projected: &[f32], signs: &[i8]) ->
 pub fn scale(projections: u16, norm: f32) -> f32
     ensures { λ r. ⌜ r ≡ scaleOf projections norm ⌝ }
 {
-    // root(PI / 2)
+    // The pattern of root(PI / 2).
     let root = f32::from_bits(0x3FA0_6C99);
     root * norm / (projections as f32)
 }
@@ -205,31 +205,7 @@ fn sketch_at_once(
     if out.len() != rows {
         return false;
     }
-    sketch_finite(dim, matrix, vector, out)
-}
-
-// The sign of each projection, into the output, where all of them are finite, and else false with nothing written.
-fn sketch_finite(dim: usize, matrix: &[f32], vector: &[f32], out: &mut [i8]) -> bool
-    requires { ⌜ Rowed dim (now matrix) (now vector) (length (now out)) × (length (now out) ≤ 4096) ⌝ }
-    ensures { λ r. ⌜ FiniteSigns (projected dim (length (now (out .entry))) (now (matrix .entry)) (now (vector .entry))) (now (out .entry)) r (now (out .exit)) ⌝ }
-{
-    let rows = out.len();
-    let mut values = zeros();
-    fill(dim, matrix, vector, &mut values[0..rows]);
-    finite_signs_into(&values[0..rows], out)
-}
-
-// The sign of each value, into the output, where all of them are finite, and else false with nothing written.
-fn finite_signs_into(values: &[f32], out: &mut [i8]) -> bool
-    requires { ⌜ length (now out) ≡ length (now values) ⌝ }
-    ensures { λ r. ⌜ FiniteSigns (now (values .entry)) (now (out .entry)) r (now (out .exit)) ⌝ }
-{
-    let bad = error::first_non_finite(values);
-    if bad < values.len() {
-        return false;
-    }
-    signs_into(values, out);
-    true
+    sketch_rows(dim, matrix, vector, true, out)
 }
 
 // The sketch, check by check.
@@ -256,19 +232,33 @@ fn sketch_checked(
             place: rows,
         };
     }
-    sketch_rows(dim, matrix, vector, out);
+    sketch_rows(dim, matrix, vector, false, out);
     Outcome::Done
 }
 
-// The sign of each projection, into the output.
-fn sketch_rows(dim: usize, matrix: &[f32], vector: &[f32], out: &mut [i8])
+// The sign of each projection, into the output. Where they are judged and one is not finite, it is false with nothing written.
+fn sketch_rows(dim: usize, matrix: &[f32], vector: &[f32], judged: bool, out: &mut [i8]) -> bool
     requires { ⌜ Rowed dim (now matrix) (now vector) (length (now out)) × (length (now out) ≤ 4096) ⌝ }
-    ensures { λ _. ⌜ now (out .exit) ≡ map signOfSum (projected dim (length (now (out .entry))) (now (matrix .entry)) (now (vector .entry))) ⌝ }
+    ensures { λ r. ⌜ JudgedSigns judged (projected dim (length (now (out .entry))) (now (matrix .entry)) (now (vector .entry))) (now (out .entry)) r (now (out .exit)) ⌝ }
 {
     let rows = out.len();
     let mut values = zeros();
     fill(dim, matrix, vector, &mut values[0..rows]);
-    signs_into(&values[0..rows], out);
+    judged_signs_into(&values[0..rows], judged, out)
+}
+
+// The sign of each value, into the output. Where they are judged and one is not finite, it is false with nothing written.
+fn judged_signs_into(values: &[f32], judged: bool, out: &mut [i8]) -> bool
+    requires { ⌜ length (now out) ≡ length (now values) ⌝ }
+    ensures { λ r. ⌜ JudgedSigns judged (now (values .entry)) (now (out .entry)) r (now (out .exit)) ⌝ }
+{
+    if judged {
+        if !error::all_finite(values) {
+            return false;
+        }
+    }
+    signs_into(values, out);
+    true
 }
 
 // The sign of each value, into the output.

@@ -23,7 +23,7 @@ use Rattle.qjl.specs.Inner.{Rowed, AtOnce}
 use Rattle.qjl.specs.Sketch.{vectorChecks}
 use Rattle.qjl.proofs.Answers.{vector-rowed, vector-passed}
 use Rattle.qjl.proofs.FiniteSums.{matrix-finite}
-use Rattle.qjl.proofs.FiniteSigns.{at-once-left, at-once-made}
+use Rattle.qjl.proofs.AtOnce.{at-once-left, at-once-made}
 use Rattle.turbo_query.specs.Query.{rotatedQuery, projectedQuery, prepareRotatedOf, prepareProjectedOf}
 use Rattle.turbo_query.specs.Inner.{handedChecks, Handed, Queryable}
 

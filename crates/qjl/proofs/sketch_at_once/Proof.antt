@@ -6,7 +6,7 @@ use Rattle.error.specs.Outcomes.{says}
 use Rattle.setup.specs.Lent.{lent}
 use Rattle.setup.specs.Checks.{setupChecksButEntries}
 use Rattle.qjl.proofs.Answers.{shaped-ready, shaped-value}
-use Rattle.qjl.proofs.FiniteSigns.{at-once-left, at-once-signs}
+use Rattle.qjl.proofs.AtOnce.{at-once-left, at-once-signs}
 use Rattle.qjl.proofs.sketch_at_once.Statement.{statement}
 use Rattle.qjl.proofs.sketch_at_once.Tie as tie
 
@@ -38,8 +38,8 @@ returns-3 c = at-once-left _ _ _ refl
 returns-4 : tie.Need-returns-4
 returns-4 c = at-once-left _ _ _ refl
 
-sketch-finite-requires : tie.Need-sketch-finite-requires
-sketch-finite-requires c κs = let a = c .before .before .before .before .before .before .before .before .before .before .before .before .args in
+sketch-rows-requires : tie.Need-sketch-rows-requires
+sketch-rows-requires c κs = let a = c .before .before .before .before .before .before .before .before .before .before .before .before .args in
     shaped-ready (a .setup) (lent (a .signs .now) (a .directions .now) (a .matrix .now)) (a .vector .now) _ (passed (c .before .before .before .before .before)) (c .before .before .before .if1 .left) (c .before .before .before .before .counted-projections .ensures) (c .before .if3 .left)
 
 same-length : tie.Need-same-length
@@ -47,7 +47,7 @@ same-length c = search needs
 
 returns-5 : tie.Need-returns-5
 returns-5 c = let a = c .before .before .before .before .before .before .before .before .before .before .before .before .before .before .args in
-    at-once-signs _ (shaped-value (a .setup) (lent (a .signs .now) (a .directions .now) (a .matrix .now)) (a .vector .now) _ (passed (c .before .before .before .before .before .before .before)) (c .before .before .before .before .before .if1 .left) (c .before .before .before .before .before .before .counted-projections .ensures) (c .before .before .before .if3 .left) (c .before .before .before .before .if2 .left)) (c .before .sketch-finite .ensures)
+    at-once-signs _ (shaped-value (a .setup) (lent (a .signs .now) (a .directions .now) (a .matrix .now)) (a .vector .now) _ (passed (c .before .before .before .before .before .before .before)) (c .before .before .before .before .before .if1 .left) (c .before .before .before .before .before .before .counted-projections .ensures) (c .before .before .before .if3 .left) (c .before .before .before .before .if2 .left)) (c .before .sketch-rows .ensures)
 
 pub sketch-at-once-spec : {M : Type 1} → statement M
 sketch-at-once-spec =
@@ -61,6 +61,6 @@ sketch-at-once-spec =
     returns-2
     returns-3
     returns-4
-    sketch-finite-requires
+    sketch-rows-requires
     same-length
     returns-5)

@@ -1,5 +1,5 @@
 -- `qjl::sketch_checked` meets its contract: each return is one case of the answer's laws, and the signs are those of `sketch_rows`. Assumes nothing.
-use mathlib.Core.Path.{_≡_, sym, ap, _∙_}
+use mathlib.Core.Path.{_≡_, refl, sym, ap, _∙_}
 use borrow.Author.Needs.{needs}
 use Rattle.error.specs.Answer.{first, accepted}
 use Rattle.error.specs.Outcomes.{says}
@@ -43,7 +43,7 @@ same-length c = search needs
 
 returns-3 : tie.Need-returns-3
 returns-3 c = let a = c .before .before .before .before .before .before .before .before .before .before .before .before .args in
-    both-value _ _ _ (sketch-value (a .setup) (lent (a .signs .now) (a .directions .now) (a .matrix .now)) (a .vector .now) _ (passed (c .before .before .before .before .before)) (c .before .before .before .before .counted-projections .ensures) (c .before .before .before .if1 .left)) (c .before .sketch-rows .ensures)
+    both-value _ _ _ (sketch-value (a .setup) (lent (a .signs .now) (a .directions .now) (a .matrix .now)) (a .vector .now) _ (passed (c .before .before .before .before .before)) (c .before .before .before .before .counted-projections .ensures) (c .before .before .before .if1 .left)) (c .before .sketch-rows .ensures .signs (c .before .sketch-rows .ensures .whole refl))
 
 pub sketch-checked-spec : {M : Type 1} → statement M
 sketch-checked-spec =

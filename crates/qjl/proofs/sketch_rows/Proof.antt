@@ -1,14 +1,13 @@
 -- `qjl::sketch_rows` meets its contract: the part of the array that `fill` wrote is the part whose signs are taken. Assumes nothing.
 use Prim.Native.Nat.{ℕ, _-_, _*_}
 use mathlib.Core.Path.{sym, ap, _∙_}
-use mathlib.Core.List.{map}
 use native.Mathlib.Omega.{arith}
 use borrow.Author.Needs.{needs}
 use borrow.Rule.Slice.PartMut.{postOf}
 use lib.ListN.{length}
 use Rattle.lists.proofs.Parts.{part-long, part-enough, part-filled}
 use Rattle.rounding.specs.Rows.{projected}
-use Rattle.qjl.specs.Sketch.{signOfSum}
+use Rattle.qjl.proofs.AtOnce.{signs-same}
 use Rattle.qjl.proofs.sketch_rows.Statement.{statement}
 use Rattle.qjl.proofs.sketch_rows.Tie as tie
 
@@ -29,21 +28,21 @@ fill-requires c κs =
     let s = c .before .before .before .before in
     record { query-long = s .pre .0 .query-long; matrix-long = s .pre .0 .matrix-long ∙ ap (λ (k : ℕ). k * s .args .dim) (sym (part-long _ _ (omega (arith, s .pre .1, c .before .zeros .ok)))) }
 
-sub-signs-into : tie.Need-sub-signs-into
-sub-signs-into c = search needs
+sub-judged-signs-into : tie.Need-sub-judged-signs-into
+sub-judged-signs-into c = search needs
 
-part-signs-into-start : tie.Need-part-signs-into-start
-part-signs-into-start c = search needs
+part-judged-signs-into-start : tie.Need-part-judged-signs-into-start
+part-judged-signs-into-start c = search needs
 
-part-signs-into-end : tie.Need-part-signs-into-end
-part-signs-into-end c =
+part-judged-signs-into-end : tie.Need-part-judged-signs-into-end
+part-judged-signs-into-end c =
     let s = c .before .before .before .before .before .before .before in
     let m = length (s .args .out .now) in
     let xs = c .before .before .before .before .zeros .result in
     part-enough m xs (omega (arith, s .pre .1, c .before .before .before .before .zeros .ok)) (c .before .before .fill .last .1 .1 .1 .0) (postOf 0 (m - 0) xs) (c .before .before .fill .kept .1 .1 .1 .0)
 
-signs-into-requires : tie.Need-signs-into-requires
-signs-into-requires c κs = search needs
+judged-signs-into-requires : tie.Need-judged-signs-into-requires
+judged-signs-into-requires c κs = search needs
 
 same-length : tie.Need-same-length
 same-length c = search needs
@@ -54,8 +53,7 @@ returns c =
     let f = c .before .before .before .before .before .before in
     let m = length (s .args .out .now) in
     let xs = f .before .before .zeros .result in
-    c .before .signs-into .ensures
-    ∙ ap (map signOfSum) (part-filled m xs (omega (arith, s .pre .1, f .before .before .zeros .ok)) (f .fill .last .1 .1 .1 .0) (postOf 0 (m - 0) xs) (f .fill .kept .1 .1 .1 .0) (λ (k : ℕ). projected (s .args .dim) k (s .args .matrix .now) (s .args .vector .now)) (f .fill .ensures))
+    signs-same (part-filled m xs (omega (arith, s .pre .1, f .before .before .zeros .ok)) (f .fill .last .1 .1 .1 .0) (postOf 0 (m - 0) xs) (f .fill .kept .1 .1 .1 .0) (λ (k : ℕ). projected (s .args .dim) k (s .args .matrix .now) (s .args .vector .now)) (f .fill .ensures)) (c .before .judged-signs-into .ensures)
 
 pub sketch-rows-spec : {M : Type 1} → statement M
 sketch-rows-spec =
@@ -66,9 +64,9 @@ sketch-rows-spec =
     part-values-start
     part-values-end
     fill-requires
-    sub-signs-into
-    part-signs-into-start
-    part-signs-into-end
-    signs-into-requires
+    sub-judged-signs-into
+    part-judged-signs-into-start
+    part-judged-signs-into-end
+    judged-signs-into-requires
     same-length
     returns)
