@@ -28,11 +28,11 @@ use Rattle.setup.specs.Checks.{badDirection}
 use Rattle.turbo.specs.Distance.{distanceSum, cutAtZero, l2DistanceEstimateOf}
 use Rattle.turbo.specs.Estimates.{innerProductEstimateOf}
 use Rattle.turbo_decode.specs.Decode.{decodeApproximateOf}
-use Rattle.turbo_order.specs.Scores.{scoreFrom, exactBy, sizeBy, perStep, perRadius, boundBy, scoreOf}
+use Rattle.turbo_order.specs.Scores.{scoreFrom, exactBy, sizeBy, perUnit, perStep, perRadius, boundBy, scoreOf}
 use Rattle.anchors.specs.Anchors.{Anchors}
 
 pub anchors : Anchors
-unfolding ne ones onesIn trailingZeros ofBits add sub mul div lt le ofInt badPadding number digits place badValue ofLeBytes pi rootBits nearestRoot dropped rootPattern squareRoot unit mag chunks boundsOf projectionsOf radiiBytes indicesBytes signsBytes radiiOf indicesOf signsOf exactTerm exactPolar sizeTerm polarSize directionTerm directionSum term polarSumOf laid decodedPairs exactResidual residualSize root scaleOf signSumOf residualOf exactRotated inverseRoot scaled hadamardOf rotated unrotated from entry stage stages projected exactProjected projectedSizes running products exactTotal exactProducts turnedEach sum absoluteSum weighted val badDirection distanceSum cutAtZero l2DistanceEstimateOf innerProductEstimateOf decodeApproximateOf scoreFrom exactBy sizeBy perStep perRadius boundBy scoreOf
+unfolding ne ones onesIn trailingZeros ofBits add sub mul div lt le ofInt badPadding number digits place badValue ofLeBytes pi rootBits nearestRoot dropped rootPattern squareRoot unit mag chunks boundsOf projectionsOf radiiBytes indicesBytes signsBytes radiiOf indicesOf signsOf exactTerm exactPolar sizeTerm polarSize directionTerm directionSum term polarSumOf laid decodedPairs exactResidual residualSize root scaleOf signSumOf residualOf exactRotated inverseRoot scaled hadamardOf rotated unrotated from entry stage stages projected exactProjected projectedSizes running products exactTotal exactProducts turnedEach sum absoluteSum weighted val badDirection distanceSum cutAtZero l2DistanceEstimateOf innerProductEstimateOf decodeApproximateOf scoreFrom exactBy sizeBy perUnit perStep perRadius boundBy scoreOf
 anchors = record {
   p12-score = refl;
   p12-exact = record { even = refl };
@@ -42,8 +42,14 @@ anchors = record {
   p13-score = refl;
   p13-exact = record { even = refl };
   p13-bound = refl;
+  per-unit = refl;
+  per-step = refl;
+  per-radius = refl;
+  counted-without = refl;
+  counted-with = refl;
   rotated-exact = refl;
   query-size = refl;
+  rotated-size = refl;
   polar-exact = record { even = refl };
   polar-size = refl;
   direction-size = refl;

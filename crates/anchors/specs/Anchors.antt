@@ -1,6 +1,6 @@
 -- Score, exact score, bound, distance and decoding of document 01's records P12 and P13, as numbers, and beside them each exact form and each size that a bound
 -- is made of. A definition that stands on the generous side of an inequality could grow without any proof failing: these lines pin it. Assumes nothing.
-use Prim.Native.Nat.{ℕ, _+_, _*_, _^_}
+use Prim.Native.Nat.{ℕ, _+_, _-_, _*_, _^_}
 use mathlib.Core.Path.{_≡_}
 use mathlib.Core.Bool.{true, false}
 use mathlib.Core.List.{List, [], _∷_}
@@ -16,8 +16,9 @@ use Rattle.polar.specs.Exact.{exactPolar, polarSize, directionSum}
 use Rattle.setup.specs.declared.Setup.{Setup}
 use Rattle.setup.specs.declared.TurboMode.the-variants.{PolarOnly, PolarWithQjl}
 use Rattle.setup.specs.Lent.{Lent, lent}
+use Rattle.setup.specs.Setups.{countedProjectionsOf}
 use Rattle.qjl.specs.Exact.{exactResidual, residualSize}
-use Rattle.turbo_order.specs.Scores.{unitScale}
+use Rattle.turbo_order.specs.Scores.{unitScale, perUnit, perStep, perRadius, accountOf}
 use Rattle.turbo.specs.Estimates.{innerProductEstimateOf}
 use Rattle.turbo.specs.Distance.{l2DistanceEstimateOf}
 use Rattle.turbo.specs.Order.{exactOf, boundFor}
@@ -75,9 +76,18 @@ pub record Anchors : Type 0 where
   pub p13-score : innerProductEstimateOf residualSetup residualLent queryLent withSigns ≡ value (ofBits binary32 0x3F8F_FC02)
   pub p13-exact : Same (exactOf residualSetup residualLent queryLent withSigns) (whole (11863283 * 2 ^ 595 + 14018081 * 2 ^ 594))
   pub p13-bound : boundFor residualSetup residualLent queryLent withSigns ≡ 21 * (11863283 * 2 ^ 572 + 3 * 14018081 * 2 ^ 571) + 2 ^ 473 + 8 * 2 ^ 473
+  -- ---- how many of 2^−619 make 2^−149, 1 / 2^146 and 2^−149 / 2^146
+  pub per-unit : perUnit ≡ 2 ^ (619 - 149)
+  pub per-step : perStep ≡ 2 ^ (619 - 146)
+  pub per-radius : perRadius ≡ 2 ^ (619 - 149 - 146)
+  -- ---- 'In `PolarOnly` m counts as 0'
+  pub counted-without : countedProjectionsOf (record { mode = PolarOnly; dim = 2; bits = 1; projections = 3 }) ≡ 0
+  pub counted-with : countedProjectionsOf residualSetup ≡ 3
   -- ---- what they are made of, each at its own scale
   pub rotated-exact : exactRotated 2 signsLent queryLent ≡ whole (11863283 * 2 ^ 274) ∷ whole (11863283 * 2 ^ 274) ∷ []
-  pub query-size : absoluteSum queryLent ≡ 2 ^ 149
+  pub query-size : absoluteSum steep ≡ 3 * 2 ^ 149
+  -- 1/sqrt(2) times the sum of the query's absolute values, for each entry
+  pub rotated-size : accountOf plainSetup plainLent steep .sizes ≡ 3 * 11863283 * 2 ^ 274 ∷ 3 * 11863283 * 2 ^ 274 ∷ []
   -- radius 1 in the direction (1, −1)
   pub polar-exact : Same (exactPolar (whole 3 ∷ whole 5 ∷ []) slanted (0 ∷ []) (one false ∷ [])) (signed true (2 * 2 ^ 298))
   pub polar-size : polarSize (3 ∷ 5 ∷ []) slanted (0 ∷ []) (one false ∷ []) ≡ 8 * 2 ^ 298
