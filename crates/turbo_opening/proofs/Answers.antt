@@ -1,10 +1,10 @@
 -- The answers of the calls, case by case, from what their checks find; and what a record has that is opened. Assumes nothing.
 use Prim.Native.Nat.{ℕ}
 use mathlib.Core.Path.{_≡_, sym, ap, _∙_}
-use mathlib.Core.Bool.{false}
-use mathlib.Core.List.{List}
+use mathlib.Core.Bool.{Bool, true, false}
+use mathlib.Core.List.{List, [], _∷_}
 use borrow.Author.Tests.{eqb-true, eq-eqb, ne-eqb, not-false}
-use Rattle.error.specs.Answer.{value, refused, first, accepted}
+use Rattle.error.specs.Answer.{value, refused, check, first, accepted}
 use Rattle.error.specs.Checks.{differs}
 use Rattle.error.proofs.Chains.{or-false, first-all, first-value, append-left, append-right, append-passed, append-refused, first-passed}
 use Rattle.setup.specs.declared.Setup.{Setup}
@@ -16,7 +16,7 @@ use Rattle.packed.specs.Layout.{headerOf}
 use Rattle.packed.specs.Reading.{recordChecks, readRecordOf}
 use Rattle.packed.specs.Accepted.{Accepted}
 use Rattle.packed.proofs.Accepted.{read-accepts, read-header}
-use Rattle.turbo_opening.specs.Opening.{matchChecks, openChecks, openRecordOf}
+use Rattle.turbo_opening.specs.Opening.{badProfile, matchChecks, openChecks, openRecordOf}
 use Rattle.turbo_opening.specs.Inner.{openedOf}
 
 -- ---- the scalars come first
@@ -29,6 +29,15 @@ module _ (s : Setup) (bytes : List ℕ) where
   pub open-usable : first (scalarChecks s) accepted ≡ accepted → openRecordOf s bytes ≡ openedOf s bytes
   unfolding openRecordOf openedOf
   open-usable e = append-passed (scalarChecks s) (openChecks s bytes) tt (value (headerOf bytes)) e
+
+-- ---- the profile
+
+module _ (s : Setup) (bits projections : ℕ) {b : ℕ} (is : b ≡ polarBitsOf s) where
+  pub profile-bits : (bits ≡ b → ⊥) → differs bits b ≡ badProfile s bits projections
+  profile-bits other = simp (ne-eqb bits b other, ne-eqb bits (polarBitsOf s) (λ e. other (e ∙ sym is)))
+
+  pub profile-projections : bits ≡ b → {m : ℕ} → m ≡ countedProjectionsOf s → differs projections m ≡ badProfile s bits projections
+  profile-projections alike counted = simp (eq-eqb bits (polarBitsOf s) (alike ∙ is)) (ap (differs projections) counted)
 
 -- ---- opening a record
 
@@ -58,19 +67,15 @@ module _ (s : Setup) (bytes : List ℕ) where
     open-dim other = open-rest ∙ simp (ne-eqb (dimOf bytes) (s .dim) (λ e. other (dim-is ∙ e))) (ap (refused 5) (sym dim-is))
 
     module _ (same : h .dim ≡ s .dim) where
-      pub open-bits : {b : ℕ} → b ≡ polarBitsOf s → (h .bits ≡ b → ⊥) → openedOf s bytes ≡ refused 20 0
-      open-bits is other = open-rest ∙ simp (eq-eqb (dimOf bytes) (s .dim) (sym dim-is ∙ same), ne-eqb (bitsOf bytes) (polarBitsOf s) (λ e. other (bits-is ∙ e ∙ sym is)))
+      -- the profile is all that is left to judge
+      open-last : openedOf s bytes ≡ first (check (badProfile s (h .bits) (h .projections)) 20 0 ∷ []) (value h)
+      open-last = open-rest ∙ simp (eq-eqb (dimOf bytes) (s .dim) (sym dim-is ∙ same), ← bits-is, ← projections-is, ← read-header bytes read)
 
-      module _ {b : ℕ} (is : b ≡ polarBitsOf s) (alike : h .bits ≡ b) where
-        pub open-projections : {m : ℕ} → m ≡ countedProjectionsOf s → (h .projections ≡ m → ⊥) → openedOf s bytes ≡ refused 20 0
-        open-projections counted other =
-            open-rest
-            ∙ simp (eq-eqb (dimOf bytes) (s .dim) (sym dim-is ∙ same), eq-eqb (bitsOf bytes) (polarBitsOf s) (sym bits-is ∙ alike ∙ is), ne-eqb (projectionsOf bytes) (countedProjectionsOf s) (λ e. other (projections-is ∙ e ∙ sym counted)))
+      pub open-profile : {b : Bool} → b ≡ badProfile s (h .bits) (h .projections) → b ≡ true → openedOf s bytes ≡ refused 20 0
+      open-profile is other = open-last ∙ ap (λ (b : Bool). first (check b 20 0 ∷ []) (value h)) (sym is ∙ other)
 
-        pub open-value : {m : ℕ} → m ≡ countedProjectionsOf s → h .projections ≡ m → openedOf s bytes ≡ value h
-        open-value counted equal =
-            open-rest
-            ∙ simp (eq-eqb (dimOf bytes) (s .dim) (sym dim-is ∙ same), eq-eqb (bitsOf bytes) (polarBitsOf s) (sym bits-is ∙ alike ∙ is), eq-eqb (projectionsOf bytes) (countedProjectionsOf s) (sym projections-is ∙ equal ∙ counted)) (ap value (sym (read-header bytes read)))
+      pub open-value : {b : Bool} → b ≡ badProfile s (h .bits) (h .projections) → b ≡ false → openedOf s bytes ≡ value h
+      open-value is alike = open-last ∙ ap (λ (b : Bool). first (check b 20 0 ∷ []) (value h)) (sym is ∙ alike)
 
 -- ---- what an opened record has
 

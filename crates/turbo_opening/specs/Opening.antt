@@ -1,6 +1,6 @@
 -- A record under a setup: read, and held against the setup. Document 01: '.. record reading, 5, 20'. Assumes nothing.
 use Prim.Native.Nat.{ℕ}
-use mathlib.Core.Bool.{_||_}
+use mathlib.Core.Bool.{Bool, _||_}
 use mathlib.Core.List.{List, [], _∷_, _++_}
 use Rattle.error.specs.Answer.{Answer, value, Check, check, first}
 use Rattle.error.specs.Checks.{differs, wrongInput}
@@ -17,9 +17,13 @@ use Rattle.turbo_order.specs.Scores.{Content}
 abbrev pub contentOf : List ℕ → Content
 contentOf bytes = record { radii = radiiOf bytes; indices = indicesOf bytes; signs = signsOf bytes }
 
--- '20: a record's bits or projections are not the setup's. Place 0.' Without signs its projections count as 0
+-- '.. a record's bits or projections are not the setup's.' Without signs its projections count as 0
+abbrev pub badProfile : Setup → ℕ → ℕ → Bool
+badProfile s bits projections = differs bits (polarBitsOf s) || differs projections (countedProjectionsOf s)
+
+-- '20: .. Place 0.'
 abbrev pub wrongProfile : Setup → List ℕ → Check
-wrongProfile s bytes = check (differs (bitsOf bytes) (polarBitsOf s) || differs (projectionsOf bytes) (countedProjectionsOf s)) 20 0
+wrongProfile s bytes = check (badProfile s (bitsOf bytes) (projectionsOf bytes)) 20 0
 
 -- '5: .. a record's dimension, differs from the setup's. Place: the .. dimension found.'; then 20
 abbrev pub matchChecks : Setup → List ℕ → List Check

@@ -9,7 +9,7 @@ use packed::Reading;
 use setup::Setup;
 ghost use mathlib.Core.Path.{_≡_};
 ghost use Rattle.packed.specs.Reading.{saysReading};
-ghost use Rattle.turbo_opening.specs.Opening.{openRecordOf};
+ghost use Rattle.turbo_opening.specs.Opening.{badProfile, openRecordOf};
 ghost use Rattle.turbo_opening.specs.Inner.{openedOf};
 
 // Reads a record and holds it against a setup: its header, where nothing offends.
@@ -29,19 +29,14 @@ fn hold_against(setup: Setup, bytes: &[u8]) -> Reading
 {
     match packed::read_record(bytes) {
         Reading::Read(header) => {
+            let other = other_profile(setup, header.bits, header.projections);
             if header.dim != setup.dim {
                 return Reading::Refused {
                     number: DIMENSION_MISMATCH,
                     place: header.dim,
                 };
             }
-            if header.bits != setup::polar_bits(setup) {
-                return Reading::Refused {
-                    number: PROFILE_MISMATCH,
-                    place: 0,
-                };
-            }
-            if header.projections != setup::counted_projections(setup) {
+            if other {
                 return Reading::Refused {
                     number: PROFILE_MISMATCH,
                     place: 0,
@@ -51,4 +46,11 @@ fn hold_against(setup: Setup, bytes: &[u8]) -> Reading
         }
         Reading::Refused { number, place } => Reading::Refused { number, place },
     }
+}
+
+// Whether a record's bits or projections are not the setup's.
+fn other_profile(setup: Setup, bits: u8, projections: usize) -> bool
+    ensures { λ r. ⌜ r ≡ badProfile setup bits projections ⌝ }
+{
+    bits != setup::polar_bits(setup) || projections != setup::counted_projections(setup)
 }

@@ -1,11 +1,15 @@
 -- `turbo_opening::hold_against` meets its contract: each return is one case of the answer's laws. Assumes nothing.
-use mathlib.Core.Path.{sym, ap, _∙_}
-use denote.Ref.{now}
-use Rattle.packed.specs.Reading.{saysReading}
-use Rattle.turbo_opening.proofs.Answers.{open-refused, open-dim, open-bits, open-projections, open-value}
+use mathlib.Core.Path.{_≡_, sym, ap, _∙_}
 use borrow.Author.Needs.{needs}
+use Rattle.error.specs.Answer.{value}
+use Rattle.packed.specs.Reading.{saysReading, readRecordOf}
+use Rattle.turbo_opening.proofs.Answers.{open-refused, open-dim, open-profile, open-value}
 use Rattle.turbo_opening.proofs.hold_against.Statement.{statement}
 use Rattle.turbo_opening.proofs.hold_against.Tie as tie
+
+-- the record is read
+read : (c : tie.After-known-told) → readRecordOf (c .before .before .before .before .before .args .bytes .now) ≡ value (c .before .header .given .0 .0)
+read c = sym (c .before .before .before .read-record .ensures) ∙ ap saysReading (c .before .header .given .1)
 
 read-record-requires : tie.Need-read-record-requires
 read-record-requires c κs = search needs
@@ -13,34 +17,34 @@ read-record-requires c κs = search needs
 enum-known-header : tie.Need-enum-known-header
 enum-known-header c = search needs
 
-returns : tie.Need-returns
-returns c = let a = c .before .before .before .before .before .before .before .before .args in
-    sym (open-dim (a .setup) (now (a .bytes)) (sym (c .before .before .before .before .before .before .read-record .ensures) ∙ ap saysReading (c .before .before .before .before .header .given .1)) (c .if1 .taken))
+other-profile-requires : tie.Need-other-profile-requires
+other-profile-requires c κs = search needs
 
-polar-bits-requires : tie.Need-polar-bits-requires
-polar-bits-requires c κs = search needs
+returns : tie.Need-returns
+returns c =
+    let k = c .before .before .before .before in
+    let a = k .before .before .before .before .before .args in
+    sym (open-dim (a .setup) (a .bytes .now) (read k) (c .if1 .taken))
 
 returns-2 : tie.Need-returns-2
-returns-2 c = let a = c .before .before .before .before .before .before .before .before .before .before .before .args in
-    sym (open-bits (a .setup) (now (a .bytes)) (sym (c .before .before .before .before .before .before .before .before .before .read-record .ensures) ∙ ap saysReading (c .before .before .before .before .before .before .before .header .given .1)) (c .before .before .before .if1 .left) (c .before .before .polar-bits .ensures) (c .if2 .taken))
-
-counted-projections-requires : tie.Need-counted-projections-requires
-counted-projections-requires c κs = search needs
-
-returns-3 : tie.Need-returns-3
-returns-3 c = let a = c .before .before .before .before .before .before .before .before .before .before .before .before .before .before .args in
-    sym (open-projections (a .setup) (now (a .bytes)) (sym (c .before .before .before .before .before .before .before .before .before .before .before .before .read-record .ensures) ∙ ap saysReading (c .before .before .before .before .before .before .before .before .before .before .header .given .1)) (c .before .before .before .before .before .before .if1 .left) (c .before .before .before .before .before .polar-bits .ensures) (c .before .before .before .if2 .left) (c .before .before .counted-projections .ensures) (c .if3 .taken))
+returns-2 c =
+    let o = c .before .before .before .before in
+    let k = o .before in
+    let a = k .before .before .before .before .before .args in
+    sym (open-profile (a .setup) (a .bytes .now) (read k) (c .before .if1 .left) (o .other-profile .ensures) (c .if2 .taken))
 
 enum-known-number : tie.Need-enum-known-number
 enum-known-number c = search needs
 
-returns-4 : tie.Need-returns-4
-returns-4 c = let a = c .before .before .before .before .before .before .before .before .before .before .before .before .before .before .args in
-    sym (open-value (a .setup) (now (a .bytes)) (sym (c .before .before .before .before .before .before .before .before .before .before .before .before .read-record .ensures) ∙ ap saysReading (c .before .before .before .before .before .before .before .before .before .before .header .given .1)) (c .before .before .before .before .before .before .if1 .left) (c .before .before .before .before .before .polar-bits .ensures) (c .before .before .before .if2 .left) (c .before .before .counted-projections .ensures) (c .if3 .left))
+returns-3 : tie.Need-returns-3
+returns-3 c =
+    let o = c .before .before .before .before in
+    let k = o .before in
+    let a = k .before .before .before .before .before .args in
+    sym (open-value (a .setup) (a .bytes .now) (read k) (c .before .if1 .left) (o .other-profile .ensures) (c .if2 .left))
 
-returns-5 : tie.Need-returns-5
-returns-5 c = let a = c .before .before .before .before .before .args in
-    sym (open-refused (a .setup) (now (a .bytes)) (sym (c .before .before .before .read-record .ensures) ∙ ap saysReading (c .before .number .given .1)))
+returns-4 : tie.Need-returns-4
+returns-4 c = let a = c .before .before .before .before .before .args in sym (open-refused (a .setup) (a .bytes .now) (sym (c .before .before .before .read-record .ensures) ∙ ap saysReading (c .before .number .given .1)))
 
 pub hold-against-spec : {M : Type 1} → statement M
 hold-against-spec =
@@ -48,11 +52,9 @@ hold-against-spec =
     (tie.spec
     read-record-requires
     enum-known-header
+    other-profile-requires
     returns
-    polar-bits-requires
     returns-2
-    counted-projections-requires
-    returns-3
     enum-known-number
-    returns-4
-    returns-5)
+    returns-3
+    returns-4)
