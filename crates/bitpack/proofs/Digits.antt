@@ -10,7 +10,7 @@ use lib.ListN.{length, getD, take, drop, set, drop-of-length-le, take-append-dro
 use lib.Seq.{drop-cons, take-all, length-take-le, drop-drop}
 use Rattle.digits.specs.Digits.{number, digits}
 use Rattle.digits.specs.Inner.{fourAt}
-use Rattle.digits.proofs.Runs.{run-four, store-next}
+use Rattle.lists.proofs.Stores.{run-four, store-next}
 use Rattle.digits.proofs.Laws.{number-nil, number-cons, number-append, digits-none, digits-more}
 
 -- the lowest n digits do not see what stands above them

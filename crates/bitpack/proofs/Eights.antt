@@ -11,7 +11,7 @@ use lib.Seq.{length-take-le, getD-take, getD-drop}
 use lib.Pow.{pow-add, pow-pos}
 use Rattle.digits.specs.Digits.{number, digits}
 use Rattle.digits.proofs.Laws.{Below, power-pos, length-digits, digits-append, number-lt}
-use Rattle.digits.proofs.Runs.{length-store, take-store}
+use Rattle.lists.proofs.Stores.{length-store, take-store}
 use Rattle.bitpack.specs.Inner.{Unpackable, Eights}
 use Rattle.bitpack.proofs.Digits.{digits-low, number-run}
 use Rattle.bitpack.proofs.Windows.{above, shift-out}

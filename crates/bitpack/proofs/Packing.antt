@@ -8,7 +8,7 @@ use lib.ListN.{length, getD, take, drop}
 use Rattle.digits.specs.Digits.{number, digits}
 use Rattle.digits.proofs.Laws.{length-digits}
 use Rattle.bitpack.specs.Inner.{Packable}
-use Rattle.digits.proofs.Runs.{length-store, take-store}
+use Rattle.lists.proofs.Stores.{length-store, take-store}
 use Rattle.bitpack.proofs.Digits.{number-drop, number-end}
 use Rattle.bitpack.proofs.Windows.{shift-in, shift-in-fits, shift-out-fits, word-out}
 

@@ -10,7 +10,7 @@ use lib.Seq.{take-all}
 use Rattle.digits.specs.Digits.{number, digits}
 use Rattle.digits.proofs.Laws.{digits-none}
 use Rattle.bitpack.specs.Padding.{bytesFor}
-use Rattle.digits.proofs.Runs.{store-next}
+use Rattle.lists.proofs.Stores.{store-next}
 use Rattle.bitpack.proofs.Digits.{digits-next, number-drop, number-run, number-end, write-end}
 
 -- ---- bits read from the last one down

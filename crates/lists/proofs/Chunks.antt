@@ -2,7 +2,7 @@
 -- Assumes nothing.
 use Prim.Native.Nat.{ℕ, zero, suc, _+_, _*_, _<_, suc-le-suc}
 use mathlib.Core.Path.{_≡_, refl, sym, ap, _∙_}
-use mathlib.Core.List.{List, [], _∷_, _++_, map, flatMap, append-assoc}
+use mathlib.Core.List.{List, [], _∷_, _++_, map, flatMap, append-assoc, append-nil}
 use native.Mathlib.Nat.{mul-zero, mul-suc, add-comm, not-suc-le-zero, le-of-suc-le-suc}
 use native.Mathlib.Numerals.{add-one}
 use native.Mathlib.Omega.{arith}
@@ -53,10 +53,6 @@ module _ {A B : Type 0} (g : B → List A) where
   joined-one : (x : B) → flatMap g (x ∷ []) ≡ g x
   unfolding flatMap
   joined-one x = append-nil (g x)
-    where
-      append-nil : (l : List A) → l ++ [] ≡ l
-      append-nil [] = refl
-      append-nil (y ∷ l) = ap (λ (r : List A). y ∷ r) (append-nil l)
 
   pub joined-none : flatMap g [] ≡ []
   unfolding flatMap

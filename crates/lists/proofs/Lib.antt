@@ -1,2 +1,4 @@
 pub mod Chunks
 pub mod Parts
+pub mod Stores
+pub mod Loops

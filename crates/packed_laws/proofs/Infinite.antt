@@ -27,7 +27,8 @@ use Rattle.radius.specs.declared.Range.{Range}
 use Rattle.radius.specs.declared.RadiusCodecProfileV1.{RadiusCodecProfileV1}
 use Rattle.radius.specs.declared.RadiusCodecProfileV1.the-variants.{F32, BlockLinearU16, BlockLogU8}
 use Rattle.packed.specs.declared.Code.{Code}
-use Rattle.packed_writing.specs.Writing.{recordOf, neededFor, fieldChecks, writeRecordOf}
+use Rattle.packed_size.specs.Size.{neededFor}
+use Rattle.packed_writing.specs.Writing.{recordOf, fieldChecks, writeRecordOf}
 use Rattle.packed_writing.proofs.Written.{length-readBack}
 use Rattle.packed_laws.specs.Infinite.{GoodRadii}
 use Rattle.packed_laws.proofs.Ranges.{max-fits, range-good}

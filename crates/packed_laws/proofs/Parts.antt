@@ -9,7 +9,7 @@ use lib.ListN.{length, getD, take, drop, length-drop, take-append-drop}
 use lib.Seq.{take-all, getD-take, getD-drop, length-take-le, drop-drop, take-add}
 use Rattle.digits.specs.Digits.{digits}
 use Rattle.digits.proofs.Laws.{Below, digits-number}
-use Rattle.digits.proofs.Runs.{run-next}
+use Rattle.lists.proofs.Stores.{run-next}
 use Rattle.float.specs.Bytes.{toLeBytes}
 use Rattle.float.proofs.Bytes.{toLeBytes-ofLeBytes}
 use Rattle.radius.specs.Radii.{badRadius}

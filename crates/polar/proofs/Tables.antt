@@ -13,7 +13,7 @@ use Rattle.rounding.proofs.Close.{Close, AllClose, none, next}
 use Rattle.rounding.specs.Butterfly.{from}
 use Rattle.rounding.specs.Sums.{sum}
 use Rattle.polar.specs.Polar.{valueAt}
-use Rattle.polar.proofs.Loops.{from-length}
+use Rattle.rounding.proofs.Running.{from-length}
 
 pub table-length : {A : Type 0} (f : ℕ → A) (start count : ℕ) → length (map f (from start count)) ≡ count
 table-length f start count = length-map (from start count) f ∙ from-length start count

@@ -1,5 +1,4 @@
 pub mod Rows
-pub mod Filling
 pub mod FiniteSums
 pub mod AtOnce
 pub mod Signs

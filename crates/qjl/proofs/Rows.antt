@@ -1,47 +1,19 @@
--- A dot product found by a loop: what is left of it at index i is the running sum over the products of what is left of the two lists.
--- And where the rows of a matrix start and end. Assumes nothing.
+-- A dot product found by a loop that takes four terms at a time, of four rows at once. And where the rows of a matrix start and end. Assumes nothing.
 use Prim.Native.Nat.{ℕ, zero, suc, _+_, _*_, _/_, _%_, _≤_, _<_}
 use mathlib.Core.Path.{_≡_, refl, sym, ap, _∙_}
 use mathlib.Core.Bool.{Bool, true, false}
-use mathlib.Core.List.{List, [], _∷_}
-use native.Mathlib.Nat.{suc-mul, mul-zero, add-zero, add-suc, add-assoc, div-add-mod', mul-div-cancel, mul-mod-left, zero-lt-suc, mul-le-mul-right}
-use native.Mathlib.Numerals.{add-one}
+use mathlib.Core.List.{List}
+use native.Mathlib.Nat.{suc-mul, mul-zero, add-assoc, div-add-mod', mul-div-cancel, mul-mod-left, zero-lt-suc, mul-le-mul-right}
 use native.Mathlib.Omega.{arith}
 use borrow.Author.Tests.{eqb-true, eqb-false, eq-eqb, ne-eqb}
 use lib.Dec.{eqb}
-use lib.ListN.{length, getD, drop, drop-of-length-le}
-use lib.Seq.{drop-cons}
+use lib.ListN.{length, getD, drop}
 use lib.Ieee.{Float, nan, binary32, add, mul}
 use Rattle.float.specs.Constants.{posZero}
-use Rattle.rounding.specs.Sums.{running, products, dot}
-use Rattle.qjl.specs.Inner.{onRow, SoFar, FourSoFar, fourMore}
-
-products-nil : (vs : List Float) → products vs [] ≡ []
-unfolding products
-products-nil [] = refl
-products-nil (v ∷ vs) = refl
-
--- ---- the loop
-
-pub dot-start : (vs cs : List Float) (from : ℕ) → SoFar vs cs from 0 posZero
-dot-start vs cs from = ap (λ (k : ℕ). running posZero (products (drop k vs) cs)) (sym (add-zero from))
-
-dot-step : (vs cs : List Float) (from i : ℕ) (acc : Float) → from + i < length vs → i < length cs
-    → running acc (products (drop (from + i) vs) (drop i cs))
-    ≡ running (add binary32 acc (mul binary32 (getD vs (from + i) nan) (getD cs i nan))) (products (drop (from + (i + 1)) vs) (drop (i + 1) cs))
-unfolding running products
-dot-step vs cs from i acc h g = rw (drop-cons vs (from + i) nan, drop-cons cs i nan, add-one i, add-suc from i)
-
-pub dot-more : (vs cs : List Float) (from i : ℕ) (acc : Float) → from + i < length vs → i < length cs → SoFar vs cs from i acc
-    → SoFar vs cs from (i + 1) (add binary32 acc (mul binary32 (getD vs (from + i) nan) (getD cs i nan)))
-dot-more vs cs from i acc h g inv = inv ∙ dot-step vs cs from i acc h g
-
-pub nothing-left : (vs cs : List Float) (i : ℕ) (acc : Float) → length cs ≤ i → running acc (products vs (drop i cs)) ≡ acc
-unfolding running
-nothing-left vs cs i acc h = rw (drop-of-length-le cs h, products-nil vs)
-
-pub dot-end : (vs cs : List Float) (from i : ℕ) (acc : Float) → length cs ≤ i → SoFar vs cs from i acc → acc ≡ dot (drop from vs) cs
-dot-end vs cs from i acc h inv = sym (inv ∙ nothing-left (drop (from + i) vs) cs i acc h)
+use Rattle.rounding.specs.Sums.{dot}
+use Rattle.rounding.specs.Inner.{SoFar}
+use Rattle.rounding.proofs.Running.{dot-start, dot-more}
+use Rattle.qjl.specs.Inner.{onRow, FourSoFar, fourMore}
 
 -- ---- four terms at a time, of four rows
 

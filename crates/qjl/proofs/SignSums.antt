@@ -11,7 +11,7 @@ use Rattle.float.specs.Constants.{pi}
 use Rattle.float.specs.SquareRoot.{squareRoot}
 use Rattle.rounding.specs.Sums.{running, products}
 use Rattle.qjl.specs.Score.{root, scaleOf, signSumOf, residualOf}
-use Rattle.qjl.proofs.Rows.{nothing-left}
+use Rattle.rounding.proofs.Running.{nothing-left}
 
 -- the root's pattern
 pub root-pattern : ofBits binary32 0x3FA0_6C99 ≡ root

@@ -1,6 +1,6 @@
 -- What private functions of this crate, and of crates that fill projections as they do, ask of their callers and tell them: what the loops of a
 -- projection keep, and what a call leaves that writes all signs or none. No public promise is stated by these. Assumes nothing.
-use Prim.Native.Nat.{ℕ, _+_, _*_, _≤_, _<_}
+use Prim.Native.Nat.{ℕ, _+_, _*_, _≤_}
 use mathlib.Core.Path.{_≡_}
 use mathlib.Core.Bool.{Bool, true, false}
 use mathlib.Core.List.{List, map}
@@ -10,25 +10,15 @@ use lib.ListN.{length, getD, drop}
 use lib.Ieee.{Float, nan, binary32, add, mul}
 use Rattle.error.specs.Answer.{Answer, value, place}
 use Rattle.error.specs.Checks.{badValue}
-use Rattle.rounding.specs.Sums.{running, products, dot}
+use Rattle.rounding.specs.Sums.{dot}
+use Rattle.rounding.specs.Inner.{SoFar}
 use Rattle.qjl.specs.Sketch.{signOfSum}
 
 -- ---- the loops of a projection
 
--- of the list xs, ys is what is left when the entries from start up to stop hold what f gives there
-pub record Filled (f : ℕ → Float) (start stop : ℕ) (xs ys : List Float) : Type 0 where
-  pub long : length ys ≡ length xs
-  pub before : (j : ℕ) → j < start → getD ys j nan ≡ getD xs j nan
-  pub passed : (j : ℕ) → start ≤ j → j < stop → getD ys j nan ≡ f j
-  pub left : (j : ℕ) → stop ≤ j → getD ys j nan ≡ getD xs j nan
-
 -- the projection on row j, whose entries start at j × n; a dot product ends with the shorter list, so what follows the row does not count
 abbrev pub onRow : ℕ → List Float → List Float → ℕ → Float
 onRow n matrix query j = dot (drop (j * n) matrix) query
-
--- a dot product that has taken i terms: what is left of it is the running sum, from the sum so far, over the products of what is left of both lists
-abbrev pub SoFar : List Float → List Float → ℕ → ℕ → Float → Type 0
-SoFar matrix query from i sum = dot (drop from matrix) query ≡ running sum (products (drop (from + i) matrix) (drop i query))
 
 -- four rows, each as long as the query, that follow one another from an index on, of whose dot products i terms are taken
 pub record FourSoFar (matrix query : List Float) (from i : ℕ) (a b c d : Float) : Type 0 where

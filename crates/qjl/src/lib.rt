@@ -15,7 +15,7 @@ ghost use mathlib.Core.List.{map};
 ghost use Prim.Native.Nat.{_+_, _*_, _≤_};
 ghost use lib.Dec.{eqb};
 ghost use lib.ListN.{length, drop};
-ghost use lib.Ieee.{binary32, mul, ofInt};
+ghost use lib.Ieee.{nan, binary32, mul, ofInt};
 ghost use Rattle.error.specs.Answer.{first, accepted, done, after};
 ghost use Rattle.error.specs.Outcomes.{says, saysScore};
 ghost use Rattle.rounding.specs.Sums.{dot};
@@ -23,7 +23,9 @@ ghost use Rattle.qjl.specs.Projection.{projectOf};
 ghost use Rattle.rounding.specs.Rows.{projected};
 ghost use Rattle.setup.specs.Lent.{lent};
 ghost use Rattle.qjl.specs.Sketch.{signOfSum, vectorChecks, sketchOf};
-ghost use Rattle.qjl.specs.Inner.{Filled, SoFar, FourSoFar, FourDots, fourMore, onRow, Rowed, JudgedSigns, AtOnce};
+ghost use Rattle.qjl.specs.Inner.{FourSoFar, FourDots, fourMore, onRow, Rowed, JudgedSigns, AtOnce};
+ghost use Rattle.rounding.specs.Inner.{SoFar};
+ghost use Rattle.lists.specs.Inner.{Filled};
 ghost use Rattle.qjl.specs.Score.{scaleOf, signSumOf, residualOf, signedScore, sketchScoreOf};
 
 // The sums of four rows.
@@ -349,7 +351,7 @@ fn fill(dim: usize, matrix: &[f32], query: &[f32], out: &mut [f32])
 // The projections from a row on, into the output.
 fn fill_rest(dim: usize, matrix: &[f32], query: &[f32], out: &mut [f32], start: usize)
     requires { ⌜ Rowed dim (now matrix) (now query) (length (now out)) × (start ≤ length (now out)) ⌝ }
-    ensures { λ _. ⌜ Filled (onRow dim (now (matrix .entry)) (now (query .entry))) start (length (now (out .entry))) (now (out .entry)) (now (out .exit)) ⌝ }
+    ensures { λ _. ⌜ Filled nan (onRow dim (now (matrix .entry)) (now (query .entry))) start (length (now (out .entry))) (now (out .entry)) (now (out .exit)) ⌝ }
 {
     let mut row = start;
     while row < out.len() {

@@ -1,5 +1,4 @@
 pub mod Radii
-pub mod Fill
 pub mod Checks
 pub mod Accepted
 pub mod RoundTrip

@@ -19,7 +19,7 @@ use Rattle.radius.specs.Inner.{badKept}
 use Rattle.radius.specs.Linear.{spanOf, quantized, linearBytes, radiusOf, linearRadius}
 use Rattle.radius.specs.Radii.{badRadius, rangeOf}
 use Rattle.lists.proofs.Chunks.{chunks-getD, chunks-length, chunks-joined}
-use Rattle.radius.proofs.Fill.{next-place}
+use Rattle.lists.proofs.Loops.{next-place}
 use Rattle.radius.proofs.RoundTrip.{Floats, floats-back}
 use Rattle.radius.specs.declared.Range.{Range}
 use Rattle.radius.specs.declared.RadiusCodecProfileV1.{RadiusCodecProfileV1}

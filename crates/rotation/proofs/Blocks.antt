@@ -7,7 +7,7 @@ use native.Mathlib.Omega.{arith}
 use borrow.Author.Count.{below-more}
 use lib.ListN.{length, set, length-set}
 use lib.Ieee.{Float, binary32, add, sub}
-use Rattle.rotation.proofs.Stores.{stores-first, stores-second, stores-other}
+use Rattle.lists.proofs.Stores.{stores-first, stores-second, stores-other}
 use Rattle.rotation.specs.Inner.{entryAt, Partly}
 
 pub partly-start : (h start : ℕ) (xs : List Float) → Partly h start 0 xs xs

@@ -1,5 +1,3 @@
-pub mod InPlace
-pub mod Stores
 pub mod Blocks
 pub mod Stages
 pub mod Ordered

@@ -13,6 +13,7 @@ pub mod Totals
 pub mod Folds
 pub mod Rows
 pub mod Partial
+pub mod Running
 pub mod Butterflies
 pub mod Blocks
 pub mod Examples

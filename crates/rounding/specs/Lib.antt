@@ -1,3 +1,4 @@
+pub mod Inner
 pub mod Signed
 pub mod Value
 pub mod Sums

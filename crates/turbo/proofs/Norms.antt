@@ -7,7 +7,7 @@ use lib.ListN.{length, getD, drop}
 use lib.Seq.{drop-cons}
 use lib.Ieee.{Float, nan, binary32, add, sub, mul, ofBits}
 use Rattle.rounding.specs.Sums.{running, products}
-use Rattle.qjl.proofs.Rows.{nothing-left}
+use Rattle.rounding.proofs.Running.{nothing-left}
 use Rattle.turbo.specs.Distance.{squaredNorm, distanceSum}
 
 -- what is left of a squared norm at index i

@@ -4,7 +4,7 @@ use native.Mathlib.Omega.{arith}
 use lib.ListN.{length-set}
 use lib.Pow.{pow-pos}
 use Rattle.digits.specs.Digits.{digits}
-use Rattle.digits.proofs.Runs.{store-four}
+use Rattle.lists.proofs.Stores.{store-four}
 use Rattle.bitpack.proofs.Lengths.{power-shifted, masked, masked-fits}
 use borrow.Author.Needs.{needs}
 use Rattle.bitpack.proofs.put_four.Statement.{statement}

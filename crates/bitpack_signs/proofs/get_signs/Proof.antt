@@ -7,7 +7,7 @@ use denote.Ref.{now}
 use lib.ListN.{length, length-map}
 use Rattle.digits.specs.Digits.{number}
 use Rattle.bitpack.specs.Signs.{bitOfSign}
-use Rattle.digits.proofs.Runs.{run-four}
+use Rattle.lists.proofs.Stores.{run-four}
 use Rattle.bitpack_signs.proofs.Signs.{bit-read}
 use borrow.Author.Needs.{needs}
 use Rattle.bitpack_signs.proofs.get_signs.Statement.{statement}

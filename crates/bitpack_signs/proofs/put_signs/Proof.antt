@@ -7,7 +7,7 @@ use lib.ListN.{length-set}
 use mir.Syntax.{w8}
 use mir.Val.{ofZ, toZ}
 use Rattle.digits.specs.Digits.{digits}
-use Rattle.digits.proofs.Runs.{store-four}
+use Rattle.lists.proofs.Stores.{store-four}
 use Rattle.bitpack_signs.proofs.Signs.{sign-back}
 use borrow.Author.Needs.{needs}
 use Rattle.bitpack_signs.proofs.put_signs.Statement.{statement}

@@ -6,7 +6,7 @@ use denote.Ref.{now}
 use lib.ListN.{length, length-set}
 use borrow.Author.Needs.{needs}
 use Rattle.digits.specs.Digits.{digits}
-use Rattle.digits.proofs.Runs.{store-four}
+use Rattle.lists.proofs.Stores.{store-four}
 use Rattle.digits.proofs.Words.{put-word-room, put-word-none}
 use Rattle.digits.proofs.put_word.Statement.{statement}
 use Rattle.digits.proofs.put_word.Tie as tie

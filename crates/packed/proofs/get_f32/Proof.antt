@@ -2,7 +2,7 @@
 use Prim.Native.Nat.{ℕ}
 use mathlib.Core.Path.{sym, ap, _∙_}
 use Rattle.float.specs.Bytes.{ofLeBytes}
-use Rattle.digits.proofs.Runs.{run-four}
+use Rattle.lists.proofs.Stores.{run-four}
 use borrow.Author.Needs.{needs}
 use Rattle.packed.proofs.get_f32.Statement.{statement}
 use Rattle.packed.proofs.get_f32.Tie as tie

@@ -3,7 +3,7 @@ use Prim.Native.Nat.{ℕ}
 use mathlib.Core.Path.{sym, ap, _∙_}
 use borrow.Author.Needs.{needs}
 use Rattle.digits.specs.Digits.{number}
-use Rattle.digits.proofs.Runs.{run-four}
+use Rattle.lists.proofs.Stores.{run-four}
 use Rattle.packed.proofs.get_u32.Statement.{statement}
 use Rattle.packed.proofs.get_u32.Tie as tie
 

@@ -8,7 +8,7 @@ use lib.ListN.{length}
 use Rattle.bitpack.specs.Padding.{bytesFor}
 use Rattle.packed_writing.specs.Writing.{indexBytes}
 use Rattle.packed.proofs.Headers.{product-most}
-use Rattle.packed_writing.proofs.Stores.{lent-back, front-again, store-two}
+use Rattle.lists.proofs.Stores.{lent-back, front-again, store-both}
 use Rattle.packed_writing.proofs.Writing.{indices-pass, signs-pass}
 use borrow.Author.Needs.{needs}
 use Rattle.packed_writing.proofs.put_codes.Statement.{statement}
@@ -53,7 +53,7 @@ same-length c = search needs
 returns : tie.Need-returns
 returns c =
     let s = c .before .before .before .before .before .before .before .before .before .before .pre in
-    store-two (now (c .before .before .before .before .before .before .before .before .before .before .args .out)) (c .before .before .put-indices .last .1 .1 .0) (c .before .before .before .before .before .before .put-signs .last .1 .0) ((length (now (c .before .before .before .before .before .before .before .before .before .before .args .indices)) * c .before .before .before .before .before .before .before .before .before .before .args .bits + 7) / 8) (omega (arith, s .exact))
+    store-both (now (c .before .before .before .before .before .before .before .before .before .before .args .out)) (c .before .before .put-indices .last .1 .1 .0) (c .before .before .before .before .before .before .put-signs .last .1 .0) ((length (now (c .before .before .before .before .before .before .before .before .before .before .args .indices)) * c .before .before .before .before .before .before .before .before .before .before .args .bits + 7) / 8) (omega (arith, s .exact))
     ∙ ap (λ (l : List ℕ). l ++ c .before .before .before .before .before .before .put-signs .last .1 .0) (c .before .before .put-indices .ensures)
     ∙ ap (λ (l : List ℕ). indexBytes (c .before .before .before .before .before .before .before .before .before .before .args .bits) (now (c .before .before .before .before .before .before .before .before .before .before .args .indices)) ++ l) (c .before .before .before .before .before .before .put-signs .ensures)
 

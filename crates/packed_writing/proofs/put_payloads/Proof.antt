@@ -9,7 +9,7 @@ use Rattle.radius.specs.Codec.{payloadFor}
 use Rattle.packed_writing.specs.Inner.{CodesReady}
 use Rattle.packed.proofs.Headers.{product-most}
 use Rattle.radius.proofs.Checks.{width-most}
-use Rattle.packed_writing.proofs.Stores.{lent-back, front-again, store-two}
+use Rattle.lists.proofs.Stores.{lent-back, front-again, store-both}
 use Rattle.packed_writing.proofs.Writing.{radii-pass}
 use borrow.Author.Needs.{needs}
 use Rattle.packed_writing.proofs.put_payloads.Statement.{statement}
@@ -59,7 +59,7 @@ returns : tie.Need-returns
 returns c =
     let e = body (c .before .before .before .before .before .before .before .before) in (
       c .before .before .put-radii .ensures .0,
-      store-two (now (c .before .before .before .before .before .before .before .before .before .before .before .before .args .out)) (c .before .before .put-radii .last .1 .1 .0) (c .before .before .before .before .before .before .put-codes .last .1 .1 .1 .0) (c .before .before .before .before .before .before .before .before .width-of .result * length (now (c .before .before .before .before .before .before .before .before .before .before .before .before .args .radii))) (omega (arith, e))
+      store-both (now (c .before .before .before .before .before .before .before .before .before .before .before .before .args .out)) (c .before .before .put-radii .last .1 .1 .0) (c .before .before .before .before .before .before .put-codes .last .1 .1 .1 .0) (c .before .before .before .before .before .before .before .before .width-of .result * length (now (c .before .before .before .before .before .before .before .before .before .before .before .before .args .radii))) (omega (arith, e))
           ∙ ap (λ (l : List ℕ). l ++ c .before .before .before .before .before .before .put-codes .last .1 .1 .1 .0) (c .before .before .put-radii .ensures .1)
           ∙ ap (λ (l : List ℕ). payloadFor (c .before .before .before .before .before .before .before .before .before .before .before .before .args .profile) (now (c .before .before .before .before .before .before .before .before .before .before .before .before .args .radii)) ++ l) (c .before .before .before .before .before .before .put-codes .ensures),
     )

@@ -3,7 +3,8 @@ use mathlib.Core.Path.{_∙_}
 use denote.Ref.{now}
 use Rattle.digits.specs.Digits.{digits}
 use Rattle.digits.proofs.Words.{put-word-room}
-use Rattle.packed_writing.proofs.Stores.{store-last, store-none}
+use Rattle.packed_writing.proofs.Stores.{store-last}
+use Rattle.lists.proofs.Stores.{store-none}
 use native.Mathlib.Omega.{arith}
 use borrow.Author.Needs.{needs}
 use Rattle.packed_writing.proofs.put_projections.Statement.{statement}

@@ -17,7 +17,7 @@ use Rattle.packed_size.specs.Size.{mapFor, neededFor}
 use Rattle.packed_writing.specs.Writing.{headerBytes, recordOf, fieldChecks, valueChecks}
 use Rattle.packed.proofs.Headers.{product-most}
 use Rattle.radius.proofs.Checks.{width-most}
-use Rattle.packed_writing.proofs.Stores.{lent-back, front-again, store-two}
+use Rattle.lists.proofs.Stores.{lent-back, front-again, store-both}
 use Rattle.packed_writing.proofs.Written.{Sized, fields-sized, fields-needed, write-fields, write-values, write-no-room, write-value}
 use borrow.Author.Needs.{needs}
 use Rattle.packed_writing.proofs.write_record.Statement.{statement}
@@ -168,7 +168,7 @@ returns-4 c =
     let a = c .before .before .before .before .before .before .before .before .before .before .before .before .before .before .before .before .before .before .before .before .before .args in
     let payload : List ℕ = c .before .before .before .before .before .before .put-payloads .last .1 .1 .1 .1 .1 .0 in
     both-value _ _ _ (write-value (c .before .before .before .before .before .before .before .before .before .before .before .before .before .before .before .before .before .before .before .before .before .args .code) (now (c .before .before .before .before .before .before .before .before .before .before .before .before .before .before .before .before .before .before .before .before .before .args .radii)) (now (c .before .before .before .before .before .before .before .before .before .before .before .before .before .before .before .before .before .before .before .before .before .args .indices)) (now (c .before .before .before .before .before .before .before .before .before .before .before .before .before .before .before .before .before .before .before .before .before .args .signs)) (length (now (c .before .before .before .before .before .before .before .before .before .before .before .before .before .before .before .before .before .before .before .before .before .args .out))) (fields (c .before .before .before .before .before .before .before .before .before .before .before .before .before .before .before)) (values (c .before .before .before .before .before .before .before .before .before .before .before .before)) (c .before .before .before .before .before .before .before .before .if1 .left ∙ needed (c .before .before .before .before .before .before .before .before .before)))
-    (store-two (now (a .out)) (c .before .before .put-header .last .1 .1 .0) payload (c .before .before .before .before .before .before .before .before .before .before .header-length .result) (omega (arith, c .before .before .before .before .before .before .before .before .if1 .left))
+    (store-both (now (a .out)) (c .before .before .put-header .last .1 .1 .0) payload (c .before .before .before .before .before .before .before .before .before .before .header-length .result) (omega (arith, c .before .before .before .before .before .before .before .before .if1 .left))
     ∙ ap (λ (l : List ℕ). l ++ payload) (c .before .before .put-header .ensures)
     ∙ ap (λ (r : Range). headerBytes (a .code) r ++ payload) (c .before .before .before .before .before .before .put-payloads .ensures .0)
     ∙ ap (λ (l : List ℕ). headerBytes (a .code) (rangeFor (a .code .profile) (now (a .radii))) ++ l) (c .before .before .before .before .before .before .put-payloads .ensures .1))

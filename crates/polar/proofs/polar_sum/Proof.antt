@@ -8,7 +8,7 @@ use lib.Ieee.{ofBits}
 use Rattle.rounding.specs.Butterfly.{from}
 use Rattle.rounding.specs.Sums.{running}
 use Rattle.polar.specs.Polar.{term, polarSumOf}
-use Rattle.polar.proofs.Loops.{running-start, running-more, running-end}
+use Rattle.rounding.proofs.Running.{running-start, running-more, running-end}
 use Rattle.polar.proofs.polar_sum.Statement.{statement}
 use Rattle.polar.proofs.polar_sum.Tie as tie
 

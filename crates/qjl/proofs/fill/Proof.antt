@@ -4,15 +4,17 @@ use mathlib.Core.Path.{sym, ap, _∙_}
 use native.Mathlib.Omega.{arith}
 use borrow.Author.Needs.{scaled-fits}
 use lib.ListN.{length, length-set}
-use Rattle.qjl.specs.Inner.{Filled, onRow}
-use Rattle.qjl.proofs.Filling.{filled-start, filled-four, filled-join, filled-all}
+use lib.Ieee.{nan}
+use Rattle.qjl.specs.Inner.{onRow}
+use Rattle.lists.specs.Inner.{Filled}
+use Rattle.lists.proofs.Loops.{filled-start, filled-four, filled-join, filled-all}
 use Rattle.qjl.proofs.Rows.{rows-within, row-at}
 use Rattle.rounding.proofs.Rows.{projected-length, projected-row}
 use Rattle.qjl.proofs.fill.Statement.{statement}
 use Rattle.qjl.proofs.fill.Tie as tie
 
 abbrev Inv-loop : tie.InvT-loop
-Inv-loop dim matrix query out₀ row₀ out row = (row ≤ length out₀) × Filled (onRow dim matrix query) 0 row out₀ out
+Inv-loop dim matrix query out₀ row₀ out row = (row ≤ length out₀) × Filled nan (onRow dim matrix query) 0 row out₀ out
 
 abbrev μ-loop : tie.MeasureT-loop
 μ-loop dim matrix query out₀ row₀ out row = length out₀ - row
@@ -27,7 +29,7 @@ within c =
     rows-within (s .args .dim) (length (s .args .out .now)) _ (c .before .loop .row) (s .pre .matrix-long) (room c)
 
 loop-holds : tie.Need-loop-holds Inv-loop μ-loop
-loop-holds c = (omega arith, filled-start _ 0 _)
+loop-holds c = (omega arith, filled-start nan _ 0 _)
 
 sub-loop : tie.Need-sub-loop Inv-loop μ-loop
 sub-loop c = omega (arith, c .loop .inv .1 .long, c .loop .inv .0)
@@ -88,7 +90,7 @@ loop-again c =
     let four = c .row-dots .ensures in
     let from = l .row * n in (
       omega (arith, room (c .before)),
-      filled-four _ 0 (l .row) _ _ _ _ _ _ (four .top)
+      filled-four nan _ 0 (l .row) _ _ _ _ _ _ (four .top)
           (four .second ∙ row-at n (l .row + 1) (from + length q) m q (omega (arith, e)))
           (four .third ∙ row-at n (l .row + 2) (from + length q + length q) m q (omega (arith, e)))
           (four .fourth ∙ row-at n (l .row + 3) (from + length q + length q + length q) m q (omega (arith, e)))
@@ -109,7 +111,7 @@ returns c =
     let s = c .before .before .before .before .before .before .before .before .before in
     let l = c .before .before .before .before .before .loop in
     let rest = rw (l .inv .1 .long) at (c .before .before .fill-rest .ensures) in
-    filled-all _ (s .args .out .now) _ _ (projected-length _ _ _ _) (λ j b. projected-row _ _ _ _ j (s .pre .query-long) b) (filled-join _ 0 (l .row) _ _ _ _ (omega arith) (l .inv .0) (l .inv .1) rest)
+    filled-all nan _ (length (s .args .out .now)) (s .args .out .now) _ _ (projected-length _ _ _ _) (λ j b. projected-row _ _ _ _ j (s .pre .query-long) b) (omega arith) (filled-join nan _ 0 (l .row) _ _ _ _ (omega arith) (l .inv .0) (l .inv .1) rest)
 
 pub fill-spec : {M : Type 1} → statement M
 fill-spec =

@@ -3,15 +3,17 @@ use Prim.Native.Nat.{_+_, _*_, _-_, _≤_, _<_}
 use native.Mathlib.Omega.{arith}
 use borrow.Author.Needs.{scaled-fits}
 use lib.ListN.{length}
-use lib.Ieee.{ofBits}
-use Rattle.qjl.specs.Inner.{Filled, onRow}
-use Rattle.qjl.proofs.Rows.{dot-start, row-within}
-use Rattle.qjl.proofs.Filling.{filled-start, filled-more, filled-done}
+use lib.Ieee.{nan, ofBits}
+use Rattle.qjl.specs.Inner.{onRow}
+use Rattle.lists.specs.Inner.{Filled}
+use Rattle.qjl.proofs.Rows.{row-within}
+use Rattle.rounding.proofs.Running.{dot-start}
+use Rattle.lists.proofs.Loops.{filled-start, filled-more, filled-done}
 use Rattle.qjl.proofs.fill_rest.Statement.{statement}
 use Rattle.qjl.proofs.fill_rest.Tie as tie
 
 abbrev Inv-loop : tie.InvT-loop
-Inv-loop dim matrix query out₀ start row₀ out row = (start ≤ row) × ((row ≤ length out₀) × Filled (onRow dim matrix query) start row out₀ out)
+Inv-loop dim matrix query out₀ start row₀ out row = (start ≤ row) × ((row ≤ length out₀) × Filled nan (onRow dim matrix query) start row out₀ out)
 
 abbrev μ-loop : tie.MeasureT-loop
 μ-loop dim matrix query out₀ start row₀ out row = length out₀ - row
@@ -24,7 +26,7 @@ within c =
     row-within (s .args .dim) (length (s .args .out .now)) _ (l .row) (s .pre .0 .matrix-long) (omega (arith, l .inv .1 .1 .long, c .loop-test .taken))
 
 loop-holds : tie.Need-loop-holds Inv-loop μ-loop
-loop-holds c = (omega arith, (c .before .before .before .pre .1, filled-start _ _ _))
+loop-holds c = (omega arith, (c .before .before .before .pre .1, filled-start nan _ _ _))
 
 mul-row-end : tie.Need-mul-row-end Inv-loop μ-loop
 mul-row-end c = record { fits = omega (arith, within c, c .before .before .before .before .before .good .1 .0 .0) }
@@ -51,13 +53,13 @@ loop-again : tie.Need-loop-again Inv-loop μ-loop
 loop-again c =
     let l = c .before .before .loop in
     let inside : l .row < length (c .before .before .before .before .before .before .args .out .now) = omega (arith, c .before .loop-test .taken, l .inv .1 .1 .long) in
-    (omega (arith, l .inv .0), (omega (arith, inside), filled-more _ _ (l .row) _ _ _ (c .row-end .ensures) (l .inv .0) inside (l .inv .1 .1)))
+    (omega (arith, l .inv .0), (omega (arith, inside), filled-more nan _ _ (l .row) _ _ _ (c .row-end .ensures) (l .inv .0) inside (l .inv .1 .1)))
 
 same-length : tie.Need-same-length Inv-loop μ-loop
 same-length c = c .before .loop .inv .1 .1 .long
 
 returns : tie.Need-returns Inv-loop μ-loop
-returns c = filled-done _ _ _ _ _ (c .before .loop .inv .1 .0) (c .loop-test .left) (c .before .loop .inv .1 .1)
+returns c = filled-done nan _ _ _ _ _ (c .before .loop .inv .1 .0) (c .loop-test .left) (c .before .loop .inv .1 .1)
 
 pub fill-rest-spec : {M : Type 1} → statement M
 fill-rest-spec =

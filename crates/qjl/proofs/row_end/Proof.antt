@@ -3,8 +3,8 @@ use Prim.Native.Nat.{_-_, _≤_}
 use native.Mathlib.Omega.{arith}
 use borrow.Author.Needs.{scaled-fits}
 use lib.ListN.{length}
-use Rattle.qjl.specs.Inner.{SoFar}
-use Rattle.qjl.proofs.Rows.{dot-more, dot-end}
+use Rattle.rounding.specs.Inner.{SoFar}
+use Rattle.rounding.proofs.Running.{dot-more, dot-end}
 use Rattle.qjl.proofs.row_end.Statement.{statement}
 use Rattle.qjl.proofs.row_end.Tie as tie
 

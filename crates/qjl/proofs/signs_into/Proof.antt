@@ -9,20 +9,21 @@ use lib.ListN.{length, getD, length-map}
 use lib.Ieee.{nan}
 use mir.Syntax.{w8}
 use mir.Val.{ofZ, toZ}
-use Rattle.rotation.proofs.InPlace.{Made, made-start, made-more, made-all}
+use Rattle.lists.specs.Inner.{Filled}
+use Rattle.lists.proofs.Loops.{filled-start, filled-more, filled-all}
 use Rattle.qjl.specs.Sketch.{signOfSum}
 use Rattle.qjl.proofs.Signs.{sum-sign-back, getD-signs}
 use Rattle.qjl.proofs.signs_into.Statement.{statement}
 use Rattle.qjl.proofs.signs_into.Tie as tie
 
 abbrev Inv-loop : tie.InvT-loop
-Inv-loop values out₀ i₀ out i = (i ≤ length out₀) × Made (pos 0) (λ j. signOfSum (getD values j nan)) i out₀ out
+Inv-loop values out₀ i₀ out i = (i ≤ length out₀) × Filled (pos 0) (λ j. signOfSum (getD values j nan)) 0 i out₀ out
 
 abbrev μ-loop : tie.MeasureT-loop
 μ-loop values out₀ i₀ out i = length out₀ - i
 
 loop-holds : tie.Need-loop-holds Inv-loop μ-loop
-loop-holds c = (omega arith, made-start (pos 0) _ _)
+loop-holds c = (omega arith, filled-start (pos 0) _ 0 _)
 
 mul-sign : tie.Need-mul-sign Inv-loop μ-loop
 mul-sign c = scaled-fits _ (length (c .before .before .before .args .values .now)) 4 (omega (arith, c .before .loop .inv .1 .long, c .before .before .before .pre)) (c .before .before .before .good .0 .1)
@@ -46,7 +47,7 @@ loop-again : tie.Need-loop-again Inv-loop μ-loop
 loop-again c =
     let l = c .before .before .before .loop in
     let v = ap (λ (z : ℤ). toZ w8 (ofZ w8 z)) (c .sign .ensures) ∙ sum-sign-back _ in
-    (omega (arith, l .inv .1 .long), made-more (pos 0) _ _ _ _ _ v (omega (arith, l .inv .1 .long)) (l .inv .1))
+    (omega (arith, l .inv .1 .long), filled-more (pos 0) _ 0 _ _ _ _ v (omega arith) (omega (arith, l .inv .1 .long)) (l .inv .1))
 
 same-length : tie.Need-same-length Inv-loop μ-loop
 same-length c = c .before .loop .inv .1 .long
@@ -55,7 +56,7 @@ returns : tie.Need-returns Inv-loop μ-loop
 returns c =
     let values = c .before .before .before .args .values .now in
     let long = c .before .before .before .pre in
-    made-all (pos 0) _ _ _ _ (map signOfSum values) (simp length-map (sym long)) (λ j l. getD-signs values j (omega (arith, long))) (omega (arith, c .before .loop .inv .1 .long, c .loop-test .left)) (c .before .loop .inv .1)
+    filled-all (pos 0) _ _ _ _ (map signOfSum values) (simp length-map (sym long)) (λ j l. sym (getD-signs values j (omega (arith, long)))) (omega (arith, c .before .loop .inv .1 .long, c .loop-test .left)) (c .before .loop .inv .1)
 
 pub signs-into-spec : {M : Type 1} → statement M
 signs-into-spec =

@@ -2,7 +2,7 @@
 use native.Mathlib.Omega.{arith}
 use lib.ListN.{length-set}
 use Rattle.digits.specs.Digits.{digits}
-use Rattle.digits.proofs.Runs.{store-two}
+use Rattle.lists.proofs.Stores.{store-two}
 use borrow.Author.Needs.{needs}
 use Rattle.radius.proofs.put_number.Statement.{statement}
 use Rattle.radius.proofs.put_number.Tie as tie

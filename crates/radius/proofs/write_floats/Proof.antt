@@ -6,7 +6,7 @@ use mathlib.Core.Path.{sym, _∙_}
 use borrow.Author.Needs.{needs, scaled-fits}
 use Rattle.float.specs.Bytes.{toLeBytes}
 use Rattle.float.proofs.Bytes.{length-toLeBytes, put-f32-room}
-use Rattle.radius.proofs.Fill.{Written, written-start, written-next, written-end, place-within}
+use Rattle.lists.proofs.Loops.{Written, written-start, written-next, written-end, place-within}
 use native.Mathlib.Omega.{arith}
 use Rattle.radius.proofs.write_floats.Statement.{statement}
 use Rattle.radius.proofs.write_floats.Tie as tie

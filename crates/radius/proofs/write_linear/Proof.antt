@@ -9,7 +9,7 @@ use borrow.Author.Needs.{needs, scaled-fits}
 use Rattle.digits.specs.Digits.{digits}
 use Rattle.digits.proofs.Laws.{length-digits}
 use Rattle.radius.specs.Linear.{quantized, linearBytes}
-use Rattle.radius.proofs.Fill.{Written, written-start, written-next, written-end, place-within}
+use Rattle.lists.proofs.Loops.{Written, written-start, written-next, written-end, place-within}
 use native.Mathlib.Omega.{arith}
 use Rattle.radius.proofs.write_linear.Statement.{statement}
 use Rattle.radius.proofs.write_linear.Tie as tie

@@ -1,25 +1,26 @@
 -- `rotation::flip` multiplies each value by its sign, in place.
 -- The loop's invariant says that those passed are multiplied and that those ahead are as they were. Assumes nothing.
 use Prim.Native.Nat.{_≤_, _-_}
-use mathlib.Core.Path.{sym, ap}
+use mathlib.Core.Path.{ap}
 use native.Mathlib.Omega.{arith}
 use borrow.Author.Needs.{scaled-fits}
 use lib.ListN.{length, getD}
 use lib.Ieee.{nan, binary32, mul}
 use Rattle.rounding.specs.Sums.{products}
-use Rattle.rotation.proofs.InPlace.{Made, made-start, made-more, made-all}
+use Rattle.lists.specs.Inner.{Filled}
+use Rattle.lists.proofs.Loops.{filled-start, filled-more, filled-all}
 use Rattle.rounding.proofs.Lists.{length-products, getD-products}
 use Rattle.rotation.proofs.flip.Statement.{statement}
 use Rattle.rotation.proofs.flip.Tie as tie
 
 abbrev Inv-loop : tie.InvT-loop
-Inv-loop values₀ signs i₀ values i = (i ≤ length values₀) × Made nan (λ j. mul binary32 (getD values₀ j nan) (getD signs j nan)) i values₀ values
+Inv-loop values₀ signs i₀ values i = (i ≤ length values₀) × Filled nan (λ j. mul binary32 (getD values₀ j nan) (getD signs j nan)) 0 i values₀ values
 
 abbrev μ-loop : tie.MeasureT-loop
 μ-loop values₀ signs i₀ values i = length values₀ - i
 
 loop-holds : tie.Need-loop-holds Inv-loop μ-loop
-loop-holds c = (omega arith, made-start nan _ _)
+loop-holds c = (omega arith, filled-start nan _ 0 _)
 
 mul-values : tie.Need-mul-values Inv-loop μ-loop
 mul-values c = scaled-fits _ (length (c .before .before .args .values .now)) 4 (omega (arith, c .before .loop .inv .1 .long)) (c .before .before .good .0 .1)
@@ -49,7 +50,7 @@ loop-again : tie.Need-loop-again Inv-loop μ-loop
 loop-again c =
     let signs = c .before .before .before .before .args .signs .now in
     let loop = c .before .before .before .loop in
-    (omega (arith, loop .inv .1 .long), made-more nan _ _ _ _ _ (ap (λ x. mul binary32 x (getD signs (loop .i) nan)) (loop .inv .1 .left (loop .i) (omega arith))) (omega (arith, loop .inv .1 .long)) (loop .inv .1))
+    (omega (arith, loop .inv .1 .long), filled-more nan _ 0 _ _ _ _ (ap (λ x. mul binary32 x (getD signs (loop .i) nan)) (loop .inv .1 .left (loop .i) (omega arith))) (omega arith) (omega (arith, loop .inv .1 .long)) (loop .inv .1))
 
 same-length : tie.Need-same-length Inv-loop μ-loop
 same-length c = c .before .loop .inv .1 .long
@@ -59,7 +60,7 @@ returns c =
     let xs = c .before .before .args .values .now in
     let signs = c .before .before .args .signs .now in
     let same = c .before .before .pre in
-    made-all nan _ _ _ _ (products xs signs) (length-products xs signs same) (λ j l. sym (getD-products xs signs nan j l (omega (arith, same)))) (omega (arith, c .before .loop .inv .1 .long)) (c .before .loop .inv .1)
+    filled-all nan _ _ _ _ (products xs signs) (length-products xs signs same) (λ j l. getD-products xs signs nan j l (omega (arith, same))) (omega (arith, c .before .loop .inv .1 .long)) (c .before .loop .inv .1)
 
 pub flip-spec : {M : Type 1} → statement M
 flip-spec =
