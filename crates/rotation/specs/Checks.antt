@@ -1,7 +1,7 @@
 -- The checks of a dimension, of rotation signs and of lengths, as document 01 lists them. Assumes nothing.
 use Prim.Native.Nat.{ℕ, _%_}
 use mathlib.Core.Bool.{Bool, true, false, not, _&&_, _||_}
-use mathlib.Core.List.{List, [], _∷_}
+use mathlib.Core.List.{List, [], _∷_, _++_}
 use lib.Count.{ones}
 use lib.Dec.{ltb, eqb}
 use lib.ListN.{length}
@@ -34,14 +34,16 @@ badSign s = ne s (one true) && ne s (one false)
 abbrev pub firstBadSignOf : List Float → ℕ
 firstBadSignOf signs = place badSign signs
 
--- 'Rotating either way: 2, 3, 4, 5 for the signs, 10, 5 for the input'; 'In every call 6 comes after all input checks.'
-abbrev pub rotationChecks : ℕ → List Float → ℕ → ℕ → List Check
-rotationChecks n signs long room =
+-- 'Rotating either way: 2, 3, 4, 5 for the signs, 10, ..': those of the dimension and its signs
+abbrev pub signChecks : ℕ → List Float → List Check
+signChecks n signs =
     wrongZeroDimension n
     ∷ wrongOddDimension n
     ∷ wrongPower n
     ∷ wrongInput (length signs) n
     ∷ each badSign 10 signs
-    ∷ wrongInput long n
-    ∷ wrongRoom room n
     ∷ []
+
+-- '.. 5 for the input'; 'In every call 6 comes after all input checks.'
+abbrev pub rotationChecks : ℕ → List Float → ℕ → ℕ → List Check
+rotationChecks n signs long room = signChecks n signs ++ (wrongInput long n ∷ wrongRoom room n ∷ [])

@@ -18,7 +18,7 @@ ghost use Rattle.error.specs.Outcomes.{says};
 ghost use Rattle.rounding.specs.Butterfly.{stage, stages};
 ghost use Rattle.rounding.specs.Sums.{products};
 ghost use Rattle.float.specs.Constants.{posZero};
-ghost use Rattle.rotation.specs.Checks.{badSign, firstBadSignOf, badPower, rotationChecks};
+ghost use Rattle.rotation.specs.Checks.{badSign, firstBadSignOf, badPower, signChecks, rotationChecks};
 ghost use Rattle.rotation.specs.Rotation.{inverseRoot, scaled, hadamardOf, applyOf, applyInverseOf};
 ghost use Rattle.rotation.specs.Inner.{BlockDone, Stepped, Transformable};
 
@@ -86,6 +86,29 @@ pub fn apply_inverse(dim: usize, signs: &[f32], input: &[f32], output: &mut [f32
 fn check(dim: usize, signs: &[f32], input: usize, output: usize) -> Outcome
     ensures { λ r. ⌜ says r ≡ first (rotationChecks dim (now (signs .entry)) input output) accepted ⌝ }
 {
+    let held = check_signs(dim, signs);
+    if let Outcome::Refused { number, place } = held {
+        return Outcome::Refused { number, place };
+    }
+    if input != dim {
+        return Outcome::Refused {
+            number: DIMENSION_MISMATCH,
+            place: input,
+        };
+    }
+    if output != dim {
+        return Outcome::Refused {
+            number: OUTPUT_LENGTH,
+            place: dim,
+        };
+    }
+    Outcome::Done
+}
+
+// The checks of a dimension and of its signs.
+fn check_signs(dim: usize, signs: &[f32]) -> Outcome
+    ensures { λ r. ⌜ says r ≡ first (signChecks dim (now (signs .entry))) accepted ⌝ }
+{
     if dim == 0 {
         return Outcome::Refused {
             number: ZERO_DIMENSION,
@@ -115,18 +138,6 @@ fn check(dim: usize, signs: &[f32], input: usize, output: usize) -> Outcome
         return Outcome::Refused {
             number: MALFORMED_SIGN,
             place: bad,
-        };
-    }
-    if input != dim {
-        return Outcome::Refused {
-            number: DIMENSION_MISMATCH,
-            place: input,
-        };
-    }
-    if output != dim {
-        return Outcome::Refused {
-            number: OUTPUT_LENGTH,
-            place: dim,
         };
     }
     Outcome::Done

@@ -20,7 +20,7 @@ ghost use Rattle.error.specs.Checks.{firstNonFiniteOf};
 ghost use Rattle.error.specs.Outcomes.{says};
 ghost use Rattle.setup.specs.Lent.{lent};
 ghost use Rattle.setup.specs.Setups.{polarBitsOf, countedProjectionsOf};
-ghost use Rattle.setup.specs.Checks.{badTotalBits, badProjections, badDirection, firstBadDirectionOf, scalarChecks, tableChecksButEntries, entryChecks, setupChecks, setupChecksButEntries, directionChecks};
+ghost use Rattle.setup.specs.Checks.{badTotalBits, badProjections, badDirection, firstBadDirectionOf, scalarChecks, lengthChecks, tableChecksButEntries, entryChecks, setupChecks, setupChecksButEntries, directionChecks};
 ghost use Rattle.setup.specs.Seeds.{hadamardSeedOf, matrixSeedOf};
 
 // Whether a residual sketch stands beside the polar code.
@@ -226,6 +226,32 @@ fn check_tables(setup: Setup, signs: &[f32], directions: &[f32], matrix: &[f32])
     requires { ⌜ first (scalarChecks setup) accepted ≡ accepted ⌝ }
     ensures { λ r. ⌜ says r ≡ first (tableChecksButEntries setup (lent (now (signs .entry)) (now (directions .entry)) (now (matrix .entry)))) accepted ⌝ }
 {
+    let held = check_lengths(setup, signs, directions, matrix);
+    if let Outcome::Refused { number, place } = held {
+        return Outcome::Refused { number, place };
+    }
+    let sign = rotation::first_bad_sign(signs);
+    if sign < signs.len() {
+        return Outcome::Refused {
+            number: MALFORMED_SIGN,
+            place: sign,
+        };
+    }
+    let direction = first_bad_direction(directions);
+    if direction < directions.len() {
+        return Outcome::Refused {
+            number: INVALID_DIRECTION,
+            place: direction,
+        };
+    }
+    Outcome::Done
+}
+
+// The checks of the lengths of the lent tables, under scalars that pass.
+fn check_lengths(setup: Setup, signs: &[f32], directions: &[f32], matrix: &[f32]) -> Outcome
+    requires { ⌜ first (scalarChecks setup) accepted ≡ accepted ⌝ }
+    ensures { λ r. ⌜ says r ≡ first (lengthChecks setup (lent (now (signs .entry)) (now (directions .entry)) (now (matrix .entry)))) accepted ⌝ }
+{
     let dim = setup.dim;
     let rows = counted_projections(setup);
     if signs.len() != dim {
@@ -244,20 +270,6 @@ fn check_tables(setup: Setup, signs: &[f32], directions: &[f32], matrix: &[f32])
         return Outcome::Refused {
             number: DIMENSION_MISMATCH,
             place: matrix.len(),
-        };
-    }
-    let sign = rotation::first_bad_sign(signs);
-    if sign < signs.len() {
-        return Outcome::Refused {
-            number: MALFORMED_SIGN,
-            place: sign,
-        };
-    }
-    let direction = first_bad_direction(directions);
-    if direction < directions.len() {
-        return Outcome::Refused {
-            number: INVALID_DIRECTION,
-            place: direction,
         };
     }
     Outcome::Done

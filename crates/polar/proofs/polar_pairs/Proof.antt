@@ -11,10 +11,7 @@ mul-needed : tie.Need-mul-needed
 mul-needed c = search needs
 
 returns : tie.Need-returns
-returns c =
-    let a = c .before .before .before .before .before .args in
-    both-refused (polarPairsOf (a .directions .now) (a .indices .now) (a .radii .now) (length (a .out .now))) (a .out .now)
-    (pairs-refused (a .directions .now) (a .indices .now) (a .radii .now) (length (a .out .now)) (c .if1 .taken))
+returns c = both-refused _ _ (pairs-refused _ _ _ _ (c .if1 .taken))
 
 fill-pairs-requires : tie.Need-fill-pairs-requires
 fill-pairs-requires c κs = search needs

@@ -1,53 +1,51 @@
--- `rotation::check` answers the first check of a rotation that fails, in document 01's order. Assumes nothing.
+-- `rotation::check` answers the first check of a rotation that fails: those of the dimension and the signs, then those of the two lengths. Assumes nothing.
 use borrow.Author.Needs.{needs}
-use mathlib.Core.Path.{sym, _∙_}
+use mathlib.Core.Path.{_≡_, sym, ap, _∙_}
+use mathlib.Core.List.{[], _∷_}
 use borrow.Author.Tests.{eq-eqb, ne-eqb}
-use Rattle.error.proofs.Places.{each-offends, each-passes}
-use Rattle.rotation.specs.Checks.{badSign}
+use Rattle.error.specs.Answer.{first, accepted}
+use Rattle.error.specs.Outcomes.{says}
+use Rattle.error.specs.Checks.{wrongInput, wrongRoom}
+use Rattle.error.proofs.Chains.{append-passed, append-refused}
+use Rattle.rotation.specs.Checks.{signChecks, rotationChecks}
 use Rattle.rotation.proofs.check.Statement.{statement}
 use Rattle.rotation.proofs.check.Tie as tie
 
+check-signs-requires : tie.Need-check-signs-requires
+check-signs-requires c κs = search needs
+
+enum-known-held : tie.Need-enum-known-held
+enum-known-held c = search needs
+
 returns : tie.Need-returns
-returns c = simp (eq-eqb _ _ (c .if1 .taken))
+returns c =
+    let a = c .before .before .before .before .before .args in
+    sym
+    (append-refused (signChecks (a .dim) (a .signs .now)) (wrongInput (a .input) (a .dim) ∷ wrongRoom (a .output) (a .dim) ∷ []) tt accepted
+    (sym (c .before .before .before .check-signs .ensures) ∙ ap says (c .before .held .given .1)))
+
+enum-told : tie.Need-enum-told
+enum-told c = search needs
+
+-- what the checks of the dimension and the signs leave, where they pass
+rest : (c : tie.After-enum-told)
+    → let a = c .before .before .before .before .args in
+    first (rotationChecks (a .dim) (a .signs .now) (a .input) (a .output)) accepted ≡ first (wrongInput (a .input) (a .dim) ∷ wrongRoom (a .output) (a .dim) ∷ []) accepted
+rest c =
+    let a = c .before .before .before .before .args in
+    append-passed (signChecks (a .dim) (a .signs .now)) (wrongInput (a .input) (a .dim) ∷ wrongRoom (a .output) (a .dim) ∷ []) tt accepted
+    (sym (c .before .before .check-signs .ensures) ∙ ap says (c .enum-told .given .1))
 
 returns-2 : tie.Need-returns-2
-returns-2 c = simp (ne-eqb _ _ (c .before .if1 .left), eq-eqb _ _ (c .if2 .taken))
-
-outside-powers-requires : tie.Need-outside-powers-requires
-outside-powers-requires c κs = search needs
+returns-2 c = sym (rest (c .before) ∙ simp (ne-eqb _ _ (c .if1 .taken)))
 
 returns-3 : tie.Need-returns-3
-returns-3 c = simp (ne-eqb _ _ (c .before .before .before .if1 .left), ne-eqb _ _ (c .before .before .if2 .left), sym (c .before .outside-powers .ensures) ∙ c .if3 .taken)
+returns-3 c = sym (rest (c .before .before) ∙ simp (eq-eqb _ _ (c .before .if1 .left), ne-eqb _ _ (c .if2 .taken)))
 
 returns-4 : tie.Need-returns-4
-returns-4 c = simp (ne-eqb _ _ (c .before .before .before .before .if1 .left), ne-eqb _ _ (c .before .before .before .if2 .left), sym (c .before .before .outside-powers .ensures) ∙ c .before .if3 .left, ne-eqb _ _ (c .if4 .taken))
-
-first-bad-sign-requires : tie.Need-first-bad-sign-requires
-first-bad-sign-requires c κs = search needs
-
-returns-5 : tie.Need-returns-5
-returns-5 c = simp (ne-eqb _ _ (c .before .before .before .before .before .before .if1 .left), ne-eqb _ _ (c .before .before .before .before .before .if2 .left), sym (c .before .before .before .before .outside-powers .ensures) ∙ c .before .before .before .if3 .left, eq-eqb _ _ (c .before .before .if4 .left), each-offends badSign _ (c .before .first-bad-sign .ensures) (c .if5 .taken), c .before .first-bad-sign .ensures)
-
-returns-6 : tie.Need-returns-6
-returns-6 c = simp (ne-eqb _ _ (c .before .before .before .before .before .before .before .if1 .left), ne-eqb _ _ (c .before .before .before .before .before .before .if2 .left), sym (c .before .before .before .before .before .outside-powers .ensures) ∙ c .before .before .before .before .if3 .left, eq-eqb _ _ (c .before .before .before .if4 .left), each-passes badSign _ (c .before .before .first-bad-sign .ensures) (c .before .if5 .left), ne-eqb _ _ (c .if6 .taken))
-
-returns-7 : tie.Need-returns-7
-returns-7 c = simp (ne-eqb _ _ (c .before .before .before .before .before .before .before .before .if1 .left), ne-eqb _ _ (c .before .before .before .before .before .before .before .if2 .left), sym (c .before .before .before .before .before .before .outside-powers .ensures) ∙ c .before .before .before .before .before .if3 .left, eq-eqb _ _ (c .before .before .before .before .if4 .left), each-passes badSign _ (c .before .before .before .first-bad-sign .ensures) (c .before .before .if5 .left), eq-eqb _ _ (c .before .if6 .left), ne-eqb _ _ (c .if7 .taken))
-
-returns-8 : tie.Need-returns-8
-returns-8 c = simp (ne-eqb _ _ (c .before .before .before .before .before .before .before .before .if1 .left), ne-eqb _ _ (c .before .before .before .before .before .before .before .if2 .left), sym (c .before .before .before .before .before .before .outside-powers .ensures) ∙ c .before .before .before .before .before .if3 .left, eq-eqb _ _ (c .before .before .before .before .if4 .left), each-passes badSign _ (c .before .before .before .first-bad-sign .ensures) (c .before .before .if5 .left), eq-eqb _ _ (c .before .if6 .left), eq-eqb _ _ (c .if7 .left))
+returns-4 c = sym (rest (c .before .before) ∙ simp (eq-eqb _ _ (c .before .if1 .left), eq-eqb _ _ (c .if2 .left)))
 
 pub check-spec : {M : Type 1} → statement M
 check-spec =
     tie.close
-    (tie.spec
-    returns
-    returns-2
-    outside-powers-requires
-    returns-3
-    returns-4
-    first-bad-sign-requires
-    returns-5
-    returns-6
-    returns-7
-    returns-8)
+    (tie.spec check-signs-requires enum-known-held returns enum-told returns-2 returns-3 returns-4)

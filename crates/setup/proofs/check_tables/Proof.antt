@@ -1,103 +1,74 @@
--- `setup::check_tables` meets its contract: a check that passes leaves the rest of the list, and the scalars bound the lengths that are formed.
--- Assumes nothing.
-use Prim.Native.Nat.{ℕ, _*_, _^_}
-use mathlib.Core.Path.{_≡_, ap, _∙_}
-use mathlib.Core.Bool.{true, false}
-use native.Mathlib.Omega.{arith}
-use borrow.Author.Tests.{eq-eqb, ne-eqb}
-use lib.Dec.{eqb, ltb}
-use lib.ListN.{length}
-use Rattle.error.specs.Answer.{place}
+-- `setup::check_tables` meets its contract: the checks of the lengths, and then those of the signs and the directions. Assumes nothing.
+use mathlib.Core.Path.{_≡_, sym, ap, _∙_}
+use mathlib.Core.List.{[], _∷_}
+use Rattle.error.specs.Answer.{first, each, accepted}
+use Rattle.error.specs.Outcomes.{says}
+use Rattle.error.proofs.Chains.{append-passed, append-refused}
 use Rattle.error.proofs.Places.{each-offends, each-passes}
 use Rattle.rotation.specs.Checks.{badSign}
-use Rattle.setup.specs.Setups.{directionsNeeded, matrixNeeded}
-use Rattle.setup.specs.Checks.{badDirection}
-use Rattle.setup.proofs.Usable.{Usable}
-use Rattle.setup.proofs.Lengths.{matrix-fits, length-differs, length-meets}
-use Rattle.setup.proofs.Scalars.{scalars-usable}
+use Rattle.setup.specs.Lent.{lent}
+use Rattle.setup.specs.Checks.{badDirection, lengthChecks, tableChecksButEntries}
 use borrow.Author.Needs.{needs}
 use Rattle.setup.proofs.check_tables.Statement.{statement}
 use Rattle.setup.proofs.check_tables.Tie as tie
 
--- ---- what is known once a check has passed
+check-lengths-requires : tie.Need-check-lengths-requires
+check-lengths-requires c κs = c .before .before .before .pre
 
-usable-at : (c : tie.Start) → Usable (c .args .setup)
-usable-at c = scalars-usable (c .args .setup) (c .pre)
-
--- what the call of `direction_entries` returned
-entries : (c : tie.After-direction-entries) → c .direction-entries .result ≡ directionsNeeded (c .before .before .before .before .before .before .before .args .setup)
-entries c = c .direction-entries .ensures ∙ ap (λ (n : ℕ). 2 * 2 ^ n) (c .before .polar-bits .ensures)
-
--- the product of rows and columns
-entry-count : (c : tie.After-counted-projections) → c .counted-projections .result * c .before .before .before .before .args .setup .dim ≡ matrixNeeded (c .before .before .before .before .args .setup)
-entry-count c = ap (λ (n : ℕ). n * c .before .before .before .before .args .setup .dim) (c .counted-projections .ensures)
-
-signs-long : (c : tie.Else1) → eqb (length (c .before .before .before .before .before .args .signs .now)) (c .before .before .before .before .before .args .setup .dim) ≡ true
-signs-long c = eq-eqb _ _ (c .if1 .left)
-
-directions-long : (c : tie.Else2) → eqb (length (c .before .before .before .before .before .before .before .before .args .directions .now)) (directionsNeeded (c .before .before .before .before .before .before .before .before .args .setup)) ≡ true
-directions-long c = length-meets _ (entries (c .before)) (c .if2 .left)
-
-matrix-long : (c : tie.Else3) → eqb (length (c .before .before .before .before .before .before .before .before .before .args .matrix .now)) (matrixNeeded (c .before .before .before .before .before .before .before .before .before .args .setup)) ≡ true
-matrix-long c = length-meets _ (entry-count (c .before .before .before .before .before)) (c .if3 .left)
-
-signs-pass : (c : tie.Else4) → ltb (place badSign (c .before .before .before .before .before .before .before .before .before .before .before .args .signs .now)) (length (c .before .before .before .before .before .before .before .before .before .before .before .args .signs .now)) ≡ false
-signs-pass c = each-passes badSign _ (c .before .first-bad-sign .ensures) (c .if4 .left)
-
-directions-pass : (c : tie.Else5) → ltb (place badDirection (c .before .before .before .before .before .before .before .before .before .before .before .before .before .args .directions .now)) (length (c .before .before .before .before .before .before .before .before .before .before .before .before .before .args .directions .now)) ≡ false
-directions-pass c = each-passes badDirection _ (c .before .first-bad-direction .ensures) (c .if5 .left)
-
--- ---- the needs
-
-counted-projections-requires : tie.Need-counted-projections-requires
-counted-projections-requires c κs = search needs
+enum-known-held : tie.Need-enum-known-held
+enum-known-held c = search needs
 
 returns : tie.Need-returns
-returns c = simp (ne-eqb _ _ (c .if1 .taken))
+returns c =
+    let a = c .before .before .before .before .before .before .before .args in
+    sym
+    (append-refused (lengthChecks (a .setup) (lent (a .signs .now) (a .directions .now) (a .matrix .now))) (each badSign 10 (a .signs .now) ∷ each badDirection 7 (a .directions .now) ∷ []) tt accepted
+    (sym (c .before .before .before .check-lengths .ensures) ∙ ap says (c .before .held .given .1)))
 
-polar-bits-requires : tie.Need-polar-bits-requires
-polar-bits-requires c κs = search needs
+enum-told : tie.Need-enum-told
+enum-told c = search needs
 
-direction-entries-requires : tie.Need-direction-entries-requires
-direction-entries-requires c κs = let u = usable-at (c .before .before .before .before .before .before) in omega (arith, u .most-bits, c .polar-bits .ensures)
-
-returns-2 : tie.Need-returns-2
-returns-2 c = simp (signs-long (c .before .before .before), length-differs _ (entries (c .before)) (c .if2 .taken))
-
-mul-if3 : tie.Need-mul-if3
-mul-if3 c = let u = usable-at (c .before .before .before .before .before .before .before .before) in omega (arith, matrix-fits _ _ (u .most-projections) (u .most), ap (λ (n : ℕ). n * c .before .before .before .before .before .before .before .before .args .setup .dim) (c .before .before .before .before .counted-projections .ensures))
-
-returns-3 : tie.Need-returns-3
-returns-3 c = simp (signs-long (c .before .before .before .before), directions-long (c .before), length-differs _ (entry-count (c .before .before .before .before .before)) (c .if3 .taken))
+-- what the checks of the lengths leave, where they pass
+rest : (c : tie.After-enum-told)
+    → let a = c .before .before .before .before .before .before .args in
+    first (tableChecksButEntries (a .setup) (lent (a .signs .now) (a .directions .now) (a .matrix .now))) accepted
+    ≡ first (each badSign 10 (a .signs .now) ∷ each badDirection 7 (a .directions .now) ∷ []) accepted
+rest c =
+    let a = c .before .before .before .before .before .before .args in
+    append-passed (lengthChecks (a .setup) (lent (a .signs .now) (a .directions .now) (a .matrix .now))) (each badSign 10 (a .signs .now) ∷ each badDirection 7 (a .directions .now) ∷ []) tt accepted
+    (sym (c .before .before .check-lengths .ensures) ∙ ap says (c .enum-told .given .1))
 
 first-bad-sign-requires : tie.Need-first-bad-sign-requires
 first-bad-sign-requires c κs = search needs
 
-returns-4 : tie.Need-returns-4
-returns-4 c = simp (signs-long (c .before .before .before .before .before .before), directions-long (c .before .before .before), matrix-long (c .before .before), each-offends badSign _ (c .before .first-bad-sign .ensures) (c .if4 .taken), c .before .first-bad-sign .ensures)
+returns-2 : tie.Need-returns-2
+returns-2 c = sym (rest (c .before .before) ∙ simp (each-offends badSign _ (c .before .first-bad-sign .ensures) (c .if1 .taken), c .before .first-bad-sign .ensures))
 
 first-bad-direction-requires : tie.Need-first-bad-direction-requires
 first-bad-direction-requires c κs = search needs
 
-returns-5 : tie.Need-returns-5
-returns-5 c = simp (signs-long (c .before .before .before .before .before .before .before .before), directions-long (c .before .before .before .before .before), matrix-long (c .before .before .before .before), signs-pass (c .before .before), each-offends badDirection _ (c .before .first-bad-direction .ensures) (c .if5 .taken), c .before .first-bad-direction .ensures)
+returns-3 : tie.Need-returns-3
+returns-3 c =
+    sym
+    (rest (c .before .before .before .before)
+    ∙ simp (each-passes badSign _ (c .before .before .before .first-bad-sign .ensures) (c .before .before .if1 .left), each-offends badDirection _ (c .before .first-bad-direction .ensures) (c .if2 .taken), c .before .first-bad-direction .ensures))
 
-returns-6 : tie.Need-returns-6
-returns-6 c = simp (signs-long (c .before .before .before .before .before .before .before .before), directions-long (c .before .before .before .before .before), matrix-long (c .before .before .before .before), signs-pass (c .before .before), directions-pass c)
+returns-4 : tie.Need-returns-4
+returns-4 c =
+    sym
+    (rest (c .before .before .before .before)
+    ∙ simp (each-passes badSign _ (c .before .before .before .first-bad-sign .ensures) (c .before .before .if1 .left), each-passes badDirection _ (c .before .first-bad-direction .ensures) (c .if2 .left)))
 
 pub check-tables-spec : {M : Type 1} → statement M
 check-tables-spec =
     tie.close
     (tie.spec
-    counted-projections-requires
+    check-lengths-requires
+    enum-known-held
     returns
-    polar-bits-requires
-    direction-entries-requires
-    returns-2
-    mul-if3
-    returns-3
+    enum-told
     first-bad-sign-requires
-    returns-4
+    returns-2
     first-bad-direction-requires
-    returns-5
-    returns-6)
+    returns-3
+    returns-4)
