@@ -6,7 +6,7 @@ use native.Mathlib.Nat.{zero-add, one-mul, mul-le-mul-right}
 use native.Mathlib.Omega.{arith}
 use lib.ListN.{length, getD, take, drop, set, length-set}
 use Rattle.digits.specs.Digits.{number, digits}
-use Rattle.bitpack.specs.Inner.{Unpackable, Eights, Window, Refillable, Refilled}
+use Rattle.bitpack.specs.Inner.{Unpackable, Eights, Windowed, Refillable, Refilled}
 use Rattle.bitpack.proofs.Digits.{number-drop, write-next, write-end}
 use Rattle.bitpack.proofs.Windows.{shift-in, shift-in-fits, low-out, shift-out, shift-out-fits}
 
@@ -58,7 +58,7 @@ module _ (packed : List ℕ) (width acc held at : ℕ) (asked : Refillable packe
 pub record Unpacked (packed : List ℕ) (bits room : ℕ) (out : List ℕ) (acc held at i : ℕ) : Type 0 where
   pub sized : length out ≡ room
   pub within : i ≤ room
-  pub window : Window packed acc held at
+  pub window : Windowed packed acc held at
   pub count : i * bits + held ≡ 8 * at
   pub rest : digits (2 ^ bits) room (number 256 packed) ≡ take i out ++ digits (2 ^ bits) (room - i) (acc + 2 ^ held * number 256 (drop at packed))
 

@@ -26,20 +26,20 @@ pub record Eights (packed : List ℕ) (bits room : ℕ) (out : List ℕ) (k : �
   pub rest : digits (2 ^ bits) room (number 256 packed) ≡ take (8 * k) out ++ digits (2 ^ bits) (room - 8 * k) (number 256 (drop (k * bits) packed))
 
 -- the bits read so far and not yet handed out: `held` of them, as the number `acc`; the bytes from `at` on are still to be read
-pub record Window (packed : List ℕ) (acc held at : ℕ) : Type 0 where
+pub record Windowed (packed : List ℕ) (acc held at : ℕ) : Type 0 where
   pub within : at ≤ length packed
   pub small : held ≤ 47
   pub fits : acc < 2 ^ held
 
 -- enough bits are held or still to be read
 pub record Refillable (packed : List ℕ) (width acc held at : ℕ) : Type 0 where
-  pub window : Window packed acc held at
+  pub window : Windowed packed acc held at
   pub narrow : width ≤ 16
   pub enough : width + 8 * at ≤ held + 8 * length packed
 
 -- the same bits, of which enough are held now
 pub record Refilled (packed : List ℕ) (width acc held at acc' held' at' : ℕ) : Type 0 where
-  pub window : Window packed acc' held' at'
+  pub window : Windowed packed acc' held' at'
   pub enough : width ≤ held'
   pub count : 8 * at' + held ≡ 8 * at + held'
   pub same : acc' + 2 ^ held' * number 256 (drop at' packed) ≡ acc + 2 ^ held * number 256 (drop at packed)

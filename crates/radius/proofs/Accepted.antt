@@ -9,14 +9,16 @@ use borrow.Author.Tests.{ltb-false, eqb-true, not-false}
 use lib.ListN.{length, getD}
 use lib.Ieee.{Float, nan, isNan, lt}
 use lib.Ieee.Scale.{finite}
-use Rattle.error.specs.Answer.{value, place}
-use Rattle.error.proofs.Chains.{first-all, first-value}
+use Rattle.error.specs.Answer.{value, place, accepted}
+use Rattle.error.proofs.Chains.{Passed, first-all, first-value}
 use Rattle.error.proofs.Places.{place-le, place-passed}
 use Rattle.float.specs.Bytes.{ofLeBytes}
 use Rattle.lists.specs.Chunks.{chunks}
 use Rattle.float.specs.Constants.{posZero}
 use Rattle.radius.specs.Radii.{badRadius}
 use Rattle.radius.specs.Codec.{widthOf, compressChecks, payloadFor, compressBytesOf, decompressChecks, radiiFor, decompressOf}
+use Rattle.radius.specs.Inner.{contentChecks}
+use Rattle.radius.proofs.Checks.{content-passed}
 use Rattle.radius.proofs.Radii.{radius-finite, radius-not-nan, radius-not-below}
 use Rattle.radius.specs.declared.Range.{Range}
 use Rattle.radius.specs.declared.RadiusCodecProfileV1.{RadiusCodecProfileV1}
@@ -52,19 +54,21 @@ module _ (radii : List Float) (profile : RadiusCodecProfileV1) (room : ℕ) (byt
 -- ---- what decompress reads as F32
 
 module _ (count : ℕ) (range : Range) (payload : List ℕ) (room : ℕ) (radii : List Float) (read : decompressOf F32 count range payload room ≡ value radii) where
+  -- none of the checks of the content offends
+  passed : Passed (contentChecks F32 count range payload)
+  passed = first-all (contentChecks F32 count range payload) accepted (content-passed F32 count range payload room read)
+
   pub decompressed-length : length payload ≡ 4 * count
-  unfolding decompressOf
-  decompressed-length = eqb-true _ _ (not-false _ (first-all (decompressChecks F32 count range payload room) (value (radiiFor F32 count range payload)) read .1 .0))
+  decompressed-length = eqb-true _ _ (not-false _ (passed .1 .0))
 
   pub decompressed-is : radii ≡ map ofLeBytes (chunks 4 count payload)
   unfolding decompressOf
   decompressed-is = sym (first-value (decompressChecks F32 count range payload room) (radiiFor F32 count range payload) read)
 
   pub decompressed-place : place badRadius radii ≡ length radii
-  unfolding decompressOf
   decompressed-place =
       let floats = map ofLeBytes (chunks 4 count payload) in
-      let h = ltb-false (place badRadius floats) (length floats) (first-all (decompressChecks F32 count range payload room) (value (radiiFor F32 count range payload)) read .1 .1 .0) in
+      let h = ltb-false (place badRadius floats) (length floats) (passed .1 .1 .0) in
       rw decompressed-is (let k = place-le badRadius (map ofLeBytes (chunks 4 count payload)) in omega (arith, h, k))
 
   pub decompressed-radius : (i : ℕ) → i < length radii → badRadius (getD radii i nan) ≡ false

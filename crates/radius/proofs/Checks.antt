@@ -83,3 +83,8 @@ module _ (profile : RadiusCodecProfileV1) (count : ℕ) (range : Range) (payload
   content-restore good =
       append-passed (contentChecks profile count range payload) (wrongRoom room count ∷ []) tt (value (radiiFor profile count range payload)) good
       ∙ sym (fit-restore profile count payload (append-left (profileChecks profile count payload) (wrongContent profile count range payload ∷ []) accepted good) range room)
+
+  -- radii that were read passed them
+  pub content-passed : {radii : List Float} → decompressOf profile count range payload room ≡ value radii → first (contentChecks profile count range payload) accepted ≡ accepted
+  unfolding decompressOf
+  content-passed read = append-left (contentChecks profile count range payload) (wrongRoom room count ∷ []) (value (radiiFor profile count range payload)) read

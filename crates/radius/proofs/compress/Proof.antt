@@ -10,10 +10,6 @@ use borrow.Author.Needs.{needs}
 use Rattle.radius.proofs.compress.Statement.{statement}
 use Rattle.radius.proofs.compress.Tie as tie
 
--- no check offends
-passed : (c : tie.After-enum-told) → let a = c .before .before .before .before .before .args in first (compressChecks (now (a .radii)) (a .profile) (length (now (a .out)))) accepted ≡ accepted
-passed c = sym (c .before .before .check-compress .ensures) ∙ ap says (c .enum-told .given .1)
-
 check-compress-requires : tie.Need-check-compress-requires
 check-compress-requires c κs = search needs
 
@@ -25,6 +21,10 @@ returns c = compress-refused _ _ _ _ (sym (c .before .before .before .check-comp
 
 enum-told : tie.Need-enum-told
 enum-told c = search needs
+
+-- no check offends
+passed : (c : tie.After-enum-told) → let a = c .before .before .before .before .before .args in first (compressChecks (now (a .radii)) (a .profile) (length (now (a .out)))) accepted ≡ accepted
+passed c = sym (c .before .before .check-compress .ensures) ∙ ap says (c .enum-told .given .1)
 
 write-payload-requires : tie.Need-write-payload-requires
 write-payload-requires c κs = let a = c .before .before .before .before .before .before .args in compress-room (now (a .radii)) (a .profile) (length (now (a .out))) (passed (c .before))
