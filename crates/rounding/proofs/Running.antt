@@ -30,17 +30,17 @@ from-length start (suc count) = ap suc (from-length (suc start) count)
 
 -- ---- a running sum of terms
 module _ (f : ℕ → Float) (n : ℕ) where
-  pub running-start : total (map f (from 0 n)) ≡ running posZero (map f (from 0 (n - 0)))
-  running-start = rw sub-zero
+  pub total-start : total (map f (from 0 n)) ≡ running posZero (map f (from 0 (n - 0)))
+  total-start = rw sub-zero
 
-  pub running-more : (i : ℕ) (acc v : Float) {whole : Float} → i < n → v ≡ f i → whole ≡ running acc (map f (from i (n - i)))
+  pub total-more : (i : ℕ) (acc v : Float) {whole : Float} → i < n → v ≡ f i → whole ≡ running acc (map f (from i (n - i)))
       → whole ≡ running (add binary32 acc v) (map f (from (i + 1) (n - (i + 1))))
   unfolding running
-  running-more i acc v h e inv = inv ∙ ap (λ (is : List ℕ). running acc (map f is)) (from-next i n h) ∙ ap (λ (u : Float). running (add binary32 acc u) (map f (from (i + 1) (n - (i + 1))))) (sym e)
+  total-more i acc v h e inv = inv ∙ ap (λ (is : List ℕ). running acc (map f is)) (from-next i n h) ∙ ap (λ (u : Float). running (add binary32 acc u) (map f (from (i + 1) (n - (i + 1))))) (sym e)
 
-  pub running-end : (i : ℕ) (acc : Float) {whole : Float} → n ≤ i → whole ≡ running acc (map f (from i (n - i))) → acc ≡ whole
+  pub total-end : (i : ℕ) (acc : Float) {whole : Float} → n ≤ i → whole ≡ running acc (map f (from i (n - i))) → acc ≡ whole
   unfolding running
-  running-end i acc h inv = sym (inv ∙ ap (λ (is : List ℕ). running acc (map f is)) (from-none i n h))
+  total-end i acc h inv = sym (inv ∙ ap (λ (is : List ℕ). running acc (map f is)) (from-none i n h))
 
 -- ---- a dot product
 products-nil : (vs : List Float) → products vs [] ≡ []

@@ -8,7 +8,7 @@ use lib.Ieee.{ofBits}
 use Rattle.rounding.specs.Butterfly.{from}
 use Rattle.rounding.specs.Sums.{running}
 use Rattle.polar.specs.Polar.{term, polarSumOf}
-use Rattle.rounding.proofs.Running.{running-start, running-more, running-end}
+use Rattle.rounding.proofs.Running.{total-start, total-more, total-end}
 use Rattle.polar.proofs.polar_sum.Statement.{statement}
 use Rattle.polar.proofs.polar_sum.Tie as tie
 
@@ -21,7 +21,7 @@ abbrev μ-loop : tie.MeasureT-loop
 
 loop-holds : tie.Need-loop-holds Inv-loop μ-loop
 unfolding polarSumOf ofBits
-loop-holds c = (omega arith, running-start _ _)
+loop-holds c = (omega arith, total-start _ _)
 
 pair-term-requires : tie.Need-pair-term-requires Inv-loop μ-loop
 pair-term-requires c κs = omega arith
@@ -33,10 +33,10 @@ loop-less : tie.Need-loop-less Inv-loop μ-loop
 loop-less c = omega arith
 
 loop-again : tie.Need-loop-again Inv-loop μ-loop
-loop-again c = (omega arith, running-more _ _ _ _ _ (omega arith) (c .pair-term .ensures) (c .before .before .loop .inv .1))
+loop-again c = (omega arith, total-more _ _ _ _ _ (omega arith) (c .pair-term .ensures) (c .before .before .loop .inv .1))
 
 returns : tie.Need-returns Inv-loop μ-loop
-returns c = running-end _ _ _ _ (omega arith) (c .before .loop .inv .1)
+returns c = total-end _ _ _ _ (omega arith) (c .before .loop .inv .1)
 
 pub polar-sum-spec : {M : Type 1} → statement M
 polar-sum-spec =
