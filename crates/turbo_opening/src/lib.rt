@@ -30,10 +30,12 @@ fn hold_against(setup: Setup, bytes: &[u8]) -> Reading
     match packed::read_record(bytes) {
         Reading::Read(header) => {
             let other = other_profile(setup, header.bits, header.projections);
-            if header.dim != setup.dim {
+            let dim = header.dim;
+            let needed = setup.dim;
+            if dim != needed {
                 return Reading::Refused {
                     number: DIMENSION_MISMATCH,
-                    place: header.dim,
+                    place: dim,
                 };
             }
             if other {

@@ -22,13 +22,13 @@ other-profile-requires c κs = search needs
 
 returns : tie.Need-returns
 returns c =
-    let k = c .before .before .before .before in
+    let k = c .before .before in
     let a = k .before .before .before .before .before .args in
     sym (open-dim (a .setup) (a .bytes .now) (read k) (c .if1 .taken))
 
 returns-2 : tie.Need-returns-2
 returns-2 c =
-    let o = c .before .before .before .before in
+    let o = c .before .before in
     let k = o .before in
     let a = k .before .before .before .before .before .args in
     sym (open-profile (a .setup) (a .bytes .now) (read k) (c .before .if1 .left) (o .other-profile .ensures) (c .if2 .taken))
@@ -38,7 +38,7 @@ enum-known-number c = search needs
 
 returns-3 : tie.Need-returns-3
 returns-3 c =
-    let o = c .before .before .before .before in
+    let o = c .before .before in
     let k = o .before in
     let a = k .before .before .before .before .before .args in
     sym (open-value (a .setup) (a .bytes .now) (read k) (c .before .if1 .left) (o .other-profile .ensures) (c .if2 .left))
