@@ -51,8 +51,8 @@ scalarChecks s =
     ∷ []
 
 -- '.. then 5 for signs, directions, matrix, ..': the lengths of the tables
-abbrev pub lengthChecks : Setup → Lent → List Check
-lengthChecks s l =
+abbrev pub tableLengthChecks : Setup → Lent → List Check
+tableLengthChecks s l =
     wrongInput (length (l .signs)) (s .dim)
     ∷ wrongInput (length (l .directions)) (directionsNeeded s)
     ∷ wrongInput (length (l .matrix)) (matrixNeeded s)
@@ -60,7 +60,7 @@ lengthChecks s l =
 
 -- '.. then 10, 7, ..': the tables, but for the matrix's entries
 abbrev pub tableChecksButEntries : Setup → Lent → List Check
-tableChecksButEntries s l = lengthChecks s l ++ (each badSign 10 (l .signs) ∷ each badDirection 7 (l .directions) ∷ [])
+tableChecksButEntries s l = tableLengthChecks s l ++ (each badSign 10 (l .signs) ∷ each badDirection 7 (l .directions) ∷ [])
 
 -- '.. 9: a matrix entry is not finite. Place: its index.' 'The first matrix entry, row by row, that is not finite is named': the matrix is lent row by row, so the
 -- entry at row r and column c has index r × n + c

@@ -20,7 +20,7 @@ ghost use Rattle.error.specs.Checks.{firstNonFiniteOf};
 ghost use Rattle.error.specs.Outcomes.{says};
 ghost use Rattle.setup.specs.Lent.{lent};
 ghost use Rattle.setup.specs.Setups.{polarBitsOf, countedProjectionsOf};
-ghost use Rattle.setup.specs.Checks.{badTotalBits, badProjections, badDirection, firstBadDirectionOf, scalarChecks, lengthChecks, tableChecksButEntries, entryChecks, setupChecks, setupChecksButEntries, directionChecks};
+ghost use Rattle.setup.specs.Checks.{badTotalBits, badProjections, badDirection, firstBadDirectionOf, scalarChecks, tableLengthChecks, tableChecksButEntries, entryChecks, setupChecks, setupChecksButEntries, directionChecks};
 ghost use Rattle.setup.specs.Seeds.{hadamardSeedOf, matrixSeedOf};
 
 // Whether a residual sketch stands beside the polar code.
@@ -250,7 +250,7 @@ fn check_tables(setup: Setup, signs: &[f32], directions: &[f32], matrix: &[f32])
 // The checks of the lengths of the lent tables, under scalars that pass.
 fn check_lengths(setup: Setup, signs: &[f32], directions: &[f32], matrix: &[f32]) -> Outcome
     requires { ⌜ first (scalarChecks setup) accepted ≡ accepted ⌝ }
-    ensures { λ r. ⌜ says r ≡ first (lengthChecks setup (lent (now (signs .entry)) (now (directions .entry)) (now (matrix .entry)))) accepted ⌝ }
+    ensures { λ r. ⌜ says r ≡ first (tableLengthChecks setup (lent (now (signs .entry)) (now (directions .entry)) (now (matrix .entry)))) accepted ⌝ }
 {
     let dim = setup.dim;
     let rows = counted_projections(setup);

@@ -16,7 +16,7 @@ use Rattle.packed.specs.Layout.{headerOf}
 use Rattle.packed.specs.Reading.{recordChecks, readRecordOf}
 use Rattle.packed.specs.Accepted.{Accepted}
 use Rattle.packed.proofs.Accepted.{read-accepts, read-header}
-use Rattle.turbo_opening.specs.Opening.{badProfile, matchChecks, openChecks, openRecordOf}
+use Rattle.turbo_opening.specs.Opening.{badMatch, matchChecks, openChecks, openRecordOf}
 use Rattle.turbo_opening.specs.Inner.{openedOf}
 
 -- ---- the scalars come first
@@ -33,10 +33,10 @@ module _ (s : Setup) (bytes : List ℕ) where
 -- ---- the profile
 
 module _ (s : Setup) (bits projections : ℕ) {b : ℕ} (is : b ≡ polarBitsOf s) where
-  pub profile-bits : (bits ≡ b → ⊥) → differs bits b ≡ badProfile s bits projections
+  pub profile-bits : (bits ≡ b → ⊥) → differs bits b ≡ badMatch s bits projections
   profile-bits other = simp (ne-eqb bits b other, ne-eqb bits (polarBitsOf s) (λ e. other (e ∙ sym is)))
 
-  pub profile-projections : bits ≡ b → {m : ℕ} → m ≡ countedProjectionsOf s → differs projections m ≡ badProfile s bits projections
+  pub profile-projections : bits ≡ b → {m : ℕ} → m ≡ countedProjectionsOf s → differs projections m ≡ badMatch s bits projections
   profile-projections alike counted = simp (eq-eqb bits (polarBitsOf s) (alike ∙ is)) (ap (differs projections) counted)
 
 -- ---- opening a record
@@ -68,13 +68,13 @@ module _ (s : Setup) (bytes : List ℕ) where
 
     module _ (same : h .dim ≡ s .dim) where
       -- the profile is all that is left to judge
-      open-last : openedOf s bytes ≡ first (check (badProfile s (h .bits) (h .projections)) 20 0 ∷ []) (value h)
+      open-last : openedOf s bytes ≡ first (check (badMatch s (h .bits) (h .projections)) 20 0 ∷ []) (value h)
       open-last = open-rest ∙ simp (eq-eqb (dimOf bytes) (s .dim) (sym dim-is ∙ same), ← bits-is, ← projections-is, ← read-header bytes read)
 
-      pub open-profile : {b : Bool} → b ≡ badProfile s (h .bits) (h .projections) → b ≡ true → openedOf s bytes ≡ refused 20 0
+      pub open-profile : {b : Bool} → b ≡ badMatch s (h .bits) (h .projections) → b ≡ true → openedOf s bytes ≡ refused 20 0
       open-profile is other = open-last ∙ ap (λ (b : Bool). first (check b 20 0 ∷ []) (value h)) (sym is ∙ other)
 
-      pub open-value : {b : Bool} → b ≡ badProfile s (h .bits) (h .projections) → b ≡ false → openedOf s bytes ≡ value h
+      pub open-value : {b : Bool} → b ≡ badMatch s (h .bits) (h .projections) → b ≡ false → openedOf s bytes ≡ value h
       open-value is alike = open-last ∙ ap (λ (b : Bool). first (check b 20 0 ∷ []) (value h)) (sym is ∙ alike)
 
 -- ---- what an opened record has

@@ -18,12 +18,12 @@ abbrev pub contentOf : List ℕ → Content
 contentOf bytes = record { radii = radiiOf bytes; indices = indicesOf bytes; signs = signsOf bytes }
 
 -- '.. a record's bits or projections are not the setup's.' Without signs its projections count as 0
-abbrev pub badProfile : Setup → ℕ → ℕ → Bool
-badProfile s bits projections = differs bits (polarBitsOf s) || differs projections (countedProjectionsOf s)
+abbrev pub badMatch : Setup → ℕ → ℕ → Bool
+badMatch s bits projections = differs bits (polarBitsOf s) || differs projections (countedProjectionsOf s)
 
 -- '20: .. Place 0.'
 abbrev pub wrongProfile : Setup → List ℕ → Check
-wrongProfile s bytes = check (badProfile s (bitsOf bytes) (projectionsOf bytes)) 20 0
+wrongProfile s bytes = check (badMatch s (bitsOf bytes) (projectionsOf bytes)) 20 0
 
 -- '5: .. a record's dimension, differs from the setup's. Place: the .. dimension found.'; then 20
 abbrev pub matchChecks : Setup → List ℕ → List Check

@@ -9,7 +9,7 @@ use packed::Reading;
 use setup::Setup;
 ghost use mathlib.Core.Path.{_≡_};
 ghost use Rattle.packed.specs.Reading.{saysReading};
-ghost use Rattle.turbo_opening.specs.Opening.{badProfile, openRecordOf};
+ghost use Rattle.turbo_opening.specs.Opening.{badMatch, openRecordOf};
 ghost use Rattle.turbo_opening.specs.Inner.{openedOf};
 
 // Reads a record and holds it against a setup: its header, where nothing offends.
@@ -52,7 +52,7 @@ fn hold_against(setup: Setup, bytes: &[u8]) -> Reading
 
 // Whether a record's bits or projections are not the setup's.
 fn other_profile(setup: Setup, bits: u8, projections: usize) -> bool
-    ensures { λ r. ⌜ r ≡ badProfile setup bits projections ⌝ }
+    ensures { λ r. ⌜ r ≡ badMatch setup bits projections ⌝ }
 {
     bits != setup::polar_bits(setup) || projections != setup::counted_projections(setup)
 }

@@ -7,7 +7,7 @@ use Rattle.error.proofs.Chains.{append-passed, append-refused}
 use Rattle.error.proofs.Places.{each-offends, each-passes}
 use Rattle.rotation.specs.Checks.{badSign}
 use Rattle.setup.specs.Lent.{lent}
-use Rattle.setup.specs.Checks.{badDirection, lengthChecks, tableChecksButEntries}
+use Rattle.setup.specs.Checks.{badDirection, tableLengthChecks, tableChecksButEntries}
 use borrow.Author.Needs.{needs}
 use Rattle.setup.proofs.check_tables.Statement.{statement}
 use Rattle.setup.proofs.check_tables.Tie as tie
@@ -22,7 +22,7 @@ returns : tie.Need-returns
 returns c =
     let a = c .before .before .before .before .before .before .before .args in
     sym
-    (append-refused (lengthChecks (a .setup) (lent (a .signs .now) (a .directions .now) (a .matrix .now))) (each badSign 10 (a .signs .now) ∷ each badDirection 7 (a .directions .now) ∷ []) tt accepted
+    (append-refused (tableLengthChecks (a .setup) (lent (a .signs .now) (a .directions .now) (a .matrix .now))) (each badSign 10 (a .signs .now) ∷ each badDirection 7 (a .directions .now) ∷ []) tt accepted
     (sym (c .before .before .before .check-lengths .ensures) ∙ ap says (c .before .held .given .1)))
 
 enum-told : tie.Need-enum-told
@@ -35,7 +35,7 @@ rest : (c : tie.After-enum-told)
     ≡ first (each badSign 10 (a .signs .now) ∷ each badDirection 7 (a .directions .now) ∷ []) accepted
 rest c =
     let a = c .before .before .before .before .before .before .args in
-    append-passed (lengthChecks (a .setup) (lent (a .signs .now) (a .directions .now) (a .matrix .now))) (each badSign 10 (a .signs .now) ∷ each badDirection 7 (a .directions .now) ∷ []) tt accepted
+    append-passed (tableLengthChecks (a .setup) (lent (a .signs .now) (a .directions .now) (a .matrix .now))) (each badSign 10 (a .signs .now) ∷ each badDirection 7 (a .directions .now) ∷ []) tt accepted
     (sym (c .before .before .check-lengths .ensures) ∙ ap says (c .enum-told .given .1))
 
 first-bad-sign-requires : tie.Need-first-bad-sign-requires
