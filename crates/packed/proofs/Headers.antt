@@ -1,6 +1,7 @@
--- What a header has that passes its checks: its fields are small, so every length and place that follows from them fits. Assumes nothing.
-use Prim.Native.Nat.{ℕ, _*_, _%_, _≤_}
-use mathlib.Core.Path.{_≡_, _∙_}
+-- What a header has that passes its checks: its fields are small, so every length and place that follows from them fits. And what reading a field byte by
+-- byte gives. Assumes nothing.
+use Prim.Native.Nat.{ℕ, _+_, _*_, _%_, _≤_}
+use mathlib.Core.Path.{_≡_, sym, ap, _∙_}
 use mathlib.Core.Bool.{Bool, true, false, cond}
 use mathlib.Core.List.{List, [], _∷_}
 use native.Mathlib.Nat.{mul-le-mul}
@@ -9,15 +10,30 @@ use borrow.Author.Tests.{ltb-false, eqb-true, eqb-false, not-false}
 use lib.Count.{ones}
 use lib.Dec.{ltb, eqb}
 use lib.ListN.{length}
+use Rattle.digits.specs.Digits.{number}
+use Rattle.digits.specs.Inner.{fourAt}
+use Rattle.lists.proofs.Stores.{run-four}
+use Rattle.float.specs.Bytes.{ofLeBytes}
 use Rattle.error.specs.Answer.{Answer, value, refused, check, first, accepted}
 use Rattle.error.proofs.Chains.{first-all, first-accepts, or-false, append-refused, append-passed}
 use Rattle.setup.specs.declared.TurboMode.{TurboMode}
 use Rattle.setup.specs.declared.TurboMode.the-variants.{PolarOnly, PolarWithQjl}
 use Rattle.setup.specs.Setups.{byMode}
-use Rattle.packed.specs.Fields.{mapOf, hasSigns, modeOf, wordAt, projectionsStart, dimOf, bitsOf, projectionsOf}
+use Rattle.packed.specs.Fields.{mapOf, hasSigns, modeOf, wordAt, floatAt, projectionsStart, dimOf, bitsOf, projectionsOf}
 use Rattle.packed.specs.Layout.{headerLength}
 use Rattle.packed.specs.Reading.{wrongSize, badRecordDimension, badPolarBits, shapeChecks, headerChecks}
 use Rattle.setup.specs.Checks.{badProjections}
+
+-- ---- a field of four bytes, read byte by byte
+
+module _ (bytes : List ℕ) (at : ℕ) (h : at + 4 ≤ length bytes) where
+  pub word-run : number 256 (fourAt bytes at) ≡ wordAt bytes at
+  word-run = ap (number 256) (sym (run-four {A = ℕ} bytes at 0 h))
+
+  pub float-run : ofLeBytes (fourAt bytes at) ≡ floatAt bytes at
+  float-run = ap ofLeBytes (sym (run-four {A = ℕ} bytes at 0 h))
+
+-- ---- what the checks say of the fields
 
 pub record Usable (bytes : List ℕ) : Type 0 where
   pub long : 6 ≤ length bytes

@@ -18,7 +18,10 @@ ghost use mathlib.Core.Path.{_≡_};
 ghost use lib.ListN.{length};
 ghost use Rattle.error.specs.Answer.{first, accepted};
 ghost use Rattle.error.specs.Outcomes.{says};
-ghost use Rattle.packed.specs.Fields.{mapOf, profileOf, modeOf, wordAt, floatAt, boundsOf, projectionsOf};
+ghost use Rattle.digits.specs.Digits.{number};
+ghost use Rattle.digits.specs.Inner.{fourAt};
+ghost use Rattle.float.specs.Bytes.{ofLeBytes};
+ghost use Rattle.packed.specs.Fields.{mapOf, profileOf, modeOf, boundsOf, projectionsOf};
 ghost use Rattle.packed.specs.Layout.{headerLength, headerOf};
 ghost use Rattle.packed.specs.Radii.{badBounds, badBoundsFor};
 ghost use Rattle.packed.specs.Reading.{saysReading, badRecordDimension, badPolarBits, shapeChecks, headerChecks, paddingChecks, payloadChecks, readRecordOf};
@@ -316,7 +319,7 @@ fn bad_bounds(range: Range) -> bool
 // The u32 of the four bytes at `at`.
 fn get_u32(bytes: &[u8], at: usize) -> usize
     requires { ⌜ at + 4 ≤ length (now bytes) ⌝ }
-    ensures { λ r. ⌜ r ≡ wordAt (now (bytes .entry)) at ⌝ }
+    ensures { λ r. ⌜ r ≡ number 256 (fourAt (now (bytes .entry)) at) ⌝ }
 {
     digits::word_of(bytes[at], bytes[at + 1], bytes[at + 2], bytes[at + 3]) as usize
 }
@@ -324,7 +327,7 @@ fn get_u32(bytes: &[u8], at: usize) -> usize
 // The f32 of the four bytes at `at`.
 fn get_f32(bytes: &[u8], at: usize) -> f32
     requires { ⌜ at + 4 ≤ length (now bytes) ⌝ }
-    ensures { λ r. ⌜ r ≡ floatAt (now (bytes .entry)) at ⌝ }
+    ensures { λ r. ⌜ r ≡ ofLeBytes (fourAt (now (bytes .entry)) at) ⌝ }
 {
     float::from_le_bytes(bytes[at], bytes[at + 1], bytes[at + 2], bytes[at + 3])
 }

@@ -1,8 +1,10 @@
 -- `packed::bounds_of` meets its contract. Assumes nothing.
 use Rattle.packed.specs.Fields.{boundsOf}
 use lib.Ieee.{ofBits}
+use denote.Ref.{now}
 use borrow.Author.Tests.{eq-eqb, ne-eqb}
 use borrow.Author.Needs.{needs}
+use Rattle.packed.proofs.Headers.{float-run}
 use Rattle.packed.proofs.bounds_of.Statement.{statement}
 use Rattle.packed.proofs.bounds_of.Tie as tie
 
@@ -17,7 +19,9 @@ get-f32-requires-2 c κs = search needs
 
 returns : tie.Need-returns
 unfolding boundsOf
-returns c = rw (eq-eqb _ _ (c .before .before .if1 .taken), ← c .before .get-f32 .ensures, ← c .get-f322 .ensures)
+returns c =
+    let bytes = now (c .before .before .before .before .before .args .bytes) in
+    rw (eq-eqb _ _ (c .before .before .if1 .taken), ← float-run bytes 6 (search needs), ← float-run bytes 10 (search needs), ← c .before .get-f32 .ensures, ← c .get-f322 .ensures)
 
 returns-2 : tie.Need-returns-2
 unfolding ofBits boundsOf

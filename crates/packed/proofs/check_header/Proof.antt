@@ -13,7 +13,7 @@ use Rattle.setup.specs.declared.TurboMode.{TurboMode}
 use Rattle.packed.specs.Fields.{mapOf, modeOf, dimOf, bitsOf, projectionsOf}
 use Rattle.packed.specs.Reading.{shapeChecks}
 use Rattle.setup.specs.Checks.{badProjections}
-use Rattle.packed.proofs.Headers.{Passed, header-shape, header-cut, header-wrong, header-right}
+use Rattle.packed.proofs.Headers.{word-run, Passed, header-shape, header-cut, header-wrong, header-right}
 use borrow.Author.Tests.{lt-ltb, le-ltb}
 use borrow.Author.Needs.{needs}
 use Rattle.packed.proofs.check_header.Statement.{statement}
@@ -38,7 +38,7 @@ shape c =
     let bytes = now (c .before .before .before .before .before .before .before .before .args .bytes) in
     c .check-shape .ensures
     ∙ ap (λ (m : TurboMode). first (shapeChecks m (c .before .before .get-u32 .result) (bitsOf bytes)) accepted) (c .before .before .before .mode-of .ensures)
-    ∙ ap (λ (n : ℕ). first (shapeChecks (modeOf (mapOf bytes)) n (bitsOf bytes)) accepted) (c .before .before .get-u32 .ensures)
+    ∙ ap (λ (n : ℕ). first (shapeChecks (modeOf (mapOf bytes)) n (bitsOf bytes)) accepted) (c .before .before .get-u32 .ensures ∙ word-run bytes 1 (search needs))
 
 shaped : (c : tie.After-enum-told) → let bytes = now (c .before .before .before .before .before .before .before .before .before .before .args .bytes) in first (shapeChecks (modeOf (mapOf bytes)) (dimOf bytes) (bitsOf bytes)) accepted ≡ accepted
 shaped c = sym (shape (c .before .before)) ∙ ap says (c .enum-told .given .1)

@@ -1,15 +1,23 @@
 -- `packed::header_of` meets its contract: a header that passes its checks has small fields, so no sum wraps. Assumes nothing.
 use Prim.Native.Nat.{ℕ, _*_, _/_, _≤_}
 use denote.Ref.{now}
+use mathlib.Core.Path.{_≡_, _∙_}
 use native.Mathlib.Omega.{arith}
 use lib.ListN.{getD}
 use Rattle.error.specs.Answer.{accepted}
+use Rattle.packed.specs.Fields.{dimOf}
 use Rattle.packed.specs.Layout.{headerOf}
-use Rattle.packed.proofs.Headers.{usable, bits-most, projections-most, product-most}
+use Rattle.packed.proofs.Headers.{word-run, usable, bits-most, projections-most, product-most}
 use Rattle.radius.proofs.Checks.{width-most}
 use borrow.Author.Needs.{needs}
 use Rattle.packed.proofs.header_of.Statement.{statement}
 use Rattle.packed.proofs.header_of.Tie as tie
+
+-- the dimension that is read is the record's
+dim-read : (c : tie.After-get-u32) → c .get-u32 .result ≡ dimOf (now (c .before .before .before .args .bytes))
+dim-read c =
+    let bytes = now (c .before .before .before .args .bytes) in
+    c .get-u32 .ensures ∙ word-run bytes 1 (omega (arith, usable bytes accepted (c .before .before .before .pre) .long))
 
 -- the sizes that the sums are made of
 pub record Sizes (head width dim bits m : ℕ) : Type 0 where
@@ -23,7 +31,7 @@ sizes : (c : tie.After-width-of) → let a = c .before .before .before .before .
 sizes c =
     let s = c .before .before .before .before .before .before .before .before in
     let u = usable (now (s .args .bytes)) accepted (s .pre) in
-    let d = c .before .before .before .before .before .get-u32 .ensures in
+    let d = dim-read (c .before .before .before .before .before) in
     let w = width-most (c .before .before .profile-of .result) in
     let b = bits-most _ u in
     let m = projections-most _ u in
@@ -89,7 +97,7 @@ bounds-of-requires c κs = let u = usable (now (c .before .before .before .befor
 
 returns : tie.Need-returns
 unfolding headerOf
-returns c = simp (c .bounds-of .ensures, c .before .mode-of .ensures, c .before .before .width-of .ensures, c .before .before .before .header-length .ensures, c .before .before .before .before .profile-of .ensures, c .before .before .before .before .before .projections-of .ensures, c .before .before .before .before .before .before .before .get-u32 .ensures)
+returns c = simp (c .bounds-of .ensures, c .before .mode-of .ensures, c .before .before .width-of .ensures, c .before .before .before .header-length .ensures, c .before .before .before .before .profile-of .ensures, c .before .before .before .before .before .projections-of .ensures, dim-read (c .before .before .before .before .before .before .before))
 
 pub header-of-spec : {M : Type 1} → statement M
 header-of-spec =

@@ -1,8 +1,10 @@
 -- `packed::projections_of` meets its contract. Assumes nothing.
 use Rattle.packed.specs.Fields.{projectionsOf}
 use mathlib.Core.Path.{sym, _∙_}
+use denote.Ref.{now}
 use borrow.Author.Tests.{eq-eqb, ne-eqb}
 use borrow.Author.Needs.{needs}
+use Rattle.packed.proofs.Headers.{word-run}
 use Rattle.packed.proofs.projections_of.Statement.{statement}
 use Rattle.packed.proofs.projections_of.Tie as tie
 
@@ -23,7 +25,7 @@ get-u32-requires c κs = search needs
 
 returns : tie.Need-returns
 unfolding projectionsOf
-returns c = c .get-u32 .ensures ∙ sym (simp (eq-eqb _ _ (c .before .if1 .taken)))
+returns c = c .get-u32 .ensures ∙ word-run (now (c .before .before .before .before .args .bytes)) _ (search needs) ∙ sym (simp (eq-eqb _ _ (c .before .if1 .taken)))
 
 returns-2 : tie.Need-returns-2
 unfolding projectionsOf
