@@ -1,5 +1,5 @@
 /*
- * Foldrima: the C functions of the proved port of turbo-quant, one for each public call. For 64-bit x86 only: libcapi.a is an archive for x86-64 Linux.
+ * Foldrima: the C functions of the proved port of turbo-quant, one for each call of document 01. For 64-bit x86 only: libcapi.a is an archive for x86-64 Linux.
  *
  * A signature here is that of the function of the same name in crates/capi; a test of host/foldrima holds the two, and the numbers below, against the
  * sources.

@@ -1,5 +1,5 @@
-// The refusals; the answers of a call that has no value of its own, of one that counts bytes and of one that scores; and the check of floats that every
-// crate above makes.
+// The refusals; the answers of a call that has no value of its own, of one that counts bytes and of one that scores; and the check of floats that
+// several crates above make.
 // Ported from turbo-quant/src/error.rs and changed: an error is a number and a place.
 
 ghost use mathlib.Core.Path.{_≡_};

@@ -1,8 +1,10 @@
 -- A float as four bytes, the least significant first: its IEEE 754 pattern's digits in base 256.
 -- Document 01: 'F32 copies the four little-endian bytes; −0.0 is kept.' Assumes nothing.
-use Prim.Native.Nat.{ℕ}
+use Prim.Native.Nat.{ℕ, _<_}
 use mathlib.Core.List.{List}
-use lib.Ieee.{Float, binary32, ofBits, toBits}
+use lib.Dec.{T}
+use lib.ListN.{length, getD}
+use lib.Ieee.{Float, nan, binary32, fits, ofBits, toBits}
 use Rattle.digits.specs.Digits.{number, digits}
 use Rattle.digits.specs.Words.{putWordOf}
 
@@ -17,3 +19,7 @@ toLeBytes x = digits 256 4 (toBits binary32 x)
 -- a float's four bytes in place of the four at `at`; where there are not four, the list stays as it is
 unfoldable pub putF32Of : List ℕ → ℕ → Float → List ℕ
 putF32Of out at x = putWordOf out at (toBits binary32 x)
+
+-- every float is an f32, as every entry of a lent slice of f32 is
+abbrev pub AreFloats : List Float → Type 0
+AreFloats xs = (i : ℕ) → i < length xs → T (fits binary32 (getD xs i nan))

@@ -11,7 +11,8 @@ use lib.IntN.{ℤ}
 use lib.ListN.{length, getD}
 use lib.Ieee.{Float, nan, inf, fin, binary32, fits, isNan}
 use Rattle.error.specs.Answer.{value}
-use Rattle.float.specs.Bytes.{ofLeBytes, toLeBytes}
+use Rattle.digits.specs.Digits.{AreBytes}
+use Rattle.float.specs.Bytes.{ofLeBytes, toLeBytes, AreFloats}
 use Rattle.float.specs.SquareRoot.{NearestRoot, squareRoot}
 use Rattle.float.specs.Units.{nonNegative, mag}
 use Rattle.bitpack.specs.Packing.{packIndicesOf, unpackIndicesOf}
@@ -20,18 +21,11 @@ use Rattle.radius.specs.Codec.{compressBytesOf, decompressOf}
 use Rattle.radius.specs.declared.Range.{Range}
 use Rattle.radius.specs.declared.RadiusCodecProfileV1.the-variants.{F32}
 
--- every number is a byte, and every float an f32
-abbrev pub AreBytes : List ℕ → Type 0
-AreBytes bytes = (i : ℕ) → i < length bytes → getD bytes i 0 < 256
-
-abbrev pub AreFloats : List Float → Type 0
-AreFloats xs = (i : ℕ) → i < length xs → T (fits binary32 (getD xs i nan))
-
 -- 'Index i of b bits occupies bits i×b upward, least significant first; bit k is bit k mod 8 of byte k/8.'
 abbrev pub SameBits : ℕ → List ℕ → List ℕ → Type 0
 SameBits bits packed indices = (k : ℕ) → getD packed (k / 8) 0 / 2 ^ (k % 8) % 2 ≡ getD indices (k / bits) 0 / 2 ^ (k % bits) % 2
 
--- 'Indices, signs and F32 radii come back from their bytes, and bytes from them.'
+-- indices, signs and F32 radii come back from their bytes, and bytes from them
 pub record Leaves : Type 0 where
   -- indices
   pub pack-bit : (indices : List ℕ) (bits room : ℕ) (packed : List ℕ) → packIndicesOf indices bits room ≡ value packed → SameBits bits packed indices

@@ -8,7 +8,7 @@ use Rattle.radius.specs.Codec.{widthOf}
 use Rattle.packed.specs.Fields.{mapOf, rangeBit, signsBit, profileOf, modeOf, dimOf, bitsOf, boundsOf, projectionsOf}
 use Rattle.packed.specs.declared.Header.{Header}
 
--- six bytes that every record has, eight of the range if bit 0 stands, four of the projections if bit 1 stands
+-- six bytes that every record has, eight of the range if bit 0 stands, four of the projections if bit 1 stands; no other bit counts
 abbrev pub headerLength : ℕ → ℕ
 headerLength map = 6 + 8 * rangeBit map + 4 * signsBit map
 

@@ -101,7 +101,7 @@ pub fn check_shape(mode: TurboMode, dim: usize, bits: u8) -> Outcome
     Outcome::Done
 }
 
-// The header's length, by the map byte.
+// The header's length, by bits 0 and 1 of the map byte; the other bits are not looked at.
 pub fn header_length(map: u8) -> usize
     ensures { λ r. ⌜ r ≡ headerLength map ⌝ }
 {
@@ -148,7 +148,7 @@ fn check_header(bytes: &[u8]) -> Outcome
     Outcome::Done
 }
 
-// The header of a record that has passed its checks.
+// The header of a record whose header has passed its checks.
 fn header_of(bytes: &[u8]) -> Header
     requires { ⌜ first (headerChecks (now bytes)) accepted ≡ accepted ⌝ }
     ensures { λ r. ⌜ r ≡ headerOf (now (bytes .entry)) ⌝ }
@@ -278,7 +278,7 @@ fn projections_of(bytes: &[u8]) -> usize
     0
 }
 
-// Whether an even dimension is none that a record may have.
+// Whether an even dimension is one that no record may have.
 fn outside_dimension(dim: usize) -> bool
     ensures { λ r. ⌜ r ≡ badRecordDimension dim ⌝ }
 {

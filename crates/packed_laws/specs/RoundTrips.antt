@@ -1,13 +1,14 @@
--- What the round trips of a record promise: the header that inputs are written with, the fields that come back, and what a linear record keeps. Document 01: 'Writing
+-- What acceptance and the round trips of a record promise: the header that inputs are written with, the fields that come back, and what a linear record keeps. Document 01: 'Writing
 -- a record, F32 or linear'; 'In PolarOnly m counts as 0'. Assumes nothing.
-use Prim.Native.Nat.{ℕ, _+_, _*_, _/_, _<_}
+use Prim.Native.Nat.{ℕ, _+_, _*_, _/_}
 use mathlib.Core.Path.{_≡_}
 use mathlib.Core.Bool.{true, false}
 use mathlib.Core.List.{List}
-use lib.Dec.{T}
 use lib.IntN.{ℤ}
-use lib.ListN.{length, getD}
-use lib.Ieee.{Float, nan, binary32, fits}
+use lib.ListN.{length}
+use lib.Ieee.{Float}
+use Rattle.digits.specs.Digits.{AreBytes}
+use Rattle.float.specs.Bytes.{AreFloats}
 use Rattle.error.specs.Answer.{value}
 use Rattle.bitpack.specs.Padding.{bytesFor}
 use Rattle.radius.specs.Codec.{widthOf, rangeFor}
@@ -87,12 +88,12 @@ pub record RoundTrips : Type 0 where
   pub read-accepts : (bytes : List ℕ) (header : Header) → readRecordOf bytes ≡ value header → Accepted bytes
   -- what was written comes back
   pub written : (code : Code) (radii : List Float) (indices : List ℕ) (signs : List ℤ) (room : ℕ) (bytes : List ℕ)
-      → ((i : ℕ) → i < length radii → T (fits binary32 (getD radii i nan)))
+      → AreFloats radii
       → writeRecordOf code radii indices signs room ≡ value bytes → ComesBack code radii indices signs room bytes
   -- and bytes come back from what they hold: an accepted F32 record, taken apart and written again, gives the same bytes
-  pub rewritten : (bytes : List ℕ) (header : Header) → ((i : ℕ) → i < length bytes → getD bytes i 0 < 256) → readRecordOf bytes ≡ value header
+  pub rewritten : (bytes : List ℕ) (header : Header) → AreBytes bytes → readRecordOf bytes ≡ value header
       → hasRange (mapOf bytes) ≡ false → writeRecordOf (codeAs F32 bytes) (radiiOf bytes) (indicesOf bytes) (signsOf bytes) (length bytes) ≡ value bytes
   -- of a linear one, where it is written again at all, everything but the range and the radii's bytes
-  pub rewritten-linear : (bytes : List ℕ) (header : Header) (room : ℕ) (again : List ℕ) → ((i : ℕ) → i < length bytes → getD bytes i 0 < 256) → readRecordOf bytes ≡ value header
+  pub rewritten-linear : (bytes : List ℕ) (header : Header) (room : ℕ) (again : List ℕ) → AreBytes bytes → readRecordOf bytes ≡ value header
       → hasRange (mapOf bytes) ≡ true → writeRecordOf (codeAs BlockLinearU16 bytes) (radiiOf bytes) (indicesOf bytes) (signsOf bytes) room ≡ value again
       → SameButRadii bytes again

@@ -14,6 +14,7 @@ use Rattle.packed.specs.Layout.{headerLength}
 use Rattle.packed.specs.Reading.{shapeChecks}
 use Rattle.packed.specs.declared.Code.{Code}
 
+-- by whether radii are linear; BlockLogU8, which is refused, counts as F32 here
 abbrev pub byProfile : {A : Type 0} → RadiusCodecProfileV1 → A → A → A
 byProfile F32 plain linear = plain
 byProfile BlockLinearU16 plain linear = linear

@@ -68,7 +68,7 @@ pub fn check_code(code: Code) -> Outcome
     Outcome::Done
 }
 
-// The map byte: bit 0 for linear radii, bit 1 for signs.
+// The map byte: bit 0 for linear radii, bit 1 for signs. BlockLogU8, which is refused, counts as F32 here.
 pub fn map_for(profile: RadiusCodecProfileV1, mode: TurboMode) -> u8
     ensures { λ r. ⌜ r ≡ mapFor profile mode ⌝ }
 {

@@ -33,7 +33,7 @@ rangeBytes profile range = byProfile profile [] (toLeBytes (range .min) ++ toLeB
 abbrev pub projectionBytes : TurboMode → ℕ → List ℕ
 projectionBytes mode m = byMode mode [] (digits 256 4 m)
 
--- 'Map byte, dimension u32, polar bits u8'
+-- 'Map byte, dimension u32, polar bits u8', then range and projections where they stand
 unfoldable pub headerBytes : Code → Range → List ℕ
 headerBytes code range =
     mapFor (code .profile) (code .mode)

@@ -86,7 +86,7 @@ fn check_fields(code: Code, radii: usize, indices: usize, signs: usize) -> Outco
     check_lengths(dim / 2, needed, radii, indices, signs)
 }
 
-// The lengths of radii, indices and signs: one of each for a pair, and a sign for each projection.
+// The lengths of radii, indices and signs: a radius and an index for each pair, and a sign for each projection.
 fn check_lengths(
     pairs: usize,
     projections: usize,

@@ -73,7 +73,7 @@ wrongContent BlockLinearU16 count range payload = check (badRange range) 17 0
 wrongContent BlockLogU8 count range payload = check false 18 0
 
 -- 'Decompress: 18, 13 (also where the length passes usize), then 17 for linear only, 16 for F32 only', and 6 after all input checks.
--- A length here is any natural number. `room` is the output's length
+-- A length here is any natural number, so one that passes usize is simply wrong. `room` is the output's length
 abbrev pub decompressChecks : RadiusCodecProfileV1 → ℕ → Range → List ℕ → ℕ → List Check
 decompressChecks profile count range payload room =
     check (badProfile profile) 18 0

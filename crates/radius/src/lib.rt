@@ -64,7 +64,7 @@ pub fn compress(radii: &[f32], profile: RadiusCodecProfileV1, out: &mut [u8]) ->
     Compressed::Made(range)
 }
 
-// Restores `count` radii from a payload and, for BlockLinearU16, its range.
+// Reads `count` radii from a payload and, for BlockLinearU16, its range, and judges them.
 pub fn decompress(
     profile: RadiusCodecProfileV1,
     count: usize,

@@ -1,5 +1,5 @@
 -- The rotation without rounding: the same steps over whole numbers, with 1/sqrt(n) 'as the floats that they are'. An entry is a whole number of
--- units of 2 ^ -298, since a value is one of units of 2 ^ -149 and so is 1/sqrt(n). Assumes nothing.
+-- units of 2 ^ -298, since a value is a whole number of units of 2 ^ -149 and so is 1/sqrt(n). Assumes nothing.
 use Prim.Native.Nat.{ℕ}
 use mathlib.Core.Bool.{Bool}
 use mathlib.Core.List.{List, map}

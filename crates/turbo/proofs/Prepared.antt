@@ -26,7 +26,8 @@ use Rattle.qjl.specs.Sketch.{vectorChecks}
 use Rattle.qjl.proofs.Answers.{vector-setup, vector-rowed}
 use Rattle.turbo_query.specs.Query.{rotatedQuery, projectedQuery, preparedChecks, queryChecks, prepareChecks, prepareRotatedOf, prepareProjectedOf}
 use Rattle.turbo.specs.Estimates.{readyChecks, innerProductEstimateOf, innerProductEstimatePreparedOf, lengthsAndValues}
-use Rattle.turbo.specs.Prepared.{AreF32, IsPrepared, Prepared}
+use Rattle.turbo.specs.Prepared.{IsPrepared, Prepared}
+use Rattle.float.specs.Bytes.{AreFloats}
 use Rattle.turbo.proofs.Demand.{demand}
 use Rattle.turbo.proofs.Answers.{estimate-passed, ready-rest, prepared-passed}
 use Rattle.rounding.proofs.Rows.{projected-length}
@@ -89,7 +90,7 @@ module _ (s : Setup) (l : Lent) (query : List Float) {xs ys : List Float} (prepa
       ∙ ap (λ (rs : List Float). innerProductEstimatePreparedOf s (l .directions) (rotatedQuery s l query) rs bytes) (sym prepared-projected)
       ∙ estimate-equal-prepared s l query prepared-query bytes
 
-pub prepared-stands : (s : Setup) (directions rotated projected : List Float) → AreF32 directions → Prepared s directions rotated projected
+pub prepared-stands : (s : Setup) (directions rotated projected : List Float) → AreFloats directions → Prepared s directions rotated projected
 prepared-stands s directions rotated projected fit =
     record {
       same = λ signs matrix query prepared bytes. estimate-equal-left s (lent signs directions matrix) query prepared bytes;

@@ -1,7 +1,7 @@
 // Scores of a record, by a query or by a prepared one, and the distance of a record from a query.
 // Ported from turbo-quant/src/turbo.rs and changed: the setup is lent and checked at each call, the code is a record's bytes, and an error is a number
 // and a place.
-// A header holds a `radius::Range`, so that crate is named beside those whose calls are made.
+// A header holds a `radius::Range`, so crates.txt names that crate beside those whose calls are made.
 
 use error::DIMENSION_MISMATCH;
 use error::NON_FINITE_INPUT;

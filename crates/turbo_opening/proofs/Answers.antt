@@ -33,11 +33,11 @@ module _ (s : Setup) (bytes : List ℕ) where
 -- ---- the profile
 
 module _ (s : Setup) (bits projections : ℕ) {b : ℕ} (is : b ≡ polarBitsOf s) where
-  pub profile-bits : (bits ≡ b → ⊥) → differs bits b ≡ badMatch s bits projections
-  profile-bits other = simp (ne-eqb bits b other, ne-eqb bits (polarBitsOf s) (λ e. other (e ∙ sym is)))
+  pub match-bits : (bits ≡ b → ⊥) → differs bits b ≡ badMatch s bits projections
+  match-bits other = simp (ne-eqb bits b other, ne-eqb bits (polarBitsOf s) (λ e. other (e ∙ sym is)))
 
-  pub profile-projections : bits ≡ b → {m : ℕ} → m ≡ countedProjectionsOf s → differs projections m ≡ badMatch s bits projections
-  profile-projections alike counted = simp (eq-eqb bits (polarBitsOf s) (alike ∙ is)) (ap (differs projections) counted)
+  pub match-projections : bits ≡ b → {m : ℕ} → m ≡ countedProjectionsOf s → differs projections m ≡ badMatch s bits projections
+  match-projections alike counted = simp (eq-eqb bits (polarBitsOf s) (alike ∙ is)) (ap (differs projections) counted)
 
 -- ---- opening a record
 
@@ -71,8 +71,8 @@ module _ (s : Setup) (bytes : List ℕ) where
       open-last : openedOf s bytes ≡ first (check (badMatch s (h .bits) (h .projections)) 20 0 ∷ []) (value h)
       open-last = open-rest ∙ simp (eq-eqb (dimOf bytes) (s .dim) (sym dim-is ∙ same), ← bits-is, ← projections-is, ← read-header bytes read)
 
-      pub open-profile : {b : Bool} → b ≡ badMatch s (h .bits) (h .projections) → b ≡ true → openedOf s bytes ≡ refused 20 0
-      open-profile is other = open-last ∙ ap (λ (b : Bool). first (check b 20 0 ∷ []) (value h)) (sym is ∙ other)
+      pub open-match : {b : Bool} → b ≡ badMatch s (h .bits) (h .projections) → b ≡ true → openedOf s bytes ≡ refused 20 0
+      open-match is other = open-last ∙ ap (λ (b : Bool). first (check b 20 0 ∷ []) (value h)) (sym is ∙ other)
 
       pub open-value : {b : Bool} → b ≡ badMatch s (h .bits) (h .projections) → b ≡ false → openedOf s bytes ≡ value h
       open-value is alike = open-last ∙ ap (λ (b : Bool). first (check b 20 0 ∷ []) (value h)) (sym is ∙ alike)

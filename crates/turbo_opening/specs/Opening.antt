@@ -22,12 +22,12 @@ abbrev pub badMatch : Setup → ℕ → ℕ → Bool
 badMatch s bits projections = differs bits (polarBitsOf s) || differs projections (countedProjectionsOf s)
 
 -- '20: .. Place 0.'
-abbrev pub wrongProfile : Setup → List ℕ → Check
-wrongProfile s bytes = check (badMatch s (bitsOf bytes) (projectionsOf bytes)) 20 0
+abbrev pub wrongMatch : Setup → List ℕ → Check
+wrongMatch s bytes = check (badMatch s (bitsOf bytes) (projectionsOf bytes)) 20 0
 
 -- '5: .. a record's dimension, differs from the setup's. Place: the .. dimension found.'; then 20
 abbrev pub matchChecks : Setup → List ℕ → List Check
-matchChecks s bytes = wrongInput (dimOf bytes) (s .dim) ∷ wrongProfile s bytes ∷ []
+matchChecks s bytes = wrongInput (dimOf bytes) (s .dim) ∷ wrongMatch s bytes ∷ []
 
 -- 'record reading, 5, 20'
 abbrev pub openChecks : Setup → List ℕ → List Check

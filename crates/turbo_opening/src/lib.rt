@@ -1,6 +1,6 @@
 // A record under a setup: read, and held against the setup.
 // Ported from turbo-quant/src/turbo.rs (`validate_for`) and changed: the code is a record's bytes, and an error is a number and a place.
-// A header holds a `radius::Range`, so that crate is named beside those whose calls are made.
+// A header holds a `radius::Range`, so crates.txt names that crate beside those whose calls are made.
 
 use error::DIMENSION_MISMATCH;
 use error::Outcome;
@@ -29,7 +29,7 @@ fn hold_against(setup: Setup, bytes: &[u8]) -> Reading
 {
     match packed::read_record(bytes) {
         Reading::Read(header) => {
-            let other = other_profile(setup, header.bits, header.projections);
+            let other = other_match(setup, header.bits, header.projections);
             let dim = header.dim;
             let needed = setup.dim;
             if dim != needed {
@@ -51,7 +51,7 @@ fn hold_against(setup: Setup, bytes: &[u8]) -> Reading
 }
 
 // Whether a record's bits or projections are not the setup's.
-fn other_profile(setup: Setup, bits: u8, projections: usize) -> bool
+fn other_match(setup: Setup, bits: u8, projections: usize) -> bool
     ensures { λ r. ⌜ r ≡ badMatch setup bits projections ⌝ }
 {
     bits != setup::polar_bits(setup) || projections != setup::counted_projections(setup)

@@ -22,7 +22,7 @@ writtenPolarSize s l query c = mag (inverseRoot (s .dim)) * absoluteSum query * 
 abbrev pub writtenSize : Setup → Lent → List Float → Content → ℕ
 writtenSize s l query c = byMode (s .mode) (writtenPolarSize s l query c) (writtenPolarSize s l query c + residualPartSize s l query)
 
--- of what a record holds that has at most a radius for each pair of the query's entries
+-- of what a record holds that has at most a radius for each pair of the setup's dimension
 pub record AsWritten : Type 0 where
   pub size : (s : Setup) (l : Lent) (query : List Float) (c : Content) → 2 * length (c .radii) ≤ s .dim → sizeBy (accountOf s l query) s l query c ≡ writtenSize s l query c
   -- 'bound = (n + m + 16) × A / 2^23 + (R + n×m + n) / 2^146'

@@ -48,7 +48,7 @@ scoreBy a s l query c = scoreFrom s (l .directions) (a .entries) (projected (s .
 abbrev pub exactPolarPart : Account → Lent → Content → Diff
 exactPolarPart a l c = exactPolar (a .exact) (l .directions) (c .indices) (c .radii)
 
--- 'K × the sum over rows of the record's sign × projected value', a whole number of 2 ^ -447
+-- 'K × the sum over rows of the record's sign × projected value', a whole number of 2 ^ -447, brought to 2 ^ -596
 abbrev pub exactResidualPart : Setup → Lent → List Float → Content → Diff
 exactResidualPart s l query c = unit ⊙ exactResidual (unitScale (s .projections)) (s .dim) (s .projections) (l .matrix) query (c .signs)
 

@@ -3,7 +3,7 @@ use mathlib.Core.Path.{_≡_, sym, ap, _∙_}
 use borrow.Author.Needs.{needs}
 use Rattle.error.specs.Answer.{value}
 use Rattle.packed.specs.Reading.{saysReading, readRecordOf}
-use Rattle.turbo_opening.proofs.Answers.{open-refused, open-dim, open-profile, open-value}
+use Rattle.turbo_opening.proofs.Answers.{open-refused, open-dim, open-match, open-value}
 use Rattle.turbo_opening.proofs.hold_against.Statement.{statement}
 use Rattle.turbo_opening.proofs.hold_against.Tie as tie
 
@@ -17,8 +17,8 @@ read-record-requires c κs = search needs
 enum-known-header : tie.Need-enum-known-header
 enum-known-header c = search needs
 
-other-profile-requires : tie.Need-other-profile-requires
-other-profile-requires c κs = search needs
+other-match-requires : tie.Need-other-match-requires
+other-match-requires c κs = search needs
 
 returns : tie.Need-returns
 returns c =
@@ -31,7 +31,7 @@ returns-2 c =
     let o = c .before .before in
     let k = o .before in
     let a = k .before .before .before .before .before .args in
-    sym (open-profile (a .setup) (a .bytes .now) (read k) (c .before .if1 .left) (o .other-profile .ensures) (c .if2 .taken))
+    sym (open-match (a .setup) (a .bytes .now) (read k) (c .before .if1 .left) (o .other-match .ensures) (c .if2 .taken))
 
 enum-known-number : tie.Need-enum-known-number
 enum-known-number c = search needs
@@ -41,7 +41,7 @@ returns-3 c =
     let o = c .before .before in
     let k = o .before in
     let a = k .before .before .before .before .before .args in
-    sym (open-value (a .setup) (a .bytes .now) (read k) (c .before .if1 .left) (o .other-profile .ensures) (c .if2 .left))
+    sym (open-value (a .setup) (a .bytes .now) (read k) (c .before .if1 .left) (o .other-match .ensures) (c .if2 .left))
 
 returns-4 : tie.Need-returns-4
 returns-4 c = let a = c .before .before .before .before .before .args in sym (open-refused (a .setup) (a .bytes .now) (sym (c .before .before .before .read-record .ensures) ∙ ap saysReading (c .before .number .given .1)))
@@ -52,7 +52,7 @@ hold-against-spec =
     (tie.spec
     read-record-requires
     enum-known-header
-    other-profile-requires
+    other-match-requires
     returns
     returns-2
     enum-known-number
