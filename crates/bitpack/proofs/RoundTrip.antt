@@ -37,12 +37,12 @@ module _ (bits used : ℕ) (ds : List ℕ) (total : length ds * bits ≡ used) (
   bytes-number : number 256 (digits 256 (bytesFor used) (number (2 ^ bits) ds)) ≡ number (2 ^ bits) ds
   bytes-number = number-digits 256 (bytesFor used) (number (2 ^ bits) ds) (omega arith) ∙ mod-eq-of-lt bytes-bound
 
-  bytes-length : length (digits 256 (bytesFor used) (number (2 ^ bits) ds)) ≡ bytesFor used
-  bytes-length = length-digits 256 (bytesFor used) (number (2 ^ bits) ds)
+  length-bytes : length (digits 256 (bytesFor used) (number (2 ^ bits) ds)) ≡ bytesFor used
+  length-bytes = length-digits 256 (bytesFor used) (number (2 ^ bits) ds)
 
   bytes-clean : badPadding (digits 256 (bytesFor used) (number (2 ^ bits) ds)) used ≡ false
   bytes-clean =
-      padded-number (digits 256 (bytesFor used) (number (2 ^ bits) ds)) used bytes-length (digits-below 256 (bytesFor used) (number (2 ^ bits) ds) (omega arith))
+      padded-number (digits 256 (bytesFor used) (number (2 ^ bits) ds)) used length-bytes (digits-below 256 (bytesFor used) (number (2 ^ bits) ds) (omega arith))
       ∙ rw bytes-number (lt-leb (2 ^ used) (number (2 ^ bits) ds) used-bound)
 
   bytes-back : digits (2 ^ bits) (length ds) (number 256 (digits 256 (bytesFor used) (number (2 ^ bits) ds))) ≡ ds
@@ -92,7 +92,7 @@ module _ (indices : List ℕ) (bits room : ℕ) {packed : List ℕ} (told : pack
       ∷ wrongRoom (length indices) (length indices)
       ∷ [])
       (value (digits (2 ^ bits) (length indices) (number 256 (digits 256 (bytesFor used) (number (2 ^ bits) indices)))))
-      (pack-passed .0, (pack-passed .1 .0, (differs-not _ _ (bytes-length bits used indices refl pack-below), (bytes-clean bits used indices refl pack-below, (differs-not (length indices) (length indices) refl, tt)))))
+      (pack-passed .0, (pack-passed .1 .0, (differs-not _ _ (length-bytes bits used indices refl pack-below), (bytes-clean bits used indices refl pack-below, (differs-not (length indices) (length indices) refl, tt)))))
       ∙ ap value (bytes-back bits used indices refl pack-below))
 
   -- 'Index i of b bits occupies bits i×b upward, least significant first; bit k is bit k mod 8 of byte k/8.'
@@ -226,7 +226,7 @@ module _ (signs : List ℤ) (room : ℕ) {packed : List ℕ} (told : packSignsOf
       (first-accepts
       (wrongLength bytes n ∷ wrongPadding bytes n ∷ wrongRoom n n ∷ [])
       (value (map signOfBit (digits 2 n (number 256 bytes))))
-      (differs-not _ _ (bytes-length 1 n bits total small), (bytes-clean 1 n bits total small, (differs-not n n refl, tt)))
+      (differs-not _ _ (length-bytes 1 n bits total small), (bytes-clean 1 n bits total small, (differs-not n n refl, tt)))
       ∙ ap value (ap (map signOfBit) back ∙ signs-bits signs (each-clear badSketchSign signs (pos 0) (pack-signs-passed .0))))
 
 module _ (packed : List ℕ) (count room : ℕ) {signs : List ℤ} (told : unpackSignsOf packed count room ≡ value signs) where

@@ -25,10 +25,10 @@ module _ {A B : Type 0} (f : List A → B) where
   chunks-getD w (suc n) zero items d h = ap f (part-first w items)
   chunks-getD w (suc n) (suc i) items d h = chunks-getD w n i (drop w items) d (le-of-suc-le-suc h) ∙ ap (λ (l : List A). f (take w l)) (part-next w i items)
 
-  pub chunks-length : (w n : ℕ) (items : List A) → length (map f (chunks w n items)) ≡ n
+  pub length-chunks : (w n : ℕ) (items : List A) → length (map f (chunks w n items)) ≡ n
   unfolding chunks
-  chunks-length w zero items = refl
-  chunks-length w (suc n) items = ap suc (chunks-length w n (drop w items))
+  length-chunks w zero items = refl
+  length-chunks w (suc n) items = ap suc (length-chunks w n (drop w items))
 
   -- one part more
   pub chunks-more : (w n : ℕ) (items : List A) → map f (chunks w (suc n) items) ≡ map f (chunks w n items) ++ (f (take w (drop (w * n) items)) ∷ [])
@@ -66,13 +66,13 @@ module _ {A B : Type 0} (g : B → List A) where
       ∙ ap (λ (l : List A). flatMap g (take i xs) ++ l) (joined-one (getD xs i d))
 
   module _ (w : ℕ) (sized : (x : B) → length (g x) ≡ w) where
-    pub joined-length : (xs : List B) → length (flatMap g xs) ≡ w * length xs
+    pub length-joined : (xs : List B) → length (flatMap g xs) ≡ w * length xs
     unfolding flatMap
-    joined-length [] = sym (mul-zero w)
-    joined-length (x ∷ xs) =
+    length-joined [] = sym (mul-zero w)
+    length-joined (x ∷ xs) =
         length-append (g x) (flatMap g xs)
         ∙ ap (λ (k : ℕ). k + length (flatMap g xs)) (sized x)
-        ∙ ap (λ (k : ℕ). w + k) (joined-length xs)
+        ∙ ap (λ (k : ℕ). w + k) (length-joined xs)
         ∙ add-comm w (w * length xs)
         ∙ sym (mul-suc w (length xs))
 

@@ -18,8 +18,8 @@ use Rattle.packed.specs.declared.Header.{Header}
 part-between : (bytes : List ℕ) (at long : ℕ) → take (at + long - at) (drop at bytes) ≡ partAt bytes at long
 part-between bytes at long = let e : at + long - at ≡ long = omega arith in ap (λ (n : ℕ). take n (drop at bytes)) e
 
-part-length : (bytes : List ℕ) (at long : ℕ) → at + long ≤ length bytes → length (partAt bytes at long) ≡ long
-part-length bytes at long h = length-take-le long (drop at bytes) (rw length-drop (omega arith))
+length-part : (bytes : List ℕ) (at long : ℕ) → at + long ≤ length bytes → length (partAt bytes at long) ≡ long
+length-part bytes at long h = length-take-le long (drop at bytes) (rw length-drop (omega arith))
 
 -- ---- by the header's places
 
@@ -52,15 +52,15 @@ ordered bytes is = rw is (record { first = omega arith; second = omega arith; th
 module _ (bytes : List ℕ) (sized : length bytes ≡ recordLength bytes) where
   pub length-radii : length (radiiBytes bytes) ≡ radiiLength bytes
   unfolding radiiBytes
-  length-radii = part-length bytes (radiiStart bytes) (radiiLength bytes) (omega (arith, sized))
+  length-radii = length-part bytes (radiiStart bytes) (radiiLength bytes) (omega (arith, sized))
 
   pub length-indices : length (indicesBytes bytes) ≡ indicesLength bytes
   unfolding indicesBytes
-  length-indices = part-length bytes (indicesStart bytes) (indicesLength bytes) (omega (arith, sized))
+  length-indices = length-part bytes (indicesStart bytes) (indicesLength bytes) (omega (arith, sized))
 
   pub length-signs : length (signsBytes bytes) ≡ signsLength bytes
   unfolding signsBytes
-  length-signs = part-length bytes (signsStart bytes) (signsLength bytes) (omega (arith, sized))
+  length-signs = length-part bytes (signsStart bytes) (signsLength bytes) (omega (arith, sized))
 
 -- ---- what the header says, in the record's terms
 

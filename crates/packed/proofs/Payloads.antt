@@ -13,7 +13,7 @@ use Rattle.radius.specs.Codec.{radiiFor}
 use Rattle.radius.specs.Linear.{linearRadius}
 use Rattle.radius.specs.declared.Range.{Range}
 use Rattle.radius.specs.declared.RadiusCodecProfileV1.the-variants.{F32, BlockLinearU16}
-use Rattle.lists.proofs.Chunks.{chunks-length}
+use Rattle.lists.proofs.Chunks.{length-chunks}
 use Rattle.radius.specs.Radii.{badRadius}
 use Rattle.packed.specs.Fields.{mapOf, hasRange, profileOf, boundsOf, projectionsOf}
 use Rattle.packed.specs.Layout.{pairsOf, indicesUsed, recordLength, radiiBytes, indicesBytes, signsBytes}
@@ -22,13 +22,13 @@ use Rattle.packed.specs.Reading.{radiiOf, paddingChecks, payloadChecks}
 use Rattle.packed.proofs.Parts.{length-indices, length-signs}
 
 -- as many radii as pairs
-either-length : (t : Bool) (count : ℕ) (range : Range) (payload : List ℕ) → length (radiiFor (cond t BlockLinearU16 F32) count range payload) ≡ count
-either-length true count range payload = chunks-length (linearRadius range) 2 count payload
-either-length false count range payload = chunks-length ofLeBytes 4 count payload
+length-either : (t : Bool) (count : ℕ) (range : Range) (payload : List ℕ) → length (radiiFor (cond t BlockLinearU16 F32) count range payload) ≡ count
+length-either true count range payload = length-chunks (linearRadius range) 2 count payload
+length-either false count range payload = length-chunks ofLeBytes 4 count payload
 
 pub length-radiiOf : (bytes : List ℕ) → length (radiiOf bytes) ≡ pairsOf bytes
 unfolding radiiOf
-length-radiiOf bytes = either-length (hasRange (mapOf bytes)) (pairsOf bytes) (boundsOf bytes) (radiiBytes bytes)
+length-radiiOf bytes = length-either (hasRange (mapOf bytes)) (pairsOf bytes) (boundsOf bytes) (radiiBytes bytes)
 
 -- of a payload of the right length only the padding is left to say
 pub padding-only : (packed : List ℕ) (used : ℕ) → length packed ≡ bytesFor used → validatePaddingZeroOf packed used ≡ first (wrongPadding packed used ∷ []) accepted

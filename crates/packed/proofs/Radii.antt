@@ -23,7 +23,7 @@ use Rattle.radius.specs.Codec.{radiiFor}
 use Rattle.radius.specs.Linear.{radiusOf, linearRadius}
 use Rattle.radius.specs.declared.Range.{Range}
 use Rattle.radius.specs.declared.RadiusCodecProfileV1.the-variants.{F32, BlockLinearU16}
-use Rattle.lists.proofs.Chunks.{chunks-getD, chunks-length}
+use Rattle.lists.proofs.Chunks.{chunks-getD, length-chunks}
 use Rattle.packed.specs.Fields.{mapOf, hasRange, bitsOf, boundsOf, projectionsOf}
 use Rattle.packed.specs.Layout.{pairsOf, radiiBytes, indicesBytes, signsBytes}
 use Rattle.packed.specs.Reading.{radiiOf, indicesOf, signsOf}
@@ -43,10 +43,10 @@ module _ (bytes : List ℕ) (a : Accepted bytes) (i : ℕ) (h : i < length (radi
 either-fits : (t : Bool) (count : ℕ) (range : Range) (payload : List ℕ) (i : ℕ) → i < length (radiiFor (cond t BlockLinearU16 F32) count range payload) → T (fits binary32 (getD (radiiFor (cond t BlockLinearU16 F32) count range payload) i nan))
 unfolding ofLeBytes linearRadius radiusOf
 either-fits true count range payload i h =
-    let below : i < count = rw chunks-length at h in
+    let below : i < count = rw length-chunks at h in
     subst (λ (x : Float). T (fits binary32 x)) (sym (chunks-getD (linearRadius range) 2 count i payload nan below)) (add-fits binary32 _ _)
 either-fits false count range payload i h =
-    let below : i < count = rw chunks-length at h in
+    let below : i < count = rw length-chunks at h in
     subst (λ (x : Float). T (fits binary32 x)) (sym (chunks-getD ofLeBytes 4 count i payload nan below)) (ofBits-fits binary32 _)
 
 pub radii-fit : (bytes : List ℕ) (i : ℕ) → i < length (radiiOf bytes) → T (fits binary32 (getD (radiiOf bytes) i nan))

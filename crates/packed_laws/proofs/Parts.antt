@@ -19,28 +19,28 @@ use Rattle.packed.specs.Layout.{partAt}
 
 -- a part of bytes is of bytes
 module _ (bytes : List ℕ) (b : Below 256 bytes) (at long : ℕ) (h : at + long ≤ length bytes) where
-  pub part-length : length (partAt bytes at long) ≡ long
-  part-length = length-take-le long (drop at bytes) (rw length-drop (omega (arith, h)))
+  pub length-part : length (partAt bytes at long) ≡ long
+  length-part = length-take-le long (drop at bytes) (rw length-drop (omega (arith, h)))
 
   pub part-below : Below 256 (partAt bytes at long)
   part-below = record { at = inside }
     where
       inside : (i : ℕ) → i < length (partAt bytes at long) → getD (partAt bytes at long) i 0 < 256
       inside i g =
-          let small : i < long = omega (arith, g, part-length) in
+          let small : i < long = omega (arith, g, length-part) in
           rw (getD-take long (drop at bytes) i 0 small, getD-drop) (b .at (at + i) (omega (arith, h, small)))
 
 module _ (bytes : List ℕ) (b : Below 256 bytes) (at : ℕ) (h : at + 4 ≤ length bytes) where
   -- a u32's bytes
   pub word-again : digits 256 4 (wordAt bytes at) ≡ partAt bytes at 4
   word-again =
-      ap (λ (n : ℕ). digits 256 n (wordAt bytes at)) (sym (part-length bytes b at 4 h))
+      ap (λ (n : ℕ). digits 256 n (wordAt bytes at)) (sym (length-part bytes b at 4 h))
       ∙ digits-number 256 (partAt bytes at 4) (part-below bytes b at 4 h)
 
   -- an f32's bytes, of one that is no NaN
   pub float-again : badRadius (floatAt bytes at) ≡ false → toLeBytes (floatAt bytes at) ≡ partAt bytes at 4
   float-again good =
-      toLeBytes-ofLeBytes (partAt bytes at 4) (part-below bytes b at 4 h) (part-length bytes b at 4 h)
+      toLeBytes-ofLeBytes (partAt bytes at 4) (part-below bytes b at 4 h) (length-part bytes b at 4 h)
       (subst (λ (t : Bool). T (not t)) (sym (radius-not-nan (floatAt bytes at) good)) tt)
 
 -- what stands from a place on, with a part of it split off

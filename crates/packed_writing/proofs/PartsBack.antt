@@ -17,7 +17,7 @@ use Rattle.radius.specs.Radii.{rangeOf}
 use Rattle.radius.specs.declared.Range.{Range}
 use Rattle.radius.specs.declared.RadiusCodecProfileV1.{RadiusCodecProfileV1}
 use Rattle.radius.specs.declared.RadiusCodecProfileV1.the-variants.{F32, BlockLinearU16, BlockLogU8}
-use Rattle.lists.proofs.Chunks.{joined-length}
+use Rattle.lists.proofs.Chunks.{length-joined}
 use Rattle.radius.proofs.Scan.{length-linearBytes}
 use Rattle.setup.specs.declared.TurboMode.{TurboMode}
 use Rattle.setup.specs.declared.TurboMode.the-variants.{PolarOnly, PolarWithQjl}
@@ -44,8 +44,8 @@ length-header code range = cases (code .profile) (code .mode)
     cases BlockLogU8 PolarWithQjl = refl
 
 pub length-payloadFor : (profile : RadiusCodecProfileV1) (radii : List Float) → badProfile profile ≡ false → length (payloadFor profile radii) ≡ widthOf profile * length radii
-length-payloadFor F32 radii e = joined-length toLeBytes 4 length-toLeBytes radii
-length-payloadFor BlockLinearU16 radii e = joined-length (linearBytes (rangeOf radii)) 2 (length-linearBytes (rangeOf radii)) radii
+length-payloadFor F32 radii e = length-joined toLeBytes 4 length-toLeBytes radii
+length-payloadFor BlockLinearU16 radii e = length-joined (linearBytes (rangeOf radii)) 2 (length-linearBytes (rangeOf radii)) radii
 length-payloadFor BlockLogU8 radii e = let z : _≡_ {A = ℕ} 0 1 = cc in absurd (omega arith)
 
 module _ (code : Code) (radii : List Float) (indices : List ℕ) (signs : List ℤ) (known : badProfile (code .profile) ≡ false) (small : (code .dim) < 2 ^ 32) (paired : length radii ≡ (code .dim) / 2) where

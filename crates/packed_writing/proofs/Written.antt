@@ -23,7 +23,7 @@ use Rattle.radius.specs.Linear.{linearRadius}
 use Rattle.radius.specs.Radii.{badRadius}
 use Rattle.radius.specs.declared.RadiusCodecProfileV1.{RadiusCodecProfileV1}
 use Rattle.radius.specs.declared.RadiusCodecProfileV1.the-variants.{F32, BlockLinearU16, BlockLogU8}
-use Rattle.lists.proofs.Chunks.{chunks-length}
+use Rattle.lists.proofs.Chunks.{length-chunks}
 use Rattle.packed.specs.declared.Code.{Code}
 use Rattle.packed.specs.Layout.{headerLength}
 use Rattle.packed_size.specs.Size.{mapFor, neededFor, codeChecks}
@@ -93,8 +93,8 @@ module _ (code : Code) (radii : List Float) (indices : List ℕ) (signs : List �
 
 pub length-readBack : (profile : RadiusCodecProfileV1) (radii : List Float) → badProfile profile ≡ false → length (readBack profile radii) ≡ length radii
 unfolding readBack
-length-readBack F32 radii e = chunks-length ofLeBytes 4 (length radii) (payloadFor F32 radii)
-length-readBack BlockLinearU16 radii e = chunks-length (linearRadius (rangeFor BlockLinearU16 radii)) 2 (length radii) (payloadFor BlockLinearU16 radii)
+length-readBack F32 radii e = length-chunks ofLeBytes 4 (length radii) (payloadFor F32 radii)
+length-readBack BlockLinearU16 radii e = length-chunks (linearRadius (rangeFor BlockLinearU16 radii)) 2 (length radii) (payloadFor BlockLinearU16 radii)
 length-readBack BlockLogU8 radii e = let z : _≡_ {A = ℕ} 0 1 = cc in absurd (omega arith)
 
 -- ---- the values' checks, from what each search returned

@@ -22,7 +22,7 @@ use Rattle.rounding.specs.Rows.{projected, exactProjected, projectedSizes}
 use Rattle.bitpack.specs.Signs.{isMinus, badSketchSign}
 use Rattle.qjl.specs.Score.{scaleOf, signSumOf, residualOf}
 use Rattle.qjl.specs.Exact.{exactResidual, residualSize}
-use Rattle.rounding.proofs.Rows.{projected-length, close-projected}
+use Rattle.rounding.proofs.Rows.{length-projected, close-projected}
 use Rattle.qjl.proofs.SignValues.{close-sign-sum}
 
 pub scale-fits : (m : ℕ) (norm : Float) → T (fits binary32 (scaleOf m norm))
@@ -35,7 +35,7 @@ module _ (n m : ℕ) (matrix query : List Float) (signs : List ℤ) (f : AllFit 
   pub close-projected-sum : Close unit (n + m + 1) (m * (n * unit)) (sum (projectedSizes n m matrix query)) (signSumOf signs (projected n m matrix query))
       (exactTotal (turnedEach (map isMinus signs) (exactProjected n m matrix query)))
   close-projected-sum =
-      let count = projected-length n m matrix query in
+      let count = length-projected n m matrix query in
       close-weaken (omega (arith, count)) (omega (arith, sum-replicate m (n * unit))) (le-refl _)
       (close-sign-sum signs (long ∙ sym count) good (omega (arith, count)) (close-projected n m matrix query f g (omega arith)))
 

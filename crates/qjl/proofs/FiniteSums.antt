@@ -17,7 +17,7 @@ use Rattle.rounding.proofs.Partial.{dot-finite}
 use Rattle.error.specs.Checks.{badValue}
 use Rattle.error.proofs.Finite.{finite-passes, passes-finite}
 use Rattle.qjl.specs.Inner.{Rowed, onRow}
-use Rattle.rounding.proofs.Rows.{projected-length, projected-row}
+use Rattle.rounding.proofs.Rows.{length-projected, projected-row}
 use Rattle.rounding.specs.Rows.{projected}
 
 is-true : (b : Bool) → T b → b ≡ true
@@ -31,7 +31,7 @@ told false e = subst T (sym e) tt
 module _ (n m : ℕ) (matrix query : List Float) (rowed : Rowed n matrix query m) (clean : ltb (place badValue (projected n m matrix query)) (length (projected n m matrix query)) ≡ false) where
   row-finite : (j : ℕ) → j < m → T (finite (onRow n matrix query j))
   row-finite j l =
-      let within : j < length (projected n m matrix query) = rw (projected-length n m matrix query) l in
+      let within : j < length (projected n m matrix query) = rw (length-projected n m matrix query) l in
       subst (λ (x : Float). T (finite x)) (projected-row n m matrix query j (rowed .query-long) l) (told _ (passes-finite _ (each-clear badValue (projected n m matrix query) nan clean j within)))
 
   -- row j and column i

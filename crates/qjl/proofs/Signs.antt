@@ -15,7 +15,7 @@ use Rattle.rounding.specs.Rows.{projected}
 use Rattle.qjl.specs.Sketch.{signOfSum}
 use Rattle.bitpack.specs.Signs.{badSketchSign}
 use Rattle.bitpack_signs.proofs.Signs.{either-back}
-use Rattle.rounding.proofs.Rows.{projected-length}
+use Rattle.rounding.proofs.Rows.{length-projected}
 
 -- a sign is written as it is
 pub sum-sign-back : (sum : Float) → toZ w8 (ofZ w8 (signOfSum sum)) ≡ signOfSum sum
@@ -38,9 +38,9 @@ unfolding signOfSum
 sign-good sum = either-good (le posZero sum)
 
 pub sketch-length : (n m : ℕ) (matrix vector : List Float) → length (map signOfSum (projected n m matrix vector)) ≡ m
-sketch-length n m matrix vector = simp length-map (projected-length n m matrix vector)
+sketch-length n m matrix vector = simp length-map (length-projected n m matrix vector)
 
 pub sketch-good : (n m : ℕ) (matrix vector : List Float) (i : ℕ) → i < m → badSketchSign (getD (map signOfSum (projected n m matrix vector)) i (pos 0)) ≡ false
 sketch-good n m matrix vector i l =
-    let inside : i < length (projected n m matrix vector) = omega (arith, projected-length n m matrix vector) in
+    let inside : i < length (projected n m matrix vector) = omega (arith, length-projected n m matrix vector) in
     ap badSketchSign (sym (getD-signs (projected n m matrix vector) i inside)) ∙ sign-good (getD (projected n m matrix vector) i nan)

@@ -19,7 +19,7 @@ use Rattle.lists.specs.Chunks.{chunks}
 use Rattle.radius.specs.Radii.{badRadius}
 use Rattle.radius.specs.Codec.{compressChecks, compressBytesOf, decompressChecks, decompressOf}
 use Rattle.radius.proofs.Radii.{radius-not-nan}
-use Rattle.lists.proofs.Chunks.{chunks-getD, chunks-length, chunks-joined, joined-length, joined-chunks, map-same}
+use Rattle.lists.proofs.Chunks.{chunks-getD, length-chunks, chunks-joined, length-joined, joined-chunks, map-same}
 use Rattle.radius.proofs.Accepted.{compressed-place, compressed-is, decompressed-length, decompressed-is, decompressed-place, decompressed-radius}
 use Rattle.radius.specs.declared.Range.{Range}
 use Rattle.radius.specs.declared.RadiusCodecProfileV1.the-variants.{F32}
@@ -38,15 +38,15 @@ pub decompress-compress : (radii : List Float) (room : ℕ) (bytes : List ℕ) (
 unfolding decompressOf
 decompress-compress radii room bytes range f made =
     let back = ap (λ (l : List ℕ). map ofLeBytes (chunks 4 (length radii) l)) (compressed-is radii F32 room bytes made) ∙ floats-back radii f in
-    let long = ap length (compressed-is radii F32 room bytes made) ∙ joined-length toLeBytes 4 length-toLeBytes radii in
+    let long = ap length (compressed-is radii F32 room bytes made) ∙ length-joined toLeBytes 4 length-toLeBytes radii in
     let all = compressed-place radii F32 room bytes made in
     first-accepts (decompressChecks F32 (length radii) range bytes (length radii)) _ (refl, (ap not (eq-eqb _ _ long), (ap (λ (l : List Float). ltb (place badRadius l) (length l)) back ∙ le-ltb (place badRadius radii) (length radii) (omega (arith, all)), (ap not (eq-eqb (length radii) (length radii) refl), tt))))
     ∙ ap value back
 
 -- ---- the other way
 
-part-length : (bytes : List ℕ) (k : ℕ) → k + 4 ≤ length bytes → length (take 4 (drop k bytes)) ≡ 4
-part-length bytes k h = length-take-le 4 (drop k bytes) (rw length-drop (omega arith))
+length-part : (bytes : List ℕ) (k : ℕ) → k + 4 ≤ length bytes → length (take 4 (drop k bytes)) ≡ 4
+length-part bytes k h = length-take-le 4 (drop k bytes) (rw length-drop (omega arith))
 
 -- a part of bytes is of bytes
 part-below : (bytes : List ℕ) (k : ℕ) → Below 256 bytes → k + 4 ≤ length bytes → Below 256 (take 4 (drop k bytes))
@@ -54,13 +54,13 @@ part-below bytes k b h = record { at = inside }
   where
     inside : (i : ℕ) → i < length (take 4 (drop k bytes)) → getD (take 4 (drop k bytes)) i 0 < 256
     inside i g =
-        let small : i < 4 = omega (arith, g, part-length bytes k h) in
+        let small : i < 4 = omega (arith, g, length-part bytes k h) in
         rw (getD-take 4 (drop k bytes) i 0 small, getD-drop) (b .at (k + i) (omega (arith, h, small)))
 
 module _ (count : ℕ) (range : Range) (payload : List ℕ) (room : ℕ) (radii : List Float) (b : Below 256 payload) (read : decompressOf F32 count range payload room ≡ value radii) where
   -- as many radii as asked for
   counted : length radii ≡ count
-  counted = ap length (decompressed-is count range payload room radii read) ∙ chunks-length ofLeBytes 4 count payload
+  counted = ap length (decompressed-is count range payload room radii read) ∙ length-chunks ofLeBytes 4 count payload
 
   -- the four bytes of each radius come back
   bytes-back : (i : ℕ) → i < count → let part = take 4 (drop (4 * i) payload) in toLeBytes (ofLeBytes part) ≡ part
@@ -69,7 +69,7 @@ module _ (count : ℕ) (range : Range) (payload : List ℕ) (room : ℕ) (radii 
       let inside : 4 * i + 4 ≤ length payload = omega (arith, h, decompressed-length count range payload room radii read) in
       let here = ap (λ (l : List Float). getD l i nan) (decompressed-is count range payload room radii read) ∙ chunks-getD ofLeBytes 4 count i payload nan h in
       let good = ap badRadius (sym here) ∙ decompressed-radius count range payload room radii read i (omega (arith, h, counted)) in
-      toLeBytes-ofLeBytes part (part-below payload (4 * i) b inside) (part-length payload (4 * i) inside) (subst (λ (t : Bool). T (not t)) (sym (radius-not-nan (ofLeBytes part) good)) tt)
+      toLeBytes-ofLeBytes part (part-below payload (4 * i) b inside) (length-part payload (4 * i) inside) (subst (λ (t : Bool). T (not t)) (sym (radius-not-nan (ofLeBytes part) good)) tt)
 
   pub compress-decompress : compressBytesOf radii F32 (length payload) ≡ value payload
   unfolding compressBytesOf

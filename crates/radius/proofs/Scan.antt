@@ -18,7 +18,7 @@ use Rattle.radius.specs.Firsts.{firstBadPayloadOf, readBack, firstBadRea
 use Rattle.radius.specs.Inner.{badKept}
 use Rattle.radius.specs.Linear.{spanOf, quantized, linearBytes, radiusOf, linearRadius}
 use Rattle.radius.specs.Radii.{badRadius, rangeOf}
-use Rattle.lists.proofs.Chunks.{chunks-getD, chunks-length, chunks-joined}
+use Rattle.lists.proofs.Chunks.{chunks-getD, length-chunks, chunks-joined}
 use Rattle.lists.proofs.Loops.{next-place}
 use Rattle.radius.proofs.RoundTrip.{Floats, floats-back}
 use Rattle.radius.specs.declared.Range.{Range}
@@ -42,7 +42,7 @@ module _ {B : Type 0} (bad : B → Bool) (f : List ℕ → B) (w : ℕ) (bytes :
     here = chunks-getD f w count i bytes x h ∙ ap (λ (k : ℕ). f (take w (drop k bytes))) (sym (s .start)) ∙ sym e
 
     below : i < length (map f (chunks w count bytes))
-    below = rw chunks-length h
+    below = rw length-chunks h
 
     pub scanned-next : bad x ≡ false → Scanned bad f w bytes count (i + 1) (at + w)
     scanned-next good = record { within = omega arith; start = next-place w i at (s .start); clean = place-skip bad _ i x below (ap bad here ∙ good) (s .clean) }
@@ -51,7 +51,7 @@ module _ {B : Type 0} (bad : B → Bool) (f : List ℕ → B) (w : ℕ) (bytes :
     scanned-here offends = sym (place-here bad _ i x below (ap bad here ∙ offends) (s .clean))
 
   pub scanned-end : (i at : ℕ) → count ≤ i → Scanned bad f w bytes count i at → i ≡ place bad (map f (chunks w count bytes))
-  scanned-end i at h s = sym (place-end bad _ i (rw chunks-length h) (s .clean))
+  scanned-end i at h s = sym (place-end bad _ i (rw length-chunks h) (s .clean))
 
 -- ---- of a payload of whole radii
 

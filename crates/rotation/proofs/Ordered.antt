@@ -9,7 +9,7 @@ use lib.Ieee.{Float, binary32, add, sub}
 use Rattle.rotation.specs.Inner.{Stepped}
 use Rattle.float.specs.Constants.{posZero}
 use Rattle.rounding.specs.Butterfly.{stage, stages}
-use Rattle.rounding.proofs.Butterflies.{stage-length}
+use Rattle.rounding.proofs.Butterflies.{length-stage}
 
 module _ {A : Type 0} (plus minus : A → A → A) (d : A) where
   stages-none : (h : ℕ) (xs : List A) → stages plus minus d 0 h xs ≡ xs
@@ -47,7 +47,7 @@ module _ (step k : ℕ) (whole ys : List Float) (inv : Running step (suc k) whol
       let twice : step + step ≡ 2 * step = omega arith in
       record {
         above = omega (arith, inv .above);
-        long = ap length e ∙ stage-length (add binary32) (sub binary32) posZero step ys ∙ doubled ∙ omega arith;
+        long = ap length e ∙ length-stage (add binary32) (sub binary32) posZero step ys ∙ doubled ∙ omega arith;
         same = inv .same ∙ stages-more (add binary32) (sub binary32) posZero k step ys ∙ ap (stages (add binary32) (sub binary32) posZero k (step + step)) (sym e) ∙ ap (λ (m : ℕ). stages (add binary32) (sub binary32) posZero k m zs) twice;
       }
 

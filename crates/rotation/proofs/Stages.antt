@@ -12,7 +12,7 @@ use lib.Ieee.{Float, nan, binary32, add, sub}
 use Rattle.rotation.specs.Inner.{entryAt, Partly, Stepped}
 use Rattle.float.specs.Constants.{posZero}
 use Rattle.rounding.specs.Butterfly.{entry, stage}
-use Rattle.rounding.proofs.Butterflies.{stage-length, stage-at}
+use Rattle.rounding.proofs.Butterflies.{length-stage, stage-at}
 use Rattle.rounding.proofs.Lists.{getD-any}
 
 -- ---- the two halves of a block
@@ -111,7 +111,7 @@ module _ (h start : ℕ) (xs ys zs : List Float) (inv : Through h start xs ys) (
 
 pub through-stage : (h start : ℕ) (xs ys : List Float) → Through h start xs ys → length xs ≤ start → ys ≡ stage (add binary32) (sub binary32) posZero h xs
 through-stage h start xs ys inv all =
-    let long = stage-length (add binary32) (sub binary32) posZero h xs in
+    let long = length-stage (add binary32) (sub binary32) posZero h xs in
     ext-getD nan ys (stage (add binary32) (sub binary32) posZero h xs) (inv .long ∙ sym long) (λ i l.
     inv .passed i (omega (arith, inv .long))
     ∙ sym (stage-at (add binary32) (sub binary32) posZero h xs i (omega (arith, inv .long)))

@@ -17,7 +17,7 @@ use Rattle.float.specs.Constants.{posZero}
 use Rattle.rounding.specs.Sums.{sum}
 use Rattle.rounding.proofs.Close.{AllClose}
 use Rattle.rounding.specs.Butterfly.{entry, stage, stages}
-use Rattle.rounding.proofs.Butterflies.{stage-length, stage-at, stages-length, close-stages}
+use Rattle.rounding.proofs.Butterflies.{length-stage, stage-at, length-stages, close-stages}
 use Rattle.rounding.proofs.Folds.{all-close-errors, all-close-sizes}
 use Rattle.rounding.proofs.Totals.{sum-append}
 
@@ -97,7 +97,7 @@ blocks-stage c h bs cs H e f all i = go (ltb i (length cs)) (ltb→lt i (length 
     go : (b : Bool) → (T b → i < length cs) → (T (not b) → length cs ≤ i) → getD (stage _+_ _+_ 0 h cs) i 0 ≡ sum (take (h + h) (drop (i / (h + h) * (h + h)) bs))
     go true l g = stage-at _+_ _+_ 0 h cs i (l tt) ∙ entry-joined h H bs cs all i
     go false l g =
-        List·getD-eq-default (stage _+_ _+_ 0 h cs) 0 (le-trans (le-of-eq (stage-length _+_ _+_ 0 h cs)) (g tt))
+        List·getD-eq-default (stage _+_ _+_ 0 h cs) 0 (le-trans (le-of-eq (length-stage _+_ _+_ 0 h cs)) (g tt))
         ∙ sym (beyond (h + h) i bs (le-trans (le-of-eq e) (past c (h + h) i (omega arith) (le-trans (le-of-eq (sym (f ∙ e))) (g tt)))))
 
 blocks-stages : (n h : ℕ) (bs cs : List ℕ) → 0 < h → length bs ≡ h * 2 ^ n → length cs ≡ length bs → Blocks h bs cs → Blocks (h * 2 ^ n) bs (stages _+_ _+_ 0 n h cs)
@@ -106,7 +106,7 @@ blocks-stages zero h bs cs H e f all = subst (λ (z : ℕ). Blocks z bs cs) (sym
 blocks-stages (suc n) h bs cs H e f all =
     let w : (h + h) * 2 ^ n ≡ h * 2 ^ suc n = omega (arith, ap (λ (z : ℕ). h * z) (pow-suc 2 n)) in
     subst (λ (z : ℕ). Blocks z bs (stages _+_ _+_ 0 n (h + h) (stage _+_ _+_ 0 h cs))) w
-    (blocks-stages n (h + h) bs (stage _+_ _+_ 0 h cs) (omega arith) (e ∙ sym w) (stage-length _+_ _+_ 0 h cs ∙ f)
+    (blocks-stages n (h + h) bs (stage _+_ _+_ 0 h cs) (omega arith) (e ∙ sym w) (length-stage _+_ _+_ 0 h cs ∙ f)
     (blocks-stage (2 ^ n) h bs cs H (e ∙ sym w ∙ mul-comm (h + h) (2 ^ n)) f all))
 
 -- a block of one entry is that entry
@@ -122,7 +122,7 @@ blocks-start bs i = single bs i ∙ ap (λ (z : ℕ). sum (take 1 (drop z bs))) 
 -- all the stages of a list of 2 ^ n entries
 plus-stages : (n : ℕ) (bs : List ℕ) → length bs ≡ 2 ^ n → stages _+_ _+_ 0 n 1 bs ≡ replicate (2 ^ n) (sum bs)
 plus-stages n bs e =
-    let len : length (stages _+_ _+_ 0 n 1 bs) ≡ 2 ^ n = stages-length _+_ _+_ 0 n 1 bs ∙ e in
+    let len : length (stages _+_ _+_ 0 n 1 bs) ≡ 2 ^ n = length-stages _+_ _+_ 0 n 1 bs ∙ e in
     ext-getD 0 (stages _+_ _+_ 0 n 1 bs) (replicate (2 ^ n) (sum bs)) (len ∙ sym (length-replicate (2 ^ n) (sum bs)))
     (λ i l. each i (le-trans l (le-of-eq len)))
   where

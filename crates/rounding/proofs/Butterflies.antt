@@ -16,10 +16,10 @@ use Rattle.rounding.proofs.Calculus.{close-zero, close-add, close-sub}
 use Rattle.rounding.proofs.Folds.{all-close-at, all-close-errors, all-close-sizes, all-close-numbers, all-close-weaken}
 
 -- ---- a list made by its indices
-tabled-length : {A : Type 0} (f : ℕ → A) (n count : ℕ) → length (map f (from n count)) ≡ count
+length-tabled : {A : Type 0} (f : ℕ → A) (n count : ℕ) → length (map f (from n count)) ≡ count
 unfolding from
-tabled-length f n zero = refl
-tabled-length f n (suc count) = ap suc (tabled-length f (suc n) count)
+length-tabled f n zero = refl
+length-tabled f n (suc count) = ap suc (length-tabled f (suc n) count)
 
 tabled-at : {A : Type 0} (f : ℕ → A) (n count : ℕ) (d : A) (i : ℕ) → i < count → getD (map f (from n count)) i d ≡ f (n + i)
 unfolding from
@@ -28,18 +28,18 @@ tabled-at f n (suc count) d zero h = ap f (sym (add-zero n))
 tabled-at f n (suc count) d (suc i) h = tabled-at f (suc n) count d i (le-of-suc-le-suc h) ∙ ap f (suc-add n i ∙ sym (add-suc n i))
 
 module _ {A : Type 0} (plus less : A → A → A) (d : A) (h : ℕ) (xs : List A) where
-  pub stage-length : length (stage plus less d h xs) ≡ length xs
+  pub length-stage : length (stage plus less d h xs) ≡ length xs
   unfolding stage
-  stage-length = tabled-length (λ (i : ℕ). entry plus less d h xs i) 0 (length xs)
+  length-stage = length-tabled (λ (i : ℕ). entry plus less d h xs i) 0 (length xs)
 
   pub stage-at : (i : ℕ) → i < length xs → getD (stage plus less d h xs) i d ≡ entry plus less d h xs i
   unfolding stage
   stage-at i l = tabled-at (λ (j : ℕ). entry plus less d h xs j) 0 (length xs) d i l ∙ ap (λ (j : ℕ). entry plus less d h xs j) (zero-add i)
 
-pub stages-length : {A : Type 0} (plus less : A → A → A) (d : A) (n h : ℕ) (xs : List A) → length (stages plus less d n h xs) ≡ length xs
+pub length-stages : {A : Type 0} (plus less : A → A → A) (d : A) (n h : ℕ) (xs : List A) → length (stages plus less d n h xs) ≡ length xs
 unfolding stages
-stages-length plus less d zero h xs = refl
-stages-length plus less d (suc n) h xs = stages-length plus less d n (h + h) (stage plus less d h xs) ∙ stage-length plus less d h xs
+length-stages plus less d zero h xs = refl
+length-stages plus less d (suc n) h xs = length-stages plus less d n (h + h) (stage plus less d h xs) ∙ length-stage plus less d h xs
 
 -- ---- the error of a stage
 module _ {s k : ℕ} {rs bs : List ℕ} {vs : List Float} {xs : List Diff} (K : k ≤ 2 ^ 23) (all : AllClose s k rs bs vs xs) (h : ℕ) where

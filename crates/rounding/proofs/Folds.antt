@@ -15,7 +15,7 @@ use Rattle.float.specs.Constants.{one}
 use Rattle.float.specs.Units.{unit, mag}
 use Rattle.rounding.proofs.Close.{Close, AllFit, AllClose, none, next}
 use Rattle.rounding.specs.Sums.{running, total, products, dot, exactTotal, exactProducts, exactDot, turnedEach, sum, weighted}
-use Rattle.rounding.proofs.Totals.{weighted-length, sum-raised, weighted-none}
+use Rattle.rounding.proofs.Totals.{length-weighted, sum-raised, weighted-none}
 use Rattle.rounding.proofs.Calculus.{close-zero, close-self, close-weaken, close-same, close-add, close-mul, close-sign}
 
 -- ---- running sums
@@ -45,11 +45,11 @@ close-products (c ∷ cs) f K none = none
 close-products [] f K (next h all) = none
 close-products (c ∷ cs) f K (next h all) = next (close-mul c (f .0) K h) (close-products cs (f .1) K all)
 
-products-length : (vs cs : List Float) → length (products vs cs) ≤ length vs
+length-products-most : (vs cs : List Float) → length (products vs cs) ≤ length vs
 unfolding products
-products-length [] cs = le-refl 0
-products-length (v ∷ vs) [] = zero-le
-products-length (v ∷ vs) (c ∷ cs) = suc-le-suc (products-length vs cs)
+length-products-most [] cs = le-refl 0
+length-products-most (v ∷ vs) [] = zero-le
+length-products-most (v ∷ vs) (c ∷ cs) = suc-le-suc (length-products-most vs cs)
 
 -- the lists have one length
 pub all-close-errors : {s k : ℕ} {rs bs : List ℕ} {vs : List Float} {xs : List Diff} → AllClose s k rs bs vs xs → length rs ≡ length vs
@@ -68,8 +68,8 @@ all-close-numbers (next h all) = ap suc (all-close-numbers all)
 close-dot : {s k : ℕ} {rs bs : List ℕ} {vs : List Float} {xs : List Diff} (cs : List Float) → AllFit cs → k + 1 + length vs ≤ 2 ^ 23 → AllClose s k rs bs vs xs
     → Close (s * unit) (k + 1 + length vs) (sum (weighted cs rs) + length vs * (s * unit)) (sum (weighted cs bs)) (dot vs cs) (exactDot xs (map val cs))
 close-dot {s} {k} {rs} {bs} {vs} {xs} cs f L all =
-    let p = products-length vs cs in
-    let w = weighted-length cs rs in
+    let p = length-products-most vs cs in
+    let w = length-weighted cs rs in
     let e = all-close-errors all in
     let m : length (weighted cs rs) * (s * unit) ≤ length vs * (s * unit) = mul-le-mul-right (s * unit) (omega arith) in
     close-weaken (omega arith) (omega (arith, sum-raised (s * unit) (weighted cs rs))) (le-refl _) (close-total (omega arith) (close-products cs f (omega arith) all))

@@ -8,7 +8,7 @@ use native.Mathlib.Omega.{arith}
 use lib.ListN.{length, getD, take, drop, replicate}
 use lib.Ieee.{Float, nan, binary32, mul}
 use Rattle.lists.specs.Chunks.{chunks}
-use Rattle.lists.proofs.Chunks.{chunks-getD, chunks-length}
+use Rattle.lists.proofs.Chunks.{chunks-getD, length-chunks}
 use Rattle.rounding.specs.Value.{val}
 use Rattle.float.specs.Constants.{posZero}
 use Rattle.float.specs.Units.{unit, mag}
@@ -20,9 +20,9 @@ use Rattle.rounding.proofs.Folds.{close-dot-self}
 
 -- ---- what a projection is
 
-pub projected-length : (n m : ℕ) (matrix query : List Float) → length (projected n m matrix query) ≡ m
+pub length-projected : (n m : ℕ) (matrix query : List Float) → length (projected n m matrix query) ≡ m
 unfolding projected
-projected-length n m matrix query = chunks-length (λ row. dot row query) n m matrix
+length-projected n m matrix query = length-chunks (λ row. dot row query) n m matrix
 
 products-take : (vs cs : List Float) → products (take (length cs) vs) cs ≡ products vs cs
 unfolding products

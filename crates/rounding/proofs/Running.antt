@@ -23,10 +23,10 @@ pub from-next : (i n : ℕ) → i < n → from i (n - i) ≡ i ∷ from (i + 1) 
 unfolding from
 from-next i n h = let e : n - i ≡ suc (n - (i + 1)) = omega arith in rw e (rw add-one)
 
-pub from-length : (start count : ℕ) → length (from start count) ≡ count
+pub length-from : (start count : ℕ) → length (from start count) ≡ count
 unfolding from
-from-length start zero = refl
-from-length start (suc count) = ap suc (from-length (suc start) count)
+length-from start zero = refl
+length-from start (suc count) = ap suc (length-from (suc start) count)
 
 -- ---- a running sum of terms
 module _ (f : ℕ → Float) (n : ℕ) where

@@ -30,11 +30,11 @@ sum-none [] = refl
 sum-none (x ∷ xs) = omega (arith, sum-none xs)
 
 -- ---- weighted by the sizes of floats
-pub weighted-length : (cs : List Float) (ns : List ℕ) → length (weighted cs ns) ≤ length ns
+pub length-weighted : (cs : List Float) (ns : List ℕ) → length (weighted cs ns) ≤ length ns
 unfolding weighted
-weighted-length [] ns = zero-le
-weighted-length (c ∷ cs) [] = le-refl 0
-weighted-length (c ∷ cs) (n ∷ ns) = suc-le-suc (weighted-length cs ns)
+length-weighted [] ns = zero-le
+length-weighted (c ∷ cs) [] = le-refl 0
+length-weighted (c ∷ cs) (n ∷ ns) = suc-le-suc (length-weighted cs ns)
 
 pub weighted-none : (cs vs : List Float) → sum (weighted cs (map (λ (v : Float). 0) vs)) ≡ 0
 unfolding weighted sum

@@ -15,7 +15,7 @@ use Rattle.rounding.specs.Butterfly.{stages}
 use Rattle.float.specs.Constants.{posZero}
 use Rattle.rounding.proofs.Folds.{all-fit-from}
 use Rattle.rounding.proofs.Lists.{length-products}
-use Rattle.rounding.proofs.Butterflies.{stages-length}
+use Rattle.rounding.proofs.Butterflies.{length-stages}
 use Rattle.rotation.specs.Rotation.{inverseRoot, scaled, hadamardOf, rotated}
 use Rattle.setup.specs.Lent.{Lent, lent}
 use Rattle.setup.specs.declared.Setup.{Setup}
@@ -30,14 +30,14 @@ use Rattle.turbo.specs.Prepared.{IsPrepared, Prepared}
 use Rattle.float.specs.Bytes.{AreFloats}
 use Rattle.turbo.proofs.Demand.{demand}
 use Rattle.turbo.proofs.Answers.{estimate-passed, ready-rest, prepared-passed}
-use Rattle.rounding.proofs.Rows.{projected-length}
+use Rattle.rounding.proofs.Rows.{length-projected}
 
 -- a rotation keeps the length
-rotated-length : (n : ℕ) (signs xs : List Float) → length signs ≡ length xs → length (rotated n signs xs) ≡ length xs
+length-rotated : (n : ℕ) (signs xs : List Float) → length signs ≡ length xs → length (rotated n signs xs) ≡ length xs
 unfolding rotated hadamardOf scaled
-rotated-length n signs xs e =
+length-rotated n signs xs e =
     length-map (stages (add binary32) (sub binary32) posZero (trailingZeros 64 n) 1 (products xs signs)) (λ x. mul binary32 x (inverseRoot n))
-    ∙ stages-length (add binary32) (sub binary32) posZero (trailingZeros 64 n) 1 (products xs signs)
+    ∙ length-stages (add binary32) (sub binary32) posZero (trailingZeros 64 n) 1 (products xs signs)
     ∙ length-products xs signs e
 
 module _ (s : Setup) (l : Lent) (query : List Float) (passed : first (queryChecks s l query) accepted ≡ accepted) where
@@ -50,7 +50,7 @@ module _ (s : Setup) (l : Lent) (query : List Float) (passed : first (queryCheck
   rotated-long : length (rotatedQuery s l query) ≡ s .dim
   rotated-long =
       let long = vector-rowed s l query vector-clear .query-long in
-      rotated-length (s .dim) (l .signs) query (vector-setup s l query vector-clear .signs-long ∙ sym long) ∙ long
+      length-rotated (s .dim) (l .signs) query (vector-setup s l query vector-clear .signs-long ∙ sym long) ∙ long
 
   -- a query that passes its checks passes them prepared
   pub passed-ready : first (readyChecks s (l .directions) (rotatedQuery s l query) (projectedQuery s l query)) accepted ≡ accepted
@@ -59,7 +59,7 @@ module _ (s : Setup) (l : Lent) (query : List Float) (passed : first (queryCheck
       ready-rest s (l .directions) (rotatedQuery s l query) (projectedQuery s l query) (setup-scalars s l setup-clear) (setup-directions s l setup-clear)
       ∙ first-accepts (lengthsAndValues s (rotatedQuery s l query) (projectedQuery s l query)) accepted (
         differs-not (length (rotatedQuery s l query)) (s .dim) rotated-long,
-        (differs-not (length (projectedQuery s l query)) (countedProjectionsOf s) (projected-length (s .dim) (countedProjectionsOf s) (l .matrix) query), k),
+        (differs-not (length (projectedQuery s l query)) (countedProjectionsOf s) (length-projected (s .dim) (countedProjectionsOf s) (l .matrix) query), k),
       )
 
   -- Prepared once, a query gives each record the answer that it has without: a value or a refusal.

@@ -9,7 +9,7 @@ use Rattle.qjl.specs.Inner.{onRow}
 use Rattle.lists.specs.Inner.{Filled}
 use Rattle.lists.proofs.Loops.{filled-start, filled-four, filled-join, filled-all}
 use Rattle.qjl.proofs.Rows.{rows-within, row-at}
-use Rattle.rounding.proofs.Rows.{projected-length, projected-row}
+use Rattle.rounding.proofs.Rows.{length-projected, projected-row}
 use Rattle.qjl.proofs.fill.Statement.{statement}
 use Rattle.qjl.proofs.fill.Tie as tie
 
@@ -111,7 +111,7 @@ returns c =
     let s = c .before .before .before .before .before .before .before .before .before in
     let l = c .before .before .before .before .before .loop in
     let rest = rw (l .inv .1 .long) at (c .before .before .fill-rest .ensures) in
-    filled-all nan _ (length (s .args .out .now)) (s .args .out .now) _ _ (projected-length _ _ _ _) (λ j b. projected-row _ _ _ _ j (s .pre .query-long) b) (omega arith) (filled-join nan _ 0 (l .row) _ _ _ _ (omega arith) (l .inv .0) (l .inv .1) rest)
+    filled-all nan _ (length (s .args .out .now)) (s .args .out .now) _ _ (length-projected _ _ _ _) (λ j b. projected-row _ _ _ _ j (s .pre .query-long) b) (omega arith) (filled-join nan _ 0 (l .row) _ _ _ _ (omega arith) (l .inv .0) (l .inv .1) rest)
 
 pub fill-spec : {M : Type 1} → statement M
 fill-spec =

@@ -8,7 +8,7 @@ use lib.ListN.{length}
 use denote.Ref.{now}
 use Rattle.error.specs.Answer.{Answer, first, accepted}
 use Rattle.error.specs.Outcomes.{says}
-use Rattle.lists.proofs.Chunks.{chunks-length}
+use Rattle.lists.proofs.Chunks.{length-chunks}
 use Rattle.radius.specs.Codec.{wrongContent}
 use Rattle.radius.specs.Inner.{profileChecks, contentChecks}
 use Rattle.radius.proofs.Checks.{fit-length, fit-content, unfit-content}
@@ -44,7 +44,7 @@ first-bad-floats-requires : tie.Need-first-bad-floats-requires
 first-bad-floats-requires c κs = let a = c .before .before .before .before .before .before .args in let e : length (now (a .payload)) ≡ 4 * a .count = rw (c .enum-told2 .given .1) at (fit-length (a .profile) (a .count) (now (a .payload)) (fit (c .before .before))) in omega arith
 
 returns-2 : tie.Need-returns-2
-returns-2 c = left (c .before .before .before .before) (rw (c .before .before .enum-told2 .given .1) (simp (chunks-length, ← c .before .first-bad-floats .ensures, lt-ltb _ _ (c .if1 .taken))))
+returns-2 c = left (c .before .before .before .before) (rw (c .before .before .enum-told2 .given .1) (simp (length-chunks, ← c .before .first-bad-floats .ensures, lt-ltb _ _ (c .if1 .taken))))
 
 enum-told-3 : tie.Need-enum-told-3
 enum-told-3 c = search needs
@@ -59,7 +59,7 @@ enum-told-4 : tie.Need-enum-told-4
 enum-told-4 c = search needs
 
 returns-4 : tie.Need-returns-4
-returns-4 c = left (c .before .before .before .before) (rw (c .before .before .enum-told2 .given .1) (simp (chunks-length, ← c .before .first-bad-floats .ensures, le-ltb _ _ (c .if1 .left))))
+returns-4 c = left (c .before .before .before .before) (rw (c .before .before .enum-told2 .given .1) (simp (length-chunks, ← c .before .first-bad-floats .ensures, le-ltb _ _ (c .if1 .left))))
 
 returns-5 : tie.Need-returns-5
 returns-5 c = left (c .before .before .before .before) (rw (c .before .before .enum-told3 .given .1) (simp (sym (c .before .is-bad-range .ensures) ∙ c .if2 .left)))
