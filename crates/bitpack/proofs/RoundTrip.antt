@@ -4,7 +4,7 @@ use Prim.Native.Nat.{ℕ, zero, suc, _*_, _/_, _%_, _^_, _<_, suc-le-suc}
 use mathlib.Core.Path.{_≡_, refl, sym, ap, _∙_}
 use mathlib.Core.Bool.{Bool, true, false, not, cond, _||_}
 use mathlib.Core.List.{List, [], _∷_, map}
-use native.Mathlib.Nat.{mod-eq-of-lt, lt-of-lt-of-le, le-of-suc-le-suc, not-suc-le-zero, mul-comm, mul-one}
+use native.Mathlib.Nat.{mod-eq-of-lt, div-one, lt-of-lt-of-le, le-of-suc-le-suc, not-suc-le-zero, mul-comm, mul-one}
 use native.Mathlib.Omega.{arith}
 use lib.Dec.{ltb, eqb}
 use lib.IntN.{ℤ, pos, negsuc}
@@ -183,18 +183,31 @@ bit-small z = by (isPlus z)
 bits-below : (signs : List ℤ) → Below 2 (map bitOfSign signs)
 bits-below signs = record { at = λ i h. rw (List·getD-map bitOfSign signs i (pos 0)) (bit-small (getD signs i (pos 0))) }
 
--- every sign of a bit is a sign
-sign-good : (b : ℕ) → badSketchSign (signOfBit b) ≡ false
-sign-good b = by (eqb b 1)
+-- behind the last digit there are only zeros
+digit-below : (bits : List ℕ) (k : ℕ) → Below 2 bits → getD bits k 0 < 2
+digit-below [] k h = omega arith
+digit-below (b ∷ bs) zero h = below-head h
+digit-below (b ∷ bs) (suc k) h = digit-below bs k (below-tail h)
+
+-- a digit of one bit is that bit
+one-wide : (bits : List ℕ) (k : ℕ) → Below 2 bits → getD bits (k / 1) 0 / 2 ^ (k % 1) % 2 ≡ getD bits k 0
+one-wide bits k below =
+    let whole : k / 1 ≡ k = omega arith in
+    let none : k % 1 ≡ 0 = omega arith in
+    rw (whole, none) (ap (λ (n : ℕ). n % 2) (div-one (getD bits k 0)) ∙ mod-eq-of-lt (digit-below bits k below))
+
+-- what a bit stands for is a sign
+bit-good : (b : ℕ) → badSketchSign (signOfBit b) ≡ false
+bit-good b = by (eqb b 1)
   where
     by : (t : Bool) → badSketchSign (cond t (pos 1) (negsuc 0)) ≡ false
     by true = refl
     by false = refl
 
-signs-good : (bits : List ℕ) (i : ℕ) → i < length (map signOfBit bits) → badSketchSign (getD (map signOfBit bits) i (pos 0)) ≡ false
-signs-good [] i h = absurd (not-suc-le-zero h)
-signs-good (b ∷ bs) zero h = sign-good b
-signs-good (b ∷ bs) (suc i) h = signs-good bs i (le-of-suc-le-suc h)
+pub bits-good : (bits : List ℕ) (i : ℕ) → i < length (map signOfBit bits) → badSketchSign (getD (map signOfBit bits) i (pos 0)) ≡ false
+bits-good [] i h = absurd (not-suc-le-zero h)
+bits-good (b ∷ bs) zero h = bit-good b
+bits-good (b ∷ bs) (suc i) h = bits-good bs i (le-of-suc-le-suc h)
 
 -- ---- signs
 
@@ -229,6 +242,20 @@ module _ (signs : List ℤ) (room : ℕ) {packed : List ℕ} (told : packSignsOf
       (differs-not _ _ (length-bytes 1 n bits total small), (bytes-clean 1 n bits total small, (differs-not n n refl, tt)))
       ∙ ap value (ap (map signOfBit) back ∙ signs-bits signs (each-clear badSketchSign signs (pos 0) (pack-signs-passed .0))))
 
+  -- 'bit k is bit k mod 8 of byte k/8. .. Sign +1 is bit 1, −1 is bit 0', and behind the signs there is no bit
+  pub pack-signs-bit : (k : ℕ) → getD packed (k / 8) 0 / 2 ^ (k % 8) % 2 ≡ getD (map bitOfSign signs) k 0
+  pack-signs-bit k =
+      let n : ℕ = length signs in
+      let bits : List ℕ = map bitOfSign signs in
+      let bytes : List ℕ = digits 256 (bytesFor n) (number 2 bits) in
+      let total : length bits * 1 ≡ n = mul-one (length bits) ∙ length-map signs bitOfSign in
+      let small = bits-below signs in
+      rw (← pack-signs-bytes)
+      (sym (number-bit 8 bytes k (omega arith) (digits-below 256 (bytesFor n) (number 2 bits) (omega arith)))
+      ∙ ap (λ (x : ℕ). x / 2 ^ k % 2) (bytes-number 1 n bits total small)
+      ∙ number-bit 1 bits k (omega arith) small
+      ∙ one-wide bits k small)
+
 module _ (packed : List ℕ) (count room : ℕ) {signs : List ℤ} (told : unpackSignsOf packed count room ≡ value signs) where
   unpack-signs-passed : Passed (wrongLength packed count ∷ wrongPadding packed count ∷ wrongRoom room count ∷ [])
   unfolding unpackSignsOf
@@ -255,5 +282,9 @@ module _ (packed : List ℕ) (count room : ℕ) {signs : List ℤ} (told : unpac
       (first-accepts
       (check (ltb (place badSketchSign found) count) 10 (place badSketchSign found) ∷ wrongRoom (length packed) (bytesFor count) ∷ [])
       (value (digits 256 (bytesFor count) (number 2 bits)))
-      (rw many at (each-none badSketchSign found (pos 0) (signs-good bits)), (differs-not _ _ sized, tt))
+      (rw many at (each-none badSketchSign found (pos 0) (bits-good bits)), (differs-not _ _ sized, tt))
       ∙ ap value (clean-back 1 count count packed (mul-one count) below sized (unpack-signs-passed .1 .0)))
+
+  -- the same bits, from the bytes' side
+  pub unpack-signs-bit : Below 256 packed → (k : ℕ) → getD packed (k / 8) 0 / 2 ^ (k % 8) % 2 ≡ getD (map bitOfSign signs) k 0
+  unpack-signs-bit below k = pack-signs-bit signs (length packed) (pack-unpack-signs below) k

@@ -7,12 +7,14 @@ use Rattle.radius.proofs.RoundTrip as radii
 use Rattle.rotation.proofs.Powers as powers
 use Rattle.leaves.specs.Leaves.{Leaves}
 
-pub holds : Leaves
-holds = record {
+pub leaves-hold : Leaves
+leaves-hold = record {
   pack-bit = λ indices b room packed told. bits.pack-bit indices b room told;
   unpack-bit = λ packed count b room indices below told. bits.unpack-bit packed count b room told (record { at = below });
   unpack-pack = λ indices b room packed told. bits.unpack-pack indices b room told;
   pack-unpack = λ packed count b room indices below told. bits.pack-unpack packed count b room told (record { at = below });
+  pack-signs-bit = λ signs room packed told. bits.pack-signs-bit signs room told;
+  unpack-signs-bit = λ packed count room signs below told. bits.unpack-signs-bit packed count room told (record { at = below });
   unpack-pack-signs = λ signs room packed told. bits.unpack-pack-signs signs room told;
   pack-unpack-signs = λ packed count room signs below told. bits.pack-unpack-signs packed count room told (record { at = below });
   decompress-compress = λ rs room bytes range fit told. radii.decompress-compress rs room bytes range (record { at = fit }) told;

@@ -1,10 +1,10 @@
--- What is promised of the leaves beyond their contracts: where each bit of an index stands, that indices, signs and F32 radii come back from their bytes and bytes from
+-- What is promised of the leaves beyond their contracts: where each bit of an index and of a sign stands, that indices, signs and F32 radii come back from their bytes and bytes from
 -- them, that a square root is the nearest and the only one, and which dimensions are powers of two. Of what is given only this is asked: a byte is below 256, and a
 -- float is an f32. Assumes nothing.
 use Prim.Native.Nat.{ℕ, suc, _/_, _%_, _^_, _<_}
 use mathlib.Core.Path.{_≡_}
 use mathlib.Core.Bool.{Bool, true, false, not}
-use mathlib.Core.List.{List}
+use mathlib.Core.List.{List, map}
 use lib.Count.{ones, trailingZeros}
 use lib.Dec.{T}
 use lib.IntN.{ℤ}
@@ -16,16 +16,20 @@ use Rattle.float.specs.Bytes.{ofLeBytes, toLeBytes, AreFloats}
 use Rattle.float.specs.SquareRoot.{NearestRoot, squareRoot}
 use Rattle.float.specs.Units.{nonNegative, mag}
 use Rattle.bitpack.specs.Packing.{packIndicesOf, unpackIndicesOf}
-use Rattle.bitpack.specs.Signs.{packSignsOf, unpackSignsOf}
+use Rattle.bitpack.specs.Signs.{bitOfSign, packSignsOf, unpackSignsOf}
 use Rattle.radius.specs.Codec.{compressBytesOf, decompressOf}
 use Rattle.radius.specs.declared.Range.{Range}
 use Rattle.radius.specs.declared.RadiusCodecProfileV1.the-variants.{F32}
 
--- 'Index i of b bits occupies bits i×b upward, least significant first; bit k is bit k mod 8 of byte k/8.'
+-- Bytes and indices have the same bits: 'Index i of b bits occupies bits i×b upward, least significant first; bit k is bit k mod 8 of byte k/8.'
 abbrev pub SameBits : ℕ → List ℕ → List ℕ → Type 0
 SameBits bits packed indices = (k : ℕ) → getD packed (k / 8) 0 / 2 ^ (k % 8) % 2 ≡ getD indices (k / bits) 0 / 2 ^ (k % bits) % 2
 
--- indices, signs and F32 radii come back from their bytes, and bytes from them
+-- The same of signs: 'Sign +1 is bit 1, −1 is bit 0.' Behind the last sign there is no bit.
+abbrev pub SameSigns : List ℕ → List ℤ → Type 0
+SameSigns packed signs = (k : ℕ) → getD packed (k / 8) 0 / 2 ^ (k % 8) % 2 ≡ getD (map bitOfSign signs) k 0
+
+-- Indices, signs and F32 radii come back from their bytes, and bytes from them.
 pub record Leaves : Type 0 where
   -- indices
   pub pack-bit : (indices : List ℕ) (bits room : ℕ) (packed : List ℕ) → packIndicesOf indices bits room ≡ value packed → SameBits bits packed indices
@@ -35,6 +39,8 @@ pub record Leaves : Type 0 where
   pub pack-unpack : (packed : List ℕ) (count bits room : ℕ) (indices : List ℕ) → AreBytes packed → unpackIndicesOf packed count bits room ≡ value indices
       → packIndicesOf indices bits (length packed) ≡ value packed
   -- signs
+  pub pack-signs-bit : (signs : List ℤ) (room : ℕ) (packed : List ℕ) → packSignsOf signs room ≡ value packed → SameSigns packed signs
+  pub unpack-signs-bit : (packed : List ℕ) (count room : ℕ) (signs : List ℤ) → AreBytes packed → unpackSignsOf packed count room ≡ value signs → SameSigns packed signs
   pub unpack-pack-signs : (signs : List ℤ) (room : ℕ) (packed : List ℕ) → packSignsOf signs room ≡ value packed
       → unpackSignsOf packed (length signs) (length signs) ≡ value signs
   pub pack-unpack-signs : (packed : List ℕ) (count room : ℕ) (signs : List ℤ) → AreBytes packed → unpackSignsOf packed count room ≡ value signs

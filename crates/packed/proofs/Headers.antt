@@ -35,7 +35,7 @@ module _ (bytes : List ℕ) (at : ℕ) (h : at + 4 ≤ length bytes) where
 
 -- ---- what the checks say of the fields
 
-pub record Usable (bytes : List ℕ) : Type 0 where
+pub record HeaderUsable (bytes : List ℕ) : Type 0 where
   pub long : 6 ≤ length bytes
   pub map : mapOf bytes ≤ 3
   pub above : dimOf bytes ≡ 0 → ⊥
@@ -47,8 +47,8 @@ pub record Usable (bytes : List ℕ) : Type 0 where
   pub header : headerLength (mapOf bytes) ≤ length bytes
   pub projections : badProjections (modeOf (mapOf bytes)) (projectionsOf bytes) ≡ false
 
-pub usable : {A : Type 0} (bytes : List ℕ) (a : Answer A) {x : A} → first (headerChecks bytes) a ≡ value x → Usable bytes
-usable bytes a e =
+pub header-usable : {A : Type 0} (bytes : List ℕ) (a : Answer A) {x : A} → first (headerChecks bytes) a ≡ value x → HeaderUsable bytes
+header-usable bytes a e =
     let all = first-all (headerChecks bytes) a e in
     let powers = or-false _ _ (all .1 .1 .1 .1 .0) in
     let bits = or-false _ _ (all .1 .1 .1 .1 .1 .0) in
@@ -71,14 +71,14 @@ mode-most : (mode : TurboMode) → byMode mode 16 15 ≤ 16
 mode-most PolarOnly = omega arith
 mode-most PolarWithQjl = omega arith
 
-pub bits-most : (bytes : List ℕ) → Usable bytes → bitsOf bytes ≤ 16
+pub bits-most : (bytes : List ℕ) → HeaderUsable bytes → bitsOf bytes ≤ 16
 bits-most bytes u = let h = mode-most (modeOf (mapOf bytes)) in omega (arith, h, u .most-bits)
 
 either-most : (t : Bool) (m : ℕ) → badProjections (cond t PolarWithQjl PolarOnly) (cond t m 0) ≡ false → cond t m 0 ≤ 4096
 either-most true m e = ltb-false 4096 m (or-false (eqb m 0) (ltb 4096 m) e .1)
 either-most false m e = omega arith
 
-pub projections-most : (bytes : List ℕ) → Usable bytes → projectionsOf bytes ≤ 4096
+pub projections-most : (bytes : List ℕ) → HeaderUsable bytes → projectionsOf bytes ≤ 4096
 unfolding projectionsOf
 projections-most bytes u = either-most (hasSigns (mapOf bytes)) (wordAt bytes (projectionsStart (mapOf bytes))) (u .projections)
 
@@ -96,7 +96,7 @@ module _ {A : Type 0} (bytes : List ℕ) (a : Answer A) (long : ltb (length byte
 
 -- ---- the last check, where all before it pass
 
-pub record Passed (bytes : List ℕ) : Type 0 where
+pub record HeaderPassed (bytes : List ℕ) : Type 0 where
   pub long : ltb (length bytes) 6 ≡ false
   pub map : ltb 3 (mapOf bytes) ≡ false
   pub above : eqb (dimOf bytes) 0 ≡ false
@@ -105,7 +105,7 @@ pub record Passed (bytes : List ℕ) : Type 0 where
   pub bits : badPolarBits (modeOf (mapOf bytes)) (bitsOf bytes) ≡ false
   pub header : ltb (length bytes) (headerLength (mapOf bytes)) ≡ false
 
-module _ {A : Type 0} (bytes : List ℕ) (a : Answer A) (p : Passed bytes) where
+module _ {A : Type 0} (bytes : List ℕ) (a : Answer A) (p : HeaderPassed bytes) where
   pub header-wrong : badProjections (modeOf (mapOf bytes)) (projectionsOf bytes) ≡ true → first (headerChecks bytes) a ≡ refused 8 (projectionsOf bytes)
   header-wrong e = rw (p .long, p .map, p .above, p .even, p .power, p .bits, p .header, e)
 

@@ -18,7 +18,7 @@ use Rattle.packed.specs.declared.Header.{Header}
 part-between : (bytes : List ℕ) (at long : ℕ) → take (at + long - at) (drop at bytes) ≡ partAt bytes at long
 part-between bytes at long = let e : at + long - at ≡ long = omega arith in ap (λ (n : ℕ). take n (drop at bytes)) e
 
-length-part : (bytes : List ℕ) (at long : ℕ) → at + long ≤ length bytes → length (partAt bytes at long) ≡ long
+pub length-part : (bytes : List ℕ) (at long : ℕ) → at + long ≤ length bytes → length (partAt bytes at long) ≡ long
 length-part bytes at long h = length-take-le long (drop at bytes) (rw length-drop (omega arith))
 
 -- ---- by the header's places

@@ -1,12 +1,11 @@
 -- What scoring needs of the values that an accepted record holds: every radius as read is finite, no NaN, not below zero and an f32.
 -- Every index is below 2^bits, and every sign is −1 or 1. Assumes nothing.
-use Prim.Native.Nat.{ℕ, zero, suc, _^_, _<_}
-use native.Mathlib.Nat.{not-suc-le-zero, le-of-suc-le-suc}
-use mathlib.Core.Path.{_≡_, refl, sym, _∙_, subst}
+use Prim.Native.Nat.{ℕ, _^_, _<_}
+use mathlib.Core.Path.{_≡_, sym, _∙_, subst}
 use mathlib.Core.Bool.{Bool, true, false, cond}
-use mathlib.Core.List.{List, [], _∷_, map}
-use lib.Dec.{T, eqb}
-use lib.IntN.{pos, negsuc}
+use mathlib.Core.List.{List, [], _∷_}
+use lib.Dec.{T}
+use lib.IntN.{pos}
 use lib.ListN.{length, getD, length-map}
 use lib.Pow.{pow-pos}
 use lib.Ieee.{Float, nan, binary32, fits, isNan, lt}
@@ -17,6 +16,7 @@ use Rattle.float.specs.Bytes.{ofLeBytes}
 use Rattle.digits.specs.Digits.{number, digits}
 use Rattle.digits.proofs.Laws.{Below, length-digits, digits-below}
 use Rattle.bitpack.specs.Signs.{signOfBit, badSketchSign}
+use Rattle.bitpack.proofs.RoundTrip.{bits-good}
 use Rattle.float.specs.Constants.{posZero}
 use Rattle.radius.proofs.Radii.{radius-finite, radius-not-nan, radius-not-below}
 use Rattle.radius.specs.Codec.{radiiFor}
@@ -67,19 +67,7 @@ pub length-signsOf : (bytes : List ℕ) → length (signsOf bytes) ≡ projectio
 unfolding signsOf
 length-signsOf bytes = length-map (digits 2 (projectionsOf bytes) (number 256 (signsBytes bytes))) signOfBit ∙ length-digits 2 (projectionsOf bytes) (number 256 (signsBytes bytes))
 
-sign-good : (b : ℕ) → badSketchSign (signOfBit b) ≡ false
-sign-good b = by (eqb b 1)
-  where
-    by : (t : Bool) → badSketchSign (cond t (pos 1) (negsuc 0)) ≡ false
-    by true = refl
-    by false = refl
-
-each-good : (bits : List ℕ) (i : ℕ) → i < length (map signOfBit bits) → badSketchSign (getD (map signOfBit bits) i (pos 0)) ≡ false
-each-good [] i h = absurd (not-suc-le-zero h)
-each-good (b ∷ bs) zero h = sign-good b
-each-good (b ∷ bs) (suc i) h = each-good bs i (le-of-suc-le-suc h)
-
 -- every sign is −1 or 1
 pub signs-good : (bytes : List ℕ) (i : ℕ) → i < length (signsOf bytes) → badSketchSign (getD (signsOf bytes) i (pos 0)) ≡ false
 unfolding signsOf
-signs-good bytes i h = each-good (digits 2 (projectionsOf bytes) (number 256 (signsBytes bytes))) i h
+signs-good bytes i h = bits-good (digits 2 (projectionsOf bytes) (number 256 (signsBytes bytes))) i h

@@ -30,7 +30,7 @@ use Rattle.packed_writing.proofs.FieldsBack.{mode-back, profile-back, map-back,
 use Rattle.packed_writing.proofs.PartsBack.{length-header, length-payloadFor}
 use Rattle.packed_laws.specs.RoundTrips.{headerFor}
 use Rattle.packed_laws.proofs.Ranges.{min-fits, max-fits}
-use Rattle.packed_laws.proofs.Inputs.{Written}
+use Rattle.packed_laws.proofs.Inputs.{WrittenRecord}
 
 counted-small : (mode : TurboMode) (m : ℕ) → badProjections mode m ≡ false → counted mode m < 4294967296
 counted-small PolarOnly m e = omega arith
@@ -44,7 +44,7 @@ length-record code radii indices signs known =
     length-append header (payloadFor (code .profile) radii ++ (indexBytes (code .bits) indices ++ signBytes signs))
     ∙ rw (length-header code (rangeFor (code .profile) radii), length-append (payloadFor (code .profile) radii) (indexBytes (code .bits) indices ++ signBytes signs), length-payloadFor (code .profile) radii known, length-append (indexBytes (code .bits) indices) (signBytes signs), length-digits 256 (bytesFor (length indices * code .bits)) (number (2 ^ code .bits) indices), length-digits 256 (bytesFor (length signs)) (number 2 (map bitOfSign signs)))
 
-module _ {code : Code} {radii : List Float} {indices : List ℕ} {signs : List ℤ} {room : ℕ} {bytes : List ℕ} (w : Written code radii indices signs room bytes) where
+module _ {code : Code} {radii : List Float} {indices : List ℕ} {signs : List ℤ} {room : ℕ} {bytes : List ℕ} (w : WrittenRecord code radii indices signs room bytes) where
   pub map-written : mapOf bytes ≡ mapFor (code .profile) (code .mode)
   map-written = ap mapOf (w .made) ∙ map-back code radii indices signs
 

@@ -27,7 +27,7 @@ use Rattle.packed_size.specs.Size.{neededFor}
 use Rattle.packed_writing.specs.Writing.{recordOf, fieldChecks, valueChecks, writeRecordOf}
 use Rattle.setup.specs.Setups.{counted}
 
-pub record Written (code : Code) (radii : List Float) (indices : List ℕ) (signs : List ℤ) (room : ℕ) (bytes : List ℕ) : Type 0 where
+pub record WrittenRecord (code : Code) (radii : List Float) (indices : List ℕ) (signs : List ℤ) (room : ℕ) (bytes : List ℕ) : Type 0 where
   pub made : bytes ≡ recordOf code radii indices signs
   pub known : badProfile (code .profile) ≡ false
   pub above : 0 < code .dim
@@ -46,7 +46,7 @@ pub record Written (code : Code) (radii : List Float) (indices : List ℕ) (sign
   pub sized : room ≡ neededFor code
 
 pub written : (code : Code) (radii : List Float) (indices : List ℕ) (signs : List ℤ) (room : ℕ) {bytes : List ℕ}
-    → writeRecordOf code radii indices signs room ≡ value bytes → Written code radii indices signs room bytes
+    → writeRecordOf code radii indices signs room ≡ value bytes → WrittenRecord code radii indices signs room bytes
 unfolding writeRecordOf
 written code radii indices signs room told =
     let checks = fieldChecks code (length radii) (length indices) (length signs) ++ valueChecks (code .profile) (code .bits) radii indices signs ++ (wrongRoom room (neededFor code) ∷ []) in

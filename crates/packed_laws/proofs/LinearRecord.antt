@@ -25,10 +25,10 @@ use Rattle.packed.specs.Fields.{mapOf, hasRange, profileOf, floatAt, boundsOf}
 use Rattle.packed.specs.Layout.{pairsOf, radiiStart, radiiLength, recordLength, radiiBytes, headerOf}
 use Rattle.packed.specs.Radii.{badBounds, badBoundsFor}
 use Rattle.packed.specs.Reading.{radiiOf, wrongSize, headerChecks, paddingChecks, readRecordOf}
-use Rattle.packed.proofs.Parts.{length-radii}
+use Rattle.packed.proofs.Parts.{length-part, length-radii}
 use Rattle.packed.proofs.Payloads.{length-radiiOf}
 use Rattle.packed_laws.proofs.Ranges.{zero-fits}
-use Rattle.packed_laws.proofs.Parts.{length-part, part-below}
+use Rattle.packed_laws.proofs.Parts.{part-below}
 use Rattle.packed_laws.proofs.LinearRadius.{linear-radius-good, linear-radius-infinite}
 use Rattle.packed_laws.proofs.Refused.{refused-here, place-offends}
 
@@ -61,7 +61,7 @@ module _ (bytes : List ℕ) (b : Below 256 bytes) (linear : hasRange (mapOf byte
   two-small =
       let long : length (radiiBytes bytes) ≡ 2 * pairsOf bytes = length-radii bytes sized ∙ rw linear in
       let inside : 2 * i + 2 ≤ length (radiiBytes bytes) = omega (arith, long, h) in
-      two-bytes (take 2 (drop (2 * i) (radiiBytes bytes))) (part-below (radiiBytes bytes) radii-below (2 * i) 2 inside) (length-part (radiiBytes bytes) radii-below (2 * i) 2 inside)
+      two-bytes (take 2 (drop (2 * i) (radiiBytes bytes))) (part-below (radiiBytes bytes) radii-below (2 * i) 2 inside) (length-part (radiiBytes bytes) (2 * i) 2 inside)
 
   -- whatever the bytes are, a radius of a linear record is no NaN and not below zero
   pub linear-record-good : (isNan (getD (radiiOf bytes) i nan) ≡ false) × (lt (getD (radiiOf bytes) i nan) posZero ≡ false)

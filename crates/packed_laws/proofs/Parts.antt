@@ -6,7 +6,7 @@ use mathlib.Core.List.{List, [], _∷_, _++_}
 use native.Mathlib.Omega.{arith}
 use lib.Dec.{T}
 use lib.ListN.{length, getD, take, drop, length-drop, take-append-drop}
-use lib.Seq.{take-all, getD-take, getD-drop, length-take-le, drop-drop, take-add}
+use lib.Seq.{take-all, getD-take, getD-drop, drop-drop, take-add}
 use Rattle.digits.specs.Digits.{digits}
 use Rattle.digits.proofs.Laws.{Below, digits-number}
 use Rattle.lists.proofs.Stores.{run-next}
@@ -16,31 +16,29 @@ use Rattle.radius.specs.Radii.{badRadius}
 use Rattle.radius.proofs.Radii.{radius-not-nan}
 use Rattle.packed.specs.Fields.{wordAt, floatAt}
 use Rattle.packed.specs.Layout.{partAt}
+use Rattle.packed.proofs.Parts.{length-part}
 
 -- a part of bytes is of bytes
 module _ (bytes : List ℕ) (b : Below 256 bytes) (at long : ℕ) (h : at + long ≤ length bytes) where
-  pub length-part : length (partAt bytes at long) ≡ long
-  length-part = length-take-le long (drop at bytes) (rw length-drop (omega (arith, h)))
-
   pub part-below : Below 256 (partAt bytes at long)
   part-below = record { at = inside }
     where
       inside : (i : ℕ) → i < length (partAt bytes at long) → getD (partAt bytes at long) i 0 < 256
       inside i g =
-          let small : i < long = omega (arith, g, length-part) in
+          let small : i < long = omega (arith, g, length-part bytes at long h) in
           rw (getD-take long (drop at bytes) i 0 small, getD-drop) (b .at (at + i) (omega (arith, h, small)))
 
 module _ (bytes : List ℕ) (b : Below 256 bytes) (at : ℕ) (h : at + 4 ≤ length bytes) where
   -- a u32's bytes
   pub word-again : digits 256 4 (wordAt bytes at) ≡ partAt bytes at 4
   word-again =
-      ap (λ (n : ℕ). digits 256 n (wordAt bytes at)) (sym (length-part bytes b at 4 h))
+      ap (λ (n : ℕ). digits 256 n (wordAt bytes at)) (sym (length-part bytes at 4 h))
       ∙ digits-number 256 (partAt bytes at 4) (part-below bytes b at 4 h)
 
   -- an f32's bytes, of one that is no NaN
   pub float-again : badRadius (floatAt bytes at) ≡ false → toLeBytes (floatAt bytes at) ≡ partAt bytes at 4
   float-again good =
-      toLeBytes-ofLeBytes (partAt bytes at 4) (part-below bytes b at 4 h) (length-part bytes b at 4 h)
+      toLeBytes-ofLeBytes (partAt bytes at 4) (part-below bytes b at 4 h) (length-part bytes at 4 h)
       (subst (λ (t : Bool). T (not t)) (sym (radius-not-nan (floatAt bytes at) good)) tt)
 
 -- what stands from a place on, with a part of it split off

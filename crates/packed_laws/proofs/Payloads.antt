@@ -38,7 +38,7 @@ use Rattle.radius.specs.Firsts.{readBack}
 use Rattle.packed.proofs.Headers.{product-most}
 use Rattle.packed_writing.proofs.Writing.{indices-pass, signs-pass}
 use Rattle.packed_writing.proofs.PartsBack.{length-header, length-payloadFor, radii-back}
-use Rattle.packed_laws.proofs.Inputs.{Written}
+use Rattle.packed_laws.proofs.Inputs.{WrittenRecord}
 use Rattle.packed_laws.proofs.Fields.{map-written, profile-written, dim-written, bits-written, projections-written, bounds-written}
 
 -- ---- parts of joined lists
@@ -79,7 +79,7 @@ floats-readBack radii f =
     chunks-joined toLeBytes 4 length-toLeBytes ofLeBytes radii
     ∙ map-same (λ r. ofLeBytes (toLeBytes r)) radii nan (λ i h. ofLeBytes-toLeBytes (getD radii i nan) (f .at i h))
 
-module _ {code : Code} {radii : List Float} {indices : List ℕ} {signs : List ℤ} {room : ℕ} {bytes : List ℕ} (w : Written code radii indices signs room bytes) where
+module _ {code : Code} {radii : List Float} {indices : List ℕ} {signs : List ℤ} {room : ℕ} {bytes : List ℕ} (w : WrittenRecord code radii indices signs room bytes) where
   -- ---- the payloads' bytes
 
   pub radii-bytes-written : radiiBytes bytes ≡ payloadFor (code .profile) radii

@@ -27,7 +27,7 @@ use Rattle.packed.specs.Accepted.{Accepted}
 use Rattle.packed_size.specs.Size.{mapFor}
 use Rattle.setup.specs.Setups.{counted}
 use Rattle.packed_laws.proofs.Ranges.{range-good}
-use Rattle.packed_laws.proofs.Inputs.{Written}
+use Rattle.packed_laws.proofs.Inputs.{WrittenRecord}
 use Rattle.packed_laws.proofs.Fields.{map-written, dim-written, bits-written, projections-written, bounds-written, length-written, total-written}
 use Rattle.packed_laws.proofs.Payloads.{bits-few, radii-written, indices-clean, signs-clean}
 
@@ -67,7 +67,7 @@ range-passes F32 PolarWithQjl radii e h t = true-not-false (sym t)
 range-passes BlockLinearU16 mode radii e h t = range-good radii h
 range-passes BlockLogU8 mode radii e h t = true-not-false e
 
-module _ {code : Code} {radii : List Float} {indices : List ℕ} {signs : List ℤ} {room : ℕ} {bytes : List ℕ} (w : Written code radii indices signs room bytes) where
+module _ {code : Code} {radii : List Float} {indices : List ℕ} {signs : List ℤ} {room : ℕ} {bytes : List ℕ} (w : WrittenRecord code radii indices signs room bytes) where
   header-fits : headerLength (mapOf bytes) ≤ length bytes
   header-fits = rw (map-written w) (omega (arith, length-written w, w .sized))
 

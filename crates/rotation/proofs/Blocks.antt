@@ -22,8 +22,8 @@ partly-start h start xs =
     }
 
 -- the sum and the difference of the pair (low, low + h), stored
-abbrev pub turned : ℕ → ℕ → List Float → List Float
-turned h low ys =
+abbrev pub pairStored : ℕ → ℕ → List Float → List Float
+pairStored h low ys =
     set (set ys low (add binary32 (entryAt ys low) (entryAt ys (low + h)))) (low + h) (sub binary32 (entryAt ys low) (entryAt ys (low + h)))
 
 module _ (h start done : ℕ) (xs ys : List Float) (inv : Partly h start done xs ys) (more : done < h) (room : start + 2 * h ≤ length xs) where
@@ -33,25 +33,25 @@ module _ (h start done : ℕ) (xs ys : List Float) (inv : Partly h start done xs
   high-same : entryAt ys (start + done + h) ≡ entryAt xs (start + done + h)
   high-same = inv .highs done (omega arith)
 
-  at-high : entryAt (turned h (start + done) ys) (start + done + h) ≡ sub binary32 (entryAt xs (start + done)) (entryAt xs (start + done + h))
+  at-high : entryAt (pairStored h (start + done) ys) (start + done + h) ≡ sub binary32 (entryAt xs (start + done)) (entryAt xs (start + done + h))
   at-high =
       stores-second ys (start + done) (start + done + h) _ _ _ (omega (arith, inv .long))
       ∙ ap₂ (sub binary32) low-same high-same
 
-  at-low : entryAt (turned h (start + done) ys) (start + done) ≡ add binary32 (entryAt xs (start + done)) (entryAt xs (start + done + h))
+  at-low : entryAt (pairStored h (start + done) ys) (start + done) ≡ add binary32 (entryAt xs (start + done)) (entryAt xs (start + done + h))
   at-low =
       stores-first ys (start + done) (start + done + h) _ _ _ (omega arith) (omega (arith, inv .long))
       ∙ ap₂ (add binary32) low-same high-same
 
-  at-other : (i : ℕ) → i ≢ start + done → i ≢ start + done + h → entryAt (turned h (start + done) ys) i ≡ entryAt ys i
+  at-other : (i : ℕ) → i ≢ start + done → i ≢ start + done + h → entryAt (pairStored h (start + done) ys) i ≡ entryAt ys i
   at-other i l g = stores-other ys (start + done) (start + done + h) _ _ _ i l g
 
-  pub partly-more : Partly h start (done + 1) xs (turned h (start + done) ys)
+  pub partly-more : Partly h start (done + 1) xs (pairStored h (start + done) ys)
   partly-more =
       record {
         long = simp length-set (inv .long);
-        sums = below-more (λ (o : ℕ). entryAt (turned h (start + done) ys) (start + o) ≡ add binary32 (entryAt xs (start + o)) (entryAt xs (start + o + h))) done (λ o l. at-other (start + o) (omega arith) (omega arith) ∙ inv .sums o l) at-low;
-        differences = below-more (λ (o : ℕ). entryAt (turned h (start + done) ys) (start + o + h) ≡ sub binary32 (entryAt xs (start + o)) (entryAt xs (start + o + h))) done (λ o l. at-other (start + o + h) (omega arith) (omega arith) ∙ inv .differences o l) at-high;
+        sums = below-more (λ (o : ℕ). entryAt (pairStored h (start + done) ys) (start + o) ≡ add binary32 (entryAt xs (start + o)) (entryAt xs (start + o + h))) done (λ o l. at-other (start + o) (omega arith) (omega arith) ∙ inv .sums o l) at-low;
+        differences = below-more (λ (o : ℕ). entryAt (pairStored h (start + done) ys) (start + o + h) ≡ sub binary32 (entryAt xs (start + o)) (entryAt xs (start + o + h))) done (λ o l. at-other (start + o + h) (omega arith) (omega arith) ∙ inv .differences o l) at-high;
         before = λ i l. at-other i (omega arith) (omega arith) ∙ inv .before i l;
         lows = λ o l m. at-other (start + o) (omega arith) (omega arith) ∙ inv .lows o (omega arith) m;
         highs = λ o l. at-other (start + o + h) (omega arith) (omega arith) ∙ inv .highs o (omega arith);

@@ -8,8 +8,8 @@ use Rattle.packed.proofs.Examples.{p12, p12-radii, p12-indices, p12-signs, p13,
 use Rattle.packed_writing.proofs.Examples.{p12-written, p13-written}
 use Rattle.table.specs.Table.{Table}
 
-pub holds : Table
-holds = record {
+pub table-holds : Table
+table-holds = record {
   p1 = p1;
   p2 = p2;
   p3 = p3;

@@ -1,5 +1,5 @@
 -- Document 01's worked cases, P1 to P13, as one table: each row is a definition that contracts cite, at the row's input, and what the document says of it. Its one
--- truth, `holds`, covers all rows. Bytes and patterns are hexadecimal, as there. Assumes nothing.
+-- truth, `table-holds`, covers all rows. Bytes and patterns are hexadecimal, as there. Assumes nothing.
 use Prim.Native.Nat.{ℕ, _≤_}
 use mathlib.Core.Path.{_≡_}
 use mathlib.Core.Bool.{true, false}

@@ -196,14 +196,15 @@ module _ (s : Setup) (l : Lent) (query rotated projected : List Float) {said : A
 
 module _ (s : Setup) (l : Lent) (query : List Float) where
   -- what a call says and leaves, of outputs that held these
-  abbrev Prepared : List Float → List Float → Answer (Unit {0}) → List Float → List Float → Type 0
-  Prepared rotated projected said new also =
+  -- what is answered and left in both outputs, by the definitions
+  abbrev Outputs : List Float → List Float → Answer (Unit {0}) → List Float → List Float → Type 0
+  Outputs rotated projected said new also =
       (said ≡ done (prepareRotatedOf s l query (length rotated) (length projected)))
       × ((new ≡ after (prepareRotatedOf s l query (length rotated) (length projected)) rotated)
       × (also ≡ after (prepareProjectedOf s l query (length rotated) (length projected)) projected))
 
   -- after a try that left both outputs as they were
   pub prepare-again : {mid old between former new also : List Float} {said : Answer (Unit {0})} → mid ≡ old → between ≡ former
-      → Prepared mid between said new also → Prepared old former said new also
+      → Outputs mid between said new also → Outputs old former said new also
   prepare-again {mid} {old} {between} {former} {new} {also} {said} e f h =
-      subst (λ (xs : List Float). Prepared old xs said new also) f (subst (λ (xs : List Float). Prepared xs between said new also) e h)
+      subst (λ (xs : List Float). Outputs old xs said new also) f (subst (λ (xs : List Float). Outputs xs between said new also) e h)

@@ -13,7 +13,7 @@ use Rattle.setup.specs.declared.TurboMode.{TurboMode}
 use Rattle.packed.specs.Fields.{mapOf, modeOf, dimOf, bitsOf, projectionsOf}
 use Rattle.packed.specs.Reading.{shapeChecks}
 use Rattle.setup.specs.Checks.{badProjections}
-use Rattle.packed.proofs.Headers.{word-run, Passed, header-shape, header-cut, header-wrong, header-right}
+use Rattle.packed.proofs.Headers.{word-run, HeaderPassed, header-shape, header-cut, header-wrong, header-right}
 use borrow.Author.Tests.{lt-ltb, le-ltb}
 use borrow.Author.Needs.{needs}
 use Rattle.packed.proofs.check_header.Statement.{statement}
@@ -44,7 +44,7 @@ shaped : (c : tie.After-enum-told) → let bytes = now (c .before .before .befor
 shaped c = sym (shape (c .before .before)) ∙ ap says (c .enum-told .given .1)
 
 -- all checks but the last
-passed : (c : tie.Else3) → Passed (now (c .before .before .before .before .before .before .before .before .before .before .before .before .args .bytes))
+passed : (c : tie.Else3) → HeaderPassed (now (c .before .before .before .before .before .before .before .before .before .before .before .before .args .bytes))
 passed c =
     let bytes = now (c .before .before .before .before .before .before .before .before .before .before .before .before .args .bytes) in
     let all = first-all (shapeChecks (modeOf (mapOf bytes)) (dimOf bytes) (bitsOf bytes)) accepted (shaped (c .before .before)) in

@@ -12,7 +12,7 @@ use Rattle.error.specs.Outcomes.{says}
 use Rattle.bitpack.specs.Padding.{validatePaddingZeroOf}
 use Rattle.packed.specs.Fields.{bitsOf}
 use Rattle.packed.specs.Layout.{pairsOf, indicesUsed, indicesBytes, signsBytes}
-use Rattle.packed.proofs.Headers.{usable, bits-most, product-most}
+use Rattle.packed.proofs.Headers.{header-usable, bits-most, product-most}
 use Rattle.packed.proofs.Parts.{Ordered, ordered, indices-part, signs-part, header-used, header-projections}
 use Rattle.packed.proofs.Payloads.{padding-indices, padding-signs}
 use Rattle.packed.proofs.check_padding.Statement.{statement}
@@ -31,7 +31,7 @@ mul-used : tie.Need-mul-used
 mul-used c =
     let s = c .before .before .before in
     let bytes = now (s .args .bytes) in
-    let u = usable bytes accepted (s .pre .passed) in
+    let u = header-usable bytes accepted (s .pre .passed) in
     let p = product-most (pairsOf bytes) (bitsOf bytes) 2048 16 (omega (arith, u .most)) (bits-most bytes u) in
     omega (arith, header-used bytes (s .pre .own), p)
 

@@ -7,7 +7,7 @@ use lib.ListN.{getD}
 use Rattle.error.specs.Answer.{accepted}
 use Rattle.packed.specs.Fields.{dimOf}
 use Rattle.packed.specs.Layout.{headerOf}
-use Rattle.packed.proofs.Headers.{word-run, usable, bits-most, projections-most, product-most}
+use Rattle.packed.proofs.Headers.{word-run, header-usable, bits-most, projections-most, product-most}
 use Rattle.radius.proofs.Checks.{width-most}
 use borrow.Author.Needs.{needs}
 use Rattle.packed.proofs.header_of.Statement.{statement}
@@ -17,7 +17,7 @@ use Rattle.packed.proofs.header_of.Tie as tie
 dim-read : (c : tie.After-get-u32) → c .get-u32 .result ≡ dimOf (now (c .before .before .before .args .bytes))
 dim-read c =
     let bytes = now (c .before .before .before .args .bytes) in
-    c .get-u32 .ensures ∙ word-run bytes 1 (omega (arith, usable bytes accepted (c .before .before .before .pre) .long))
+    c .get-u32 .ensures ∙ word-run bytes 1 (omega (arith, header-usable bytes accepted (c .before .before .before .pre) .long))
 
 -- the sizes that the sums are made of
 pub record Sizes (head width dim bits m : ℕ) : Type 0 where
@@ -30,7 +30,7 @@ sizes : (c : tie.After-width-of) → let a = c .before .before .before .before .
     Sizes (c .before .header-length .result) (c .width-of .result) (c .before .before .before .before .before .get-u32 .result) (getD (now (a .bytes)) 5 0) (c .before .before .before .projections-of .result)
 sizes c =
     let s = c .before .before .before .before .before .before .before .before in
-    let u = usable (now (s .args .bytes)) accepted (s .pre) in
+    let u = header-usable (now (s .args .bytes)) accepted (s .pre) in
     let d = dim-read (c .before .before .before .before .before) in
     let w = width-most (c .before .before .profile-of .result) in
     let b = bits-most _ u in
@@ -45,16 +45,16 @@ sizes c =
     }
 
 shared-slice-read-map : tie.Need-shared-slice-read-map
-shared-slice-read-map c = omega (arith, usable (now (c .before .before .args .bytes)) accepted (c .before .before .pre) .long)
+shared-slice-read-map c = omega (arith, header-usable (now (c .before .before .args .bytes)) accepted (c .before .before .pre) .long)
 
 get-u32-requires : tie.Need-get-u32-requires
-get-u32-requires c κs = omega (arith, usable (now (c .before .before .args .bytes)) accepted (c .before .before .pre) .long)
+get-u32-requires c κs = omega (arith, header-usable (now (c .before .before .args .bytes)) accepted (c .before .before .pre) .long)
 
 shared-slice-read-bits : tie.Need-shared-slice-read-bits
-shared-slice-read-bits c = omega (arith, usable (now (c .before .before .before .before .args .bytes)) accepted (c .before .before .before .before .pre) .long)
+shared-slice-read-bits c = omega (arith, header-usable (now (c .before .before .before .before .args .bytes)) accepted (c .before .before .before .before .pre) .long)
 
 projections-of-requires : tie.Need-projections-of-requires
-projections-of-requires c κs = let u = usable (now (c .before .before .before .before .args .bytes)) accepted (c .before .before .before .before .pre) in (u .long, u .header)
+projections-of-requires c κs = let u = header-usable (now (c .before .before .before .before .args .bytes)) accepted (c .before .before .before .before .pre) in (u .long, u .header)
 
 profile-of-requires : tie.Need-profile-of-requires
 profile-of-requires c κs = search needs
@@ -93,7 +93,7 @@ mode-of-requires : tie.Need-mode-of-requires
 mode-of-requires c κs = search needs
 
 bounds-of-requires : tie.Need-bounds-of-requires
-bounds-of-requires c κs = let u = usable (now (c .before .before .before .before .before .before .before .before .before .args .bytes)) accepted (c .before .before .before .before .before .before .before .before .before .pre) in (u .long, u .header)
+bounds-of-requires c κs = let u = header-usable (now (c .before .before .before .before .before .before .before .before .before .args .bytes)) accepted (c .before .before .before .before .before .before .before .before .before .pre) in (u .long, u .header)
 
 returns : tie.Need-returns
 unfolding headerOf
