@@ -1,5 +1,6 @@
 -- The anchors hold: each is computed. Assumes nothing.
 use mathlib.Core.Path.{refl}
+use native.Mathlib.Omega.{arith}
 use lib.Count.{ones, onesIn, trailingZeros}
 use lib.Ieee.{ofBits, add, sub, mul, div, lt, le, ne, ofInt}
 use Rattle.bitpack.specs.Padding.{badPadding}
@@ -42,6 +43,16 @@ anchors = record {
   p13-score = refl;
   p13-exact = record { even = refl };
   p13-bound = refl;
+  p13-distance = refl;
+  p13-decoded = refl;
+  near = record { above = omega arith; below = omega arith };
+  near-turned = record { above = omega arith; below = omega arith };
+  not-near = λ n. omega (arith, n .above);
+  not-near-turned = λ n. omega (arith, n .below);
+  under = record { strict = omega arith };
+  not-under = λ u. omega (arith, u .strict);
+  same = record { even = refl };
+  not-same = λ s. omega (arith, s .even);
   per-unit = refl;
   per-step = refl;
   per-radius = refl;

@@ -8,7 +8,7 @@ use lib.IntN.{pos, negsuc}
 use lib.Ieee.{Float, fin, binary32, ofBits}
 use Rattle.error.specs.Answer.{value}
 use Rattle.float.specs.Constants.{posZero, one}
-use Rattle.rounding.specs.Signed.{Diff, Same, signed}
+use Rattle.rounding.specs.Signed.{Diff, Near, Same, Under, signed}
 use Rattle.rounding.specs.Sums.{exactTotal, absoluteSum}
 use Rattle.rounding.specs.Rows.{exactProjected, projectedSizes}
 use Rattle.rotation.specs.Exact.{exactRotated}
@@ -76,6 +76,18 @@ pub record Anchors : Type 0 where
   pub p13-score : innerProductEstimateOf residualSetup residualLent queryLent withSigns ≡ value (ofBits binary32 0x3F8F_FC02)
   pub p13-exact : Same (exactOf residualSetup residualLent queryLent withSigns) (whole (11863283 * 2 ^ 595 + 14018081 * 2 ^ 594))
   pub p13-bound : boundFor residualSetup residualLent queryLent withSigns ≡ 21 * (11863283 * 2 ^ 572 + 3 * 14018081 * 2 ^ 571) + 2 ^ 473 + 8 * 2 ^ 473
+  -- 1 + 1 − 2 × score is below zero, so it is cut
+  pub p13-distance : l2DistanceEstimateOf residualSetup residualLent queryLent withSigns ≡ value posZero
+  pub p13-decoded : decodeApproximateOf residualSetup residualLent withSigns 2 ≡ value (ofBits binary32 0x3F35_04F3 ∷ ofBits binary32 0x3F35_04F3 ∷ [])
+  -- ---- what demand 3 compares with: 5 and 3 are 2 apart and not 1, 3 is below 5 by more than 1 and not by more than 2, and 5 − 2 is 3 − 0
+  pub near : Near (whole 5) (whole 3) 2
+  pub near-turned : Near (whole 3) (whole 5) 2
+  pub not-near : Near (whole 5) (whole 3) 1 → ⊥
+  pub not-near-turned : Near (whole 3) (whole 5) 1 → ⊥
+  pub under : Under 1 (whole 3) (whole 5)
+  pub not-under : Under 2 (whole 3) (whole 5) → ⊥
+  pub same : Same (record { plus = 5; minus = 2 }) (whole 3)
+  pub not-same : Same (whole 5) (whole 3) → ⊥
   -- ---- how many of 2^−619 make 2^−149, 1 / 2^146 and 2^−149 / 2^146
   pub per-unit : perUnit ≡ 2 ^ (619 - 149)
   pub per-step : perStep ≡ 2 ^ (619 - 146)

@@ -1,5 +1,4 @@
 pub mod Lengths
-pub mod Differs
 pub mod Padding
 pub mod Digits
 pub mod Windows

@@ -20,7 +20,7 @@ use Rattle.bitpack.specs.Packing.{packIndicesOf, unpackIndicesOf, badInd
 use Rattle.bitpack.specs.Signs.{isPlus, badSketchSign, bitOfSign, signOfBit, packSignsOf, unpackSignsOf}
 use Rattle.error.proofs.Chains.{Passed, first-passes, first-value, first-accepts, or-false}
 use Rattle.error.proofs.Places.{each-clear, each-none}
-use Rattle.bitpack.proofs.Differs.{differs-not, differs-same}
+use Rattle.error.proofs.Differs.{differs-not, differs-same}
 use Rattle.bitpack.proofs.Bits.{power-power, number-bit, padded-number}
 
 -- ---- digits of `bits` bits each in bytes, and back; `used` is how many bits they take

@@ -3,3 +3,4 @@ pub mod Answers
 pub mod Chains
 pub mod Sweep
 pub mod Finite
+pub mod Differs

@@ -166,7 +166,3 @@ decode-toBits x h n =
 pub mag-toBits : (x : Float) → T (fits binary32 x) → T (nonNegative x) → mag x ≡ significandOf (toBits binary32 x) * 2 ^ shiftOf (toBits binary32 x)
 unfolding unit
 mag-toBits x h n = mag-of-value x false (significandOf (toBits binary32 x) * 2 ^ shiftOf (toBits binary32 x)) (decode-toBits x h n)
-
--- so the size of such an f32 is its exact value
-pub mag-value : (x : Float) → T (fits binary32 x) → T (nonNegative x) → HasValue x false (mag x) (2 ^ 149)
-mag-value x h n = subst (λ (u : ℕ). HasValue x false u (2 ^ 149)) (sym (mag-toBits x h n)) (decode-toBits x h n)

@@ -2,7 +2,7 @@
 -- the bytes hold. Assumes nothing.
 use Prim.Native.Nat.{ℕ, _%_, _≤_, _<_}
 use mathlib.Core.Path.{_≡_, refl, sym}
-use mathlib.Core.Bool.{Bool, true, false, cond}
+use mathlib.Core.Bool.{Bool, true, false, cond, true≢false}
 use mathlib.Core.List.{List}
 use native.Mathlib.Omega.{arith}
 use borrow.Author.Tests.{le-ltb, ltb-false, eq-eqb, eqb-true, ne-eqb, eqb-false, not-false}
@@ -13,7 +13,7 @@ use lib.Ieee.{nan}
 use Rattle.error.specs.Answer.{value}
 use Rattle.error.proofs.Chains.{first-all, first-accepts, or-false, first-value}
 use Rattle.error.proofs.Places.{each-clear, each-none}
-use Rattle.bitpack.proofs.Differs.{differs-same, differs-not}
+use Rattle.error.proofs.Differs.{differs-same, differs-not}
 use Rattle.radius.specs.declared.Range.{Range}
 use Rattle.radius.specs.declared.RadiusCodecProfileV1.the-variants.{F32, BlockLinearU16}
 use Rattle.setup.specs.declared.TurboMode.the-variants.{PolarOnly, PolarWithQjl}
@@ -28,9 +28,6 @@ use Rattle.packed.specs.Accepted.{Accepted}
 
 -- ---- the checks that depend on a bit of the map byte, both ways
 
-true-not-false : {A : Type 0} → true ≡ false → A
-true-not-false e = let z : _≡_ {A = ℕ} 0 1 = cc in absurd (omega arith)
-
 bits-told : (t : Bool) (b : ℕ) → badPolarBits (cond t PolarWithQjl PolarOnly) b ≡ false → (1 ≤ b) × ((b ≤ 16) × (t ≡ true → b ≤ 15))
 bits-told true b e =
     let both = or-false (ltb b 1) (ltb 15 b) e in
@@ -39,7 +36,7 @@ bits-told true b e =
     (least, (omega (arith, most), λ s. most))
 bits-told false b e =
     let both = or-false (ltb b 1) (ltb 16 b) e in
-    (ltb-false b 1 (both .0), (ltb-false 16 b (both .1), λ s. true-not-false (sym s)))
+    (ltb-false b 1 (both .0), (ltb-false 16 b (both .1), λ s. absurd (true≢false (sym s))))
 
 bits-pass : (t : Bool) (b : ℕ) → 1 ≤ b → b ≤ 16 → (t ≡ true → b ≤ 15) → badPolarBits (cond t PolarWithQjl PolarOnly) b ≡ false
 bits-pass true b least most beside = rw (le-ltb b 1 least, le-ltb 15 b (beside refl))
@@ -50,7 +47,7 @@ projections-told true m e s =
     let both = or-false (eqb m 0) (ltb 4096 m) e in
     let above = eqb-false m 0 (both .0) in
     (omega (arith, above), ltb-false 4096 m (both .1))
-projections-told false m e s = true-not-false (sym s)
+projections-told false m e s = absurd (true≢false (sym s))
 
 projections-pass : (t : Bool) (m : ℕ) → (t ≡ true → (0 < m) × (m ≤ 4096)) → badProjections (cond t PolarWithQjl PolarOnly) m ≡ false
 projections-pass true m h = let both = h refl in rw (ne-eqb m 0 (λ z. omega (arith, z, both .0)), le-ltb 4096 m (both .1))
@@ -58,7 +55,7 @@ projections-pass false m h = refl
 
 bounds-told : (t : Bool) (range : Range) → badBoundsFor (cond t BlockLinearU16 F32) range ≡ false → t ≡ true → badBounds range ≡ false
 bounds-told true range e s = e
-bounds-told false range e s = true-not-false (sym s)
+bounds-told false range e s = absurd (true≢false (sym s))
 
 bounds-pass : (t : Bool) (range : Range) → (t ≡ true → badBounds range ≡ false) → badBoundsFor (cond t BlockLinearU16 F32) range ≡ false
 bounds-pass true range h = h refl

@@ -16,7 +16,7 @@ use Rattle.error.proofs.Chains.{first-all, first-value, or-false}
 use Rattle.error.proofs.Places.{each-clear}
 use Rattle.bitpack.specs.Packing.{badIndex}
 use Rattle.bitpack.specs.Signs.{badSketchSign}
-use Rattle.bitpack.proofs.Differs.{differs-same}
+use Rattle.error.proofs.Differs.{differs-same}
 use Rattle.radius.specs.Codec.{badProfile}
 use Rattle.radius.specs.Radii.{badRadius}
 use Rattle.packed.specs.declared.Code.{Code}

@@ -14,7 +14,7 @@ use Rattle.error.specs.Answer.{refused, check, place}
 use Rattle.digits.specs.Digits.{number}
 use Rattle.digits.proofs.Laws.{Below, number-lt}
 use Rattle.float.specs.Bytes.{ofLeBytes}
-use Rattle.bitpack.proofs.Differs.{differs-same}
+use Rattle.error.proofs.Differs.{differs-same}
 use Rattle.error.specs.Checks.{differs}
 use Rattle.radius.specs.Linear.{linearRadius}
 use Rattle.float.specs.Constants.{posZero}

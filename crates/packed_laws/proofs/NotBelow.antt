@@ -61,11 +61,6 @@ value-not-below nan a c v = v
 value-not-below (inf s) a c v = absurd v
 value-not-below (fin s m e) a c v = λ p. absurd (true≢false (sym p ∙ v .0))
 
-pub value-finite : (x : Float) (s : Bool) (a c : ℕ) → HasValue x s a c → T (finite x)
-value-finite nan s a c v = v
-value-finite (inf t) s a c v = v
-value-finite (fin t m e) s a c v = tt
-
 units-not-below : (q k : ℕ) → NotBelow (units binary32 false q k)
 unfolding units
 units-not-below q k = go (ltb (q * 2 ^ k) (2 ^ (low binary32 + suc (emax binary32))))

@@ -5,15 +5,13 @@ use mathlib.Core.Path.{_≡_, refl, sym, ap, _∙_}
 use mathlib.Core.Bool.{false}
 use mathlib.Core.List.{List, [], _∷_, _++_, append-assoc}
 use native.Mathlib.Omega.{arith}
-use borrow.Author.Tests.{ltb-false}
-use lib.Dec.{ltb}
 use lib.IntN.{ℤ}
 use lib.ListN.{length, getD, take, length-append}
 use lib.Seq.{take-all, take-at, drop-at}
 use lib.Ieee.{Float, nan}
 use Rattle.error.specs.Answer.{value}
 use Rattle.error.specs.Checks.{wrongBits, wrongRoom}
-use Rattle.error.proofs.Chains.{first-passes, or-false}
+use Rattle.error.proofs.Chains.{first-passes}
 use Rattle.digits.specs.Digits.{number}
 use Rattle.digits.proofs.Laws.{length-digits}
 use Rattle.float.specs.Bytes.{ofLeBytes, toLeBytes}
@@ -26,18 +24,17 @@ use Rattle.radius.specs.Codec.{widthOf, rangeFor, payloadFor}
 use Rattle.radius.specs.declared.RadiusCodecProfileV1.the-variants.{F32}
 use Rattle.lists.proofs.Chunks.{chunks-joined, map-same}
 use Rattle.radius.proofs.RoundTrip.{Floats}
-use Rattle.setup.specs.declared.TurboMode.{TurboMode}
-use Rattle.setup.specs.declared.TurboMode.the-variants.{PolarOnly, PolarWithQjl}
 use Rattle.packed.specs.declared.Code.{Code}
 use Rattle.packed.specs.Fields.{projectionsOf}
 use Rattle.packed.specs.Layout.{headerLength, pairsOf, indicesUsed, indicesStart, indicesLength, signsStart, signsLength, partAt, radiiBytes, indicesBytes, signsBytes}
-use Rattle.packed.specs.Reading.{badPolarBits, radiiOf, indicesOf, signsOf}
+use Rattle.packed.specs.Reading.{radiiOf, indicesOf, signsOf}
 use Rattle.packed_size.specs.Size.{mapFor}
 use Rattle.packed_writing.specs.Writing.{headerBytes, indexBytes, signBytes, recordOf}
 use Rattle.radius.specs.Firsts.{readBack}
 use Rattle.packed.proofs.Headers.{product-most}
 use Rattle.packed_writing.proofs.Writing.{indices-pass, signs-pass}
 use Rattle.packed_writing.proofs.PartsBack.{length-header, length-payloadFor, radii-back}
+use Rattle.packed_size.proofs.Scalars.{bits-inside}
 use Rattle.packed_laws.proofs.Inputs.{WrittenRecord}
 use Rattle.packed_laws.proofs.Fields.{map-written, profile-written, dim-written, bits-written, projections-written, bounds-written}
 
@@ -54,12 +51,6 @@ part-last h r x t at long before sized =
     ap (λ (l : List ℕ). partAt l at long) (sym (append-assoc h r (x ++ t)) ∙ sym (append-assoc (h ++ r) x t))
     ∙ ap (take long) (drop-at ((h ++ r) ++ x) t at (length-append (h ++ r) x ∙ ap (λ (n : ℕ). n + length x) (length-append h r) ∙ before))
     ∙ take-all long t (omega (arith, sized))
-
--- ---- the bits and the signs are few
-
-pub bits-few : (mode : TurboMode) (b : ℕ) → badPolarBits mode b ≡ false → (1 ≤ b) × (b ≤ 16)
-bits-few PolarOnly b e = let both = or-false (ltb b 1) (ltb 16 b) e in (ltb-false b 1 (both .0), ltb-false 16 b (both .1))
-bits-few PolarWithQjl b e = let both = or-false (ltb b 1) (ltb 15 b) e in let most = ltb-false 15 b (both .1) in (ltb-false b 1 (both .0), omega (arith, most))
 
 -- ---- a packed payload that is read leaves no padding
 
@@ -119,7 +110,7 @@ module _ {code : Code} {radii : List Float} {indices : List ℕ} {signs : List �
 
   indices-packed : packIndicesOf indices (code .bits) (bytesFor (length indices * code .bits)) ≡ value (indexBytes (code .bits) indices)
   indices-packed =
-      let b = bits-few (code .mode) (code .bits) (w .bits-inside) in
+      let b = bits-inside (code .mode) (code .bits) (w .bits-inside) in
       let few = product-most (length indices) (code .bits) 2048 16 (omega (arith, w .indices-long, w .most)) (b .1) in
       indices-pass indices (code .bits) (bytesFor (length indices * code .bits)) (b .0) (b .1) (omega (arith, few)) refl (w .indices-good)
 

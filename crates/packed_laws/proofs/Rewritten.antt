@@ -14,7 +14,7 @@ use Rattle.error.proofs.Places.{each-none}
 use Rattle.digits.proofs.Laws.{Below}
 use Rattle.bitpack.specs.Packing.{badIndex}
 use Rattle.bitpack.specs.Signs.{badSketchSign}
-use Rattle.bitpack.proofs.Differs.{differs-not}
+use Rattle.error.proofs.Differs.{differs-not}
 use Rattle.radius.specs.declared.RadiusCodecProfileV1.{RadiusCodecProfileV1}
 use Rattle.radius.specs.declared.RadiusCodecProfileV1.the-variants.{F32, BlockLinearU16}
 use Rattle.radius.proofs.RoundTrip.{Floats}

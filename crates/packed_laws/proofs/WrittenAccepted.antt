@@ -1,7 +1,7 @@
 -- What was written meets every condition on reading. Assumes nothing.
 use Prim.Native.Nat.{ℕ, _≤_, _<_}
 use mathlib.Core.Path.{_≡_, refl, sym, _∙_}
-use mathlib.Core.Bool.{true, false}
+use mathlib.Core.Bool.{true, false, true≢false}
 use mathlib.Core.List.{List}
 use native.Mathlib.Omega.{arith}
 use borrow.Author.Tests.{ltb-false, eqb-false}
@@ -26,13 +26,11 @@ use Rattle.setup.specs.Checks.{badProjections}
 use Rattle.packed.specs.Accepted.{Accepted}
 use Rattle.packed_size.specs.Size.{mapFor}
 use Rattle.setup.specs.Setups.{counted}
+use Rattle.packed_size.proofs.Scalars.{bits-inside}
 use Rattle.packed_laws.proofs.Ranges.{range-good}
 use Rattle.packed_laws.proofs.Inputs.{WrittenRecord}
 use Rattle.packed_laws.proofs.Fields.{map-written, dim-written, bits-written, projections-written, bounds-written, length-written, total-written}
-use Rattle.packed_laws.proofs.Payloads.{bits-few, radii-written, indices-clean, signs-clean}
-
-true-not-false : {A : Type 0} → true ≡ false → A
-true-not-false e = let z : _≡_ {A = ℕ} 0 1 = cc in absurd (omega arith)
+use Rattle.packed_laws.proofs.Payloads.{radii-written, indices-clean, signs-clean}
 
 map-most : (profile : RadiusCodecProfileV1) (mode : TurboMode) → mapFor profile mode ≤ 3
 map-most F32 PolarOnly = omega arith
@@ -49,11 +47,11 @@ no-signs BlockLinearU16 = refl
 no-signs BlockLogU8 = refl
 
 signs-bits : (profile : RadiusCodecProfileV1) (mode : TurboMode) (b : ℕ) → badPolarBits mode b ≡ false → hasSigns (mapFor profile mode) ≡ true → b ≤ 15
-signs-bits profile PolarOnly b e s = true-not-false (sym s ∙ no-signs profile)
+signs-bits profile PolarOnly b e s = absurd (true≢false (sym s ∙ no-signs profile))
 signs-bits profile PolarWithQjl b e s = ltb-false 15 b (or-false (ltb b 1) (ltb 15 b) e .1)
 
 signs-counted : (profile : RadiusCodecProfileV1) (mode : TurboMode) (m : ℕ) → badProjections mode m ≡ false → hasSigns (mapFor profile mode) ≡ true → (0 < counted mode m) × (counted mode m ≤ 4096)
-signs-counted profile PolarOnly m e s = true-not-false (sym s ∙ no-signs profile)
+signs-counted profile PolarOnly m e s = absurd (true≢false (sym s ∙ no-signs profile))
 signs-counted profile PolarWithQjl m e s =
     let both = or-false (eqb m 0) (ltb 4096 m) e in
     let above = eqb-false m 0 (both .0) in
@@ -62,10 +60,10 @@ signs-counted profile PolarWithQjl m e s =
 -- the range of linear radii is one that a record may hold
 range-passes : (profile : RadiusCodecProfileV1) (mode : TurboMode) (radii : List Float) → badProfile profile ≡ false → ((i : ℕ) → i < length radii → badRadius (getD radii i nan) ≡ false)
     → hasRange (mapFor profile mode) ≡ true → badBounds (rangeFor profile radii) ≡ false
-range-passes F32 PolarOnly radii e h t = true-not-false (sym t)
-range-passes F32 PolarWithQjl radii e h t = true-not-false (sym t)
+range-passes F32 PolarOnly radii e h t = absurd (true≢false (sym t))
+range-passes F32 PolarWithQjl radii e h t = absurd (true≢false (sym t))
 range-passes BlockLinearU16 mode radii e h t = range-good radii h
-range-passes BlockLogU8 mode radii e h t = true-not-false e
+range-passes BlockLogU8 mode radii e h t = absurd (true≢false e)
 
 module _ {code : Code} {radii : List Float} {indices : List ℕ} {signs : List ℤ} {room : ℕ} {bytes : List ℕ} (w : WrittenRecord code radii indices signs room bytes) where
   header-fits : headerLength (mapOf bytes) ≤ length bytes
@@ -74,7 +72,7 @@ module _ {code : Code} {radii : List Float} {indices : List ℕ} {signs : List �
   -- each of the reader's conditions holds of what was written
   pub accepted-written : Floats radii → Accepted bytes
   accepted-written f =
-      let b = bits-few (code .mode) (code .bits) (w .bits-inside) in
+      let b = bits-inside (code .mode) (code .bits) (w .bits-inside) in
       record {
         long = omega (arith, header-fits);
         map = rw (map-written w) (map-most (code .profile) (code .mode));

@@ -43,7 +43,7 @@ pub record Small (code : Code) : Type 0 where
   pub bits-most : code .bits ≤ 16
   pub signs-most : counted (code .mode) (code .projections) ≤ 4096
 
-bits-inside : (mode : TurboMode) (b : ℕ) → badPolarBits mode b ≡ false → (1 ≤ b) × (b ≤ 16)
+pub bits-inside : (mode : TurboMode) (b : ℕ) → badPolarBits mode b ≡ false → (1 ≤ b) × (b ≤ 16)
 bits-inside PolarOnly b e = let both = or-false (ltb b 1) (ltb 16 b) e in (ltb-false b 1 (both .0), ltb-false 16 b (both .1))
 bits-inside PolarWithQjl b e = let both = or-false (ltb b 1) (ltb 15 b) e in let most = ltb-false 15 b (both .1) in (ltb-false b 1 (both .0), omega (arith, most))
 

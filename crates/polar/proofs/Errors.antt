@@ -16,7 +16,8 @@ use Rattle.rounding.proofs.Calculus.{close-zero, close-weaken, close-add, close
 use Rattle.rounding.proofs.Folds.{close-total, all-close-at, all-fit-at}
 use Rattle.polar.specs.Polar.{valueAt, directionAt, cosine, sine, pairs, term, polarSumOf}
 use Rattle.polar.specs.Exact.{exactTerm, exactPolar, sizeTerm, polarSize}
-use Rattle.polar.proofs.Tables.{length-table, table-close}
+use Rattle.rounding.proofs.Butterflies.{length-tabled}
+use Rattle.polar.proofs.Tables.{table-close}
 
 -- ---- its absolute error, where rs are those of the rounded entries, of which s units make 2 ^ -149
 -- each of the three products of pair i adds a unit of its own
@@ -48,7 +49,7 @@ module _ {s k : ℕ} {rs bs : List ℕ} {rotated : List Float} {xs : List Diff} 
       → Close (s * unit * unit) (k + 3 + length radii) (polarError s rs directions indices radii) (polarSize bs directions indices radii) (polarSumOf rotated directions indices radii) (exactPolar xs directions indices radii)
   unfolding polarError polarSize polarSumOf exactPolar
   close-polar K =
-      let n = length-table (λ i. term rotated directions indices radii i) 0 (length radii) in
+      let n = length-tabled (λ i. term rotated directions indices radii i) 0 (length radii) in
       close-weaken (omega (arith, n)) (le-refl _) (le-refl _)
       (close-total (omega (arith, n))
       (table-close _ _ _ _ (λ i. close-term (omega arith) i) (pairs radii)))

@@ -5,7 +5,7 @@ use mathlib.Core.Path.{_≡_, _∙_, subst}
 use mathlib.Core.List.{List, [], _∷_, map}
 use native.Mathlib.Nat.{add-zero}
 use native.Mathlib.Omega.{arith}
-use lib.ListN.{length, length-map}
+use lib.ListN.{length}
 use lib.Ieee.{Float}
 use Rattle.rounding.specs.Signed.{Diff}
 use Rattle.float.specs.Units.{mag}
@@ -13,10 +13,6 @@ use Rattle.rounding.proofs.Close.{Close, AllClose, none, next}
 use Rattle.rounding.specs.Butterfly.{from}
 use Rattle.rounding.specs.Sums.{sum}
 use Rattle.polar.specs.Polar.{valueAt}
-use Rattle.rounding.proofs.Running.{length-from}
-
-pub length-table : {A : Type 0} (f : ℕ → A) (start count : ℕ) → length (map f (from start count)) ≡ count
-length-table f start count = length-map (from start count) f ∙ length-from start count
 
 pub table-close : {s k : ℕ} (r a : ℕ → ℕ) (v : ℕ → Float) (x : ℕ → Diff) → ((i : ℕ) → Close s k (r i) (a i) (v i) (x i)) → (is : List ℕ)
     → AllClose s k (map r is) (map a is) (map v is) (map x is)

@@ -16,7 +16,7 @@ use Rattle.rounding.proofs.Calculus.{close-zero, close-add, close-sub}
 use Rattle.rounding.proofs.Folds.{all-close-at, all-close-errors, all-close-sizes, all-close-numbers, all-close-weaken}
 
 -- ---- a list made by its indices
-length-tabled : {A : Type 0} (f : ℕ → A) (n count : ℕ) → length (map f (from n count)) ≡ count
+pub length-tabled : {A : Type 0} (f : ℕ → A) (n count : ℕ) → length (map f (from n count)) ≡ count
 unfolding from
 length-tabled f n zero = refl
 length-tabled f n (suc count) = ap suc (length-tabled f (suc n) count)

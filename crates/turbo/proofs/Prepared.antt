@@ -9,7 +9,7 @@ use lib.Ieee.{Float, nan, binary32, add, sub, mul}
 use Rattle.error.specs.Answer.{value, first, each, accepted}
 use Rattle.error.specs.Checks.{wrongInput, wrongRoom, badValue}
 use Rattle.error.proofs.Chains.{first-passes, first-accepts, first-clear, first-value, append-left, append-right}
-use Rattle.bitpack.proofs.Differs.{differs-not}
+use Rattle.error.proofs.Differs.{differs-not}
 use Rattle.rounding.specs.Sums.{products}
 use Rattle.rounding.specs.Butterfly.{stages}
 use Rattle.float.specs.Constants.{posZero}

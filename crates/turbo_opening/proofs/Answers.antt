@@ -3,9 +3,10 @@ use Prim.Native.Nat.{ℕ}
 use mathlib.Core.Path.{_≡_, sym, ap, _∙_}
 use mathlib.Core.Bool.{Bool, true, false}
 use mathlib.Core.List.{List, [], _∷_}
-use borrow.Author.Tests.{eqb-true, eq-eqb, ne-eqb, not-false}
+use borrow.Author.Tests.{eq-eqb, ne-eqb}
 use Rattle.error.specs.Answer.{value, refused, check, first, accepted}
 use Rattle.error.specs.Checks.{differs}
+use Rattle.error.proofs.Differs.{differs-same}
 use Rattle.error.proofs.Chains.{or-false, first-all, first-value, append-left, append-right, append-passed, append-refused, first-passed}
 use Rattle.setup.specs.declared.Setup.{Setup}
 use Rattle.setup.specs.Checks.{scalarChecks}
@@ -79,9 +80,6 @@ module _ (s : Setup) (bytes : List ℕ) where
 
 -- ---- what an opened record has
 
-differs-equal : (a b : ℕ) → differs a b ≡ false → a ≡ b
-differs-equal a b e = eqb-true a b (not-false _ e)
-
 module _ (s : Setup) (bytes : List ℕ) {h : Header} (opened : openedOf s bytes ≡ value h) where
   -- it is read
   pub opened-read : readRecordOf bytes ≡ value (headerOf bytes)
@@ -102,9 +100,9 @@ module _ (s : Setup) (bytes : List ℕ) {h : Header} (opened : openedOf s bytes 
   -- it is the setup's
   pub opened-dim : dimOf bytes ≡ s .dim
   unfolding openedOf
-  opened-dim = differs-equal _ _ (first-all (matchChecks s bytes) (value (headerOf bytes)) (append-right (recordChecks bytes) (matchChecks s bytes) (value (headerOf bytes)) opened) .0)
+  opened-dim = differs-same _ _ (first-all (matchChecks s bytes) (value (headerOf bytes)) (append-right (recordChecks bytes) (matchChecks s bytes) (value (headerOf bytes)) opened) .0)
 
   pub opened-projections : projectionsOf bytes ≡ countedProjectionsOf s
   unfolding openedOf
   opened-projections =
-      differs-equal _ _ (or-false (differs (bitsOf bytes) (polarBitsOf s)) (differs (projectionsOf bytes) (countedProjectionsOf s)) (first-all (matchChecks s bytes) (value (headerOf bytes)) (append-right (recordChecks bytes) (matchChecks s bytes) (value (headerOf bytes)) opened) .1 .0) .1)
+      differs-same _ _ (or-false (differs (bitsOf bytes) (polarBitsOf s)) (differs (projectionsOf bytes) (countedProjectionsOf s)) (first-all (matchChecks s bytes) (value (headerOf bytes)) (append-right (recordChecks bytes) (matchChecks s bytes) (value (headerOf bytes)) opened) .1 .0) .1)
