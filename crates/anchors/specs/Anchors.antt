@@ -1,5 +1,5 @@
--- Score, exact score, bound, distance and decoding of document 01's records P12 and P13, as numbers, and beside them each exact form and each size that a bound
--- is made of. A definition that stands on the generous side of an inequality could grow without any proof failing: these lines pin it. Assumes nothing.
+-- Score, exact score, bound, distance and decoding of document 01's records P12 and P13 stand here as numbers, and beside them each exact form and each size that a
+-- bound is made of. A definition that stands on the generous side of an inequality could grow without any proof failing: these lines pin it. Assumes nothing.
 use Prim.Native.Nat.{ℕ, _+_, _-_, _*_, _^_}
 use mathlib.Core.Path.{_≡_}
 use mathlib.Core.Bool.{true, false}
@@ -25,15 +25,15 @@ use Rattle.turbo.specs.Order.{exactOf, boundFor}
 use Rattle.turbo_decode.specs.Decode.{decodeApproximateOf}
 use Rattle.table.specs.Table.{withoutSigns, withSigns}
 
--- n 2 and 1 bit without residual
+-- This setup has n 2 and 1 bit, without residual.
 abbrev pub plainSetup : Setup
 plainSetup = record { mode = PolarOnly; dim = 2; bits = 1; projections = 0 }
 
--- with residual: 2 bits in all, of which 1 is polar, and three projections
+-- This setup has a residual: 2 bits in all, of which 1 is polar, and three projections.
 abbrev pub residualSetup : Setup
 residualSetup = record { mode = PolarWithQjl; dim = 2; bits = 2; projections = 3 }
 
--- signs + +, directions −1, 0, 1, 0, and the query 1, 0
+-- The signs are + and +, the directions (−1, 0) and (1, 0).
 abbrev pub signsLent : List Float
 signsLent = one false ∷ one false ∷ []
 
@@ -43,24 +43,25 @@ directionsLent = one true ∷ posZero ∷ one false ∷ posZero ∷ []
 abbrev pub plainLent : Lent
 plainLent = lent signsLent directionsLent []
 
--- the rows (1, 1), (1, 0), (1, 1)
+-- The matrix has the rows (1, 1), (1, 0), (1, 1).
 abbrev pub matrixLent : List Float
 matrixLent = one false ∷ one false ∷ one false ∷ posZero ∷ one false ∷ one false ∷ []
 
 abbrev pub residualLent : Lent
 residualLent = lent signsLent directionsLent matrixLent
 
+-- The query is (1, 0).
 abbrev pub queryLent : List Float
 queryLent = one false ∷ posZero ∷ []
 
--- the direction (1, −1), and the query (1, −2)
+-- These two are the direction (1, −1) and the query (1, −2).
 abbrev pub slanted : List Float
 slanted = one false ∷ one true ∷ []
 
 abbrev pub steep : List Float
 steep = one false ∷ fin true 1 (pos 1) ∷ []
 
--- a whole number that is not negative
+-- This is n as a whole number with a sign.
 abbrev pub whole : ℕ → Diff
 whole n = signed false n
 
@@ -69,7 +70,7 @@ pub record Anchors : Type 0 where
   pub p12-score : innerProductEstimateOf plainSetup plainLent queryLent withoutSigns ≡ value (ofBits binary32 0x3F35_04F3)
   pub p12-exact : Same (exactOf plainSetup plainLent queryLent withoutSigns) (whole (11863283 * 2 ^ 595))
   pub p12-bound : boundFor plainSetup plainLent queryLent withoutSigns ≡ 18 * 11863283 * 2 ^ 572 + 2 ^ 473 + 2 ^ 474
-  -- 4913933 / 2^23
+  -- The distance is 4913933 / 2^23.
   pub p12-distance : l2DistanceEstimateOf plainSetup plainLent queryLent withoutSigns ≡ value (ofBits binary32 0x3F15_F61A)
   pub p12-decoded : decodeApproximateOf plainSetup plainLent withoutSigns 2 ≡ value (ofBits binary32 0x3F35_04F3 ∷ ofBits binary32 0x3F35_04F3 ∷ [])
   -- ---- P13: K is 14018081 / 2^25 as an f32, and the score 4718081 / 2^22
@@ -98,13 +99,13 @@ pub record Anchors : Type 0 where
   -- ---- what they are made of, each at its own scale
   pub rotated-exact : exactRotated 2 signsLent queryLent ≡ whole (11863283 * 2 ^ 274) ∷ whole (11863283 * 2 ^ 274) ∷ []
   pub query-size : absoluteSum steep ≡ 3 * 2 ^ 149
-  -- 1/sqrt(2) times the sum of the query's absolute values, for each entry
+  -- Each size is 1/sqrt(2) times the sum of the query's absolute values.
   pub rotated-size : accountOf plainSetup plainLent steep .sizes ≡ 3 * 11863283 * 2 ^ 274 ∷ 3 * 11863283 * 2 ^ 274 ∷ []
-  -- radius 1 in the direction (1, −1)
+  -- The radius is 1, in the direction (1, −1).
   pub polar-exact : Same (exactPolar (whole 3 ∷ whole 5 ∷ []) slanted (0 ∷ []) (one false ∷ [])) (signed true (2 * 2 ^ 298))
   pub polar-size : polarSize (3 ∷ 5 ∷ []) slanted (0 ∷ []) (one false ∷ []) ≡ 8 * 2 ^ 298
   pub direction-size : directionSum slanted (0 ∷ []) (one false ∷ []) ≡ 2 * 2 ^ 298
-  -- the query (1, −2) on the rows (1, 1), (1, 0), (1, 1): −1, 1, −1, of the sizes 3, 1, 3
+  -- The query (1, −2) on the rows (1, 1), (1, 0), (1, 1) gives −1, 1, −1, of the sizes 3, 1, 3.
   pub projected-exact : Same (exactTotal (exactProjected 2 3 matrixLent steep)) (signed true (2 ^ 298))
   pub projected-size : projectedSizes 2 3 matrixLent steep ≡ 3 * 2 ^ 298 ∷ 2 ^ 298 ∷ 3 * 2 ^ 298 ∷ []
   pub residual-exact : Same (exactResidual (unitScale 3) 2 3 matrixLent queryLent (pos 1 ∷ negsuc 0 ∷ pos 1 ∷ [])) (whole (14018081 * 2 ^ 422))

@@ -1,6 +1,5 @@
--- Indices of b bits in bytes and back, refusals included, in document 01's terms.
--- 'Index i of b bits occupies bits i×b upward, least significant first; bit k is bit k mod 8 of byte k/8': the indices are the
--- digits, base 2^b, of one number, and the bytes are its digits, base 256. Assumes nothing.
+-- Indices of b bits are packed in bytes and unpacked again, refusals included. 'Index i of b bits occupies bits i×b upward, least significant first; bit k is bit k
+-- mod 8 of byte k/8': the indices are the digits, base 2^b, of one number, and the bytes are its digits, base 256. Assumes nothing.
 use Prim.Native.Nat.{ℕ, _-_, _*_, _^_}
 use mathlib.Core.Bool.{Bool}
 use mathlib.Core.List.{List, [], _∷_}
@@ -15,15 +14,15 @@ use Rattle.bitpack.specs.Padding.{bytesFor, unpackChecks}
 abbrev pub wrongOverflow : ℕ → ℕ → Check
 wrongOverflow count bits = check (ltb (2 ^ 64 - 1) (count * bits)) 19 0
 
--- '15: index at or above 2^bits. Place: its index'
+-- '15: index at or above 2^bits. Place: its index', in a list of indices.
 abbrev pub badIndex : ℕ → ℕ → Bool
 badIndex bits index = leb (2 ^ bits) index
 
--- the place of the first index that is too large, or how many there are
+-- This is the place of the first index that is too large, or how many indices there are where none is.
 abbrev pub firstBadIndexOf : List ℕ → ℕ → ℕ
 firstBadIndexOf indices bits = place (badIndex bits) indices
 
--- how many bytes so many indices of so many bits take
+-- This is the answer of `packed_len`: how many bytes `count` indices of `bits` bits each take.
 unfoldable pub packedLenOf : ℕ → ℕ → Answer ℕ
 packedLenOf count bits =
     first
@@ -32,7 +31,7 @@ packedLenOf count bits =
     ∷ [])
     (value (bytesFor (count * bits)))
 
--- 'Packing: 1, 19, the items, then 6.' `room` is the output's length, and the value is what the output holds afterwards
+-- 'Packing: 1, 19, the items, then 6.' `room` is the output's length, and the value is what the output holds afterwards.
 unfoldable pub packIndicesOf : List ℕ → ℕ → ℕ → Answer (List ℕ)
 packIndicesOf indices bits room =
     first
@@ -43,7 +42,7 @@ packIndicesOf indices bits room =
     ∷ [])
     (value (digits 256 (bytesFor (length indices * bits)) (number (2 ^ bits) indices)))
 
--- 'Unpacking: 1, 19, 13, 14, then 6.' `room` is the output's length, and the value is what the output holds afterwards
+-- 'Unpacking: 1, 19, 13, 14, then 6.' `room` is the output's length, and the value is what the output holds afterwards.
 unfoldable pub unpackIndicesOf : List ℕ → ℕ → ℕ → ℕ → Answer (List ℕ)
 unpackIndicesOf packed count bits room =
     first

@@ -1,6 +1,5 @@
--- How many bytes so many bits take, and when the bits past the last used one are not zero, in document 01's terms.
--- 'The length is count × b / 8, rounded up.' '14: padding bits not zero. Place: that byte's index in its payload.'
--- Assumes nothing.
+-- So many bits take so many bytes, and the bits past the last used one must be zero. 'The length is count × b / 8, rounded up.' '14: padding bits not zero. Place:
+-- that byte's index in its payload.' Assumes nothing.
 use Prim.Native.Nat.{ℕ, _+_, _-_, _/_, _%_, _^_}
 use mathlib.Core.Bool.{Bool, _&&_}
 use mathlib.Core.List.{List, [], _∷_}
@@ -8,11 +7,11 @@ use lib.ListN.{length, getD}
 use Rattle.error.specs.Answer.{Answer, Check, check, first, accepted}
 use Rattle.error.specs.Checks.{differs, wrongRoom}
 
--- a number of bits, over 8, rounded up
+-- So many bits take this many bytes: a number of bits, over 8, 'rounded up'.
 abbrev pub bytesFor : ℕ → ℕ
 bytesFor bits = (bits + 7) / 8
 
--- whether the last byte has a bit that is not zero from bit `used` mod 8 up; a byte that is used whole has no padding
+-- Where `used` bits are used, the last byte has a bit that is not zero from bit `used` mod 8 up; a byte that is used whole has no padding.
 unfoldable pub badPadding : List ℕ → ℕ → Bool
 badPadding packed used =
     differs (used % 8) 0 && differs (getD packed (length packed - 1) 0 / 2 ^ (used % 8)) 0
@@ -25,11 +24,11 @@ wrongLength packed used = check (differs (length packed) (bytesFor used)) 13 (le
 abbrev pub wrongPadding : List ℕ → ℕ → Check
 wrongPadding packed used = check (badPadding packed used) 14 (length packed - 1)
 
--- 'Unpacking: .. 13, 14, then 6': of bytes of which so many bits are used, into `room` places for so many items
+-- 'Unpacking: .. 13, 14, then 6.' `used` bits of the bytes are used, and `count` items go into an output of length `room`.
 abbrev pub unpackChecks : List ℕ → ℕ → ℕ → ℕ → List Check
 unpackChecks packed used count room = wrongLength packed used ∷ wrongPadding packed used ∷ wrongRoom room count ∷ []
 
--- bytes of which so many bits are used: 13, then 14, or nothing to say
+-- This is the answer of `validate_padding_zero`, where `used` bits of the bytes are used: 13, then 14, or nothing to refuse.
 unfoldable pub validatePaddingZeroOf : List ℕ → ℕ → Answer (Unit {0})
 validatePaddingZeroOf packed used =
     first

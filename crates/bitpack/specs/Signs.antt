@@ -1,4 +1,4 @@
--- Signs in bytes and back, refusals included, in document 01's terms. 'Sign +1 is bit 1, −1 is bit 0.' Assumes nothing.
+-- Signs are packed in bytes and unpacked again, refusals included. 'Sign +1 is bit 1, −1 is bit 0.' Assumes nothing.
 use Prim.Native.Nat.{ℕ}
 use mathlib.Core.Bool.{Bool, false, not, cond, _||_}
 use mathlib.Core.List.{List, [], _∷_, map}
@@ -14,16 +14,16 @@ abbrev pub isPlus : ℤ → Bool
 isPlus (pos n) = eqb n 1
 isPlus (negsuc n) = false
 
--- `negsuc n` is −(n + 1)
+-- The number is −1: `negsuc n` is −(n + 1).
 abbrev pub isMinus : ℤ → Bool
 isMinus (pos n) = false
 isMinus (negsuc n) = eqb n 0
 
--- '10: a sign is neither −1 nor 1. Place: its index.'
+-- '10: a sign is neither −1 nor 1. Place: its index.' A sketch's signs are whole numbers; those of a rotation are floats.
 abbrev pub badSketchSign : ℤ → Bool
 badSketchSign z = not (isPlus z || isMinus z)
 
--- the place of the first number that is no sign, or how many there are
+-- This is the place of the first number that is no sign, or how many numbers there are where each is one.
 abbrev pub firstBadSketchSignOf : List ℤ → ℕ
 firstBadSketchSignOf signs = place badSketchSign signs
 
@@ -34,7 +34,7 @@ bitOfSign z = cond (isPlus z) 1 0
 abbrev pub signOfBit : ℕ → ℤ
 signOfBit bit = cond (eqb bit 1) (pos 1) (negsuc 0)
 
--- 'Packing signs: 10.' 'In every call 6 comes after all input checks.' `room` is the output's length
+-- 'Packing signs: 10.' 'In every call 6 comes after all input checks.' `room` is the output's length.
 unfoldable pub packSignsOf : List ℤ → ℕ → Answer (List ℕ)
 packSignsOf signs room =
     first
@@ -43,7 +43,7 @@ packSignsOf signs room =
     ∷ [])
     (value (digits 256 (bytesFor (length signs)) (number 2 (map bitOfSign signs))))
 
--- 'Unpacking signs: 13, 14.' 'In every call 6 comes after all input checks.' `room` is the output's length
+-- 'Unpacking signs: 13, 14.' 'In every call 6 comes after all input checks.' `room` is the output's length.
 unfoldable pub unpackSignsOf : List ℕ → ℕ → ℕ → Answer (List ℤ)
 unpackSignsOf packed count room =
     first (unpackChecks packed count count room) (value (map signOfBit (digits 2 count (number 256 packed))))

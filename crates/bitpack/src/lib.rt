@@ -99,11 +99,11 @@ pub fn unpack_indices(packed: &[u8], count: usize, bits: u8, out: &mut [u16]) ->
     Outcome::Done
 }
 
-// The place of the first index at or above 2^bits, or how many there are.
+// The place of the first index at or above 2^bits, or how many indices there are where none is.
 pub fn first_bad_index(indices: &[u16], bits: u8) -> usize
     ensures { λ r. ⌜ r ≡ firstBadIndexOf (now (indices .entry)) bits ⌝ }
 {
-    // No index is as large as that.
+    // An index has 16 bits, so none is at or above 2^bits here.
     if 16 < bits {
         return indices.len();
     }
@@ -195,7 +195,7 @@ fn pack_words(indices: &[u16], bits: u8, out: &mut [u8])
     put_rest(out, k, acc);
 }
 
-// All bytes from `from` on: the lowest of `rest`.
+// Fills all bytes from `from` on with the lowest bytes of `rest`.
 fn put_rest(out: &mut [u8], from: usize, rest: u64)
     requires { ⌜ from ≤ length (now out) ⌝ }
     ensures { λ r. ⌜ now (out .exit) ≡ take from (now (out .entry)) ++ digits 256 (length (now (out .entry)) - from) rest ⌝ }
@@ -209,7 +209,7 @@ fn put_rest(out: &mut [u8], from: usize, rest: u64)
     }
 }
 
-// Writes the lowest `bits` bits again and again, from bytes that hold enough of them: eights first, then one by one.
+// Unpacks indices from bytes that hold enough of them: in groups of eight first, then one by one.
 fn unpack_words(packed: &[u8], bits: u8, out: &mut [u16])
     requires { ⌜ Unpackable (now packed) bits (length (now out)) ⌝ }
     ensures { λ r. ⌜ now (out .exit) ≡ digits (2 ^ bits) (length (now (out .entry))) (number 256 (now (packed .entry))) ⌝ }
@@ -231,8 +231,8 @@ fn unpack_words(packed: &[u8], bits: u8, out: &mut [u16])
     }
 }
 
-// Writes eights where eight indices take at most eight bytes, and says how many. A width that stands in the call is a
-// number for the compiler, so that its shifts cost less.
+// Unpacks groups of eight indices where a group takes at most eight bytes, and answers how many groups. A width that stands in the call is a number for the
+// compiler, so that its shifts cost less.
 fn unpack_narrow(packed: &[u8], bits: u8, out: &mut [u16]) -> usize
     requires { ⌜ Unpackable (now packed) bits (length (now out)) ⌝ }
     ensures { λ r. ⌜ Eights (now (packed .entry)) bits (length (now (out .entry))) (now (out .exit)) r ⌝ }
@@ -252,7 +252,7 @@ fn unpack_narrow(packed: &[u8], bits: u8, out: &mut [u16]) -> usize
     0
 }
 
-// Writes eights as long as there are eight bytes to read them from, and says how many.
+// Unpacks groups of eight indices as long as there are eight bytes to read one from, and answers how many groups.
 fn unpack_eights(packed: &[u8], bits: u8, out: &mut [u16]) -> usize
     requires { ⌜ (Unpackable (now packed) bits (length (now out))) × (bits ≤ 8) ⌝ }
     ensures { λ r. ⌜ Eights (now (packed .entry)) bits (length (now (out .entry))) (now (out .exit)) r ⌝ }
@@ -274,7 +274,7 @@ fn unpack_eights(packed: &[u8], bits: u8, out: &mut [u16]) -> usize
     k
 }
 
-// Four indices at `at`: the lowest four times `width` bits of `word`.
+// Writes four indices at `at`, from the lowest four times `width` bits of `word`.
 fn put_four(out: &mut [u16], at: usize, word: u64, width: u64)
     requires { ⌜ (at + 4 ≤ length (now out)) × (width ≤ 16) ⌝ }
     ensures { λ r. ⌜ now (out .exit) ≡ take at (now (out .entry)) ++ digits (2 ^ width) 4 word ++ drop (at + 4) (now (out .entry)) ⌝ }

@@ -55,7 +55,7 @@ pub fn unpack_signs(packed: &[u8], count: usize, out: &mut [i8]) -> Outcome
     Outcome::Done
 }
 
-// The place of the first number that is neither -1 nor 1, or how many there are.
+// The place of the first number that is neither -1 nor 1, or how many numbers there are where each is one of them.
 pub fn first_bad_sketch_sign(signs: &[i8]) -> usize
     ensures { λ r. ⌜ r ≡ firstBadSketchSignOf (now (signs .entry)) ⌝ }
 {
@@ -134,7 +134,7 @@ fn pack_sign_bytes(signs: &[i8], out: &mut [u8])
     }
 }
 
-// The bits of four signs as a number.
+// The bits of the four signs at `at`, as a number.
 fn get_signs(signs: &[i8], at: usize) -> u8
     requires { ⌜ at + 4 ≤ length (now signs) ⌝ }
     ensures { λ r. ⌜ (r ≡ number 2 (take 4 (drop at (map bitOfSign (now (signs .entry)))))) × (r < 16) ⌝ }
@@ -178,7 +178,7 @@ fn unpack_sign_bytes(packed: &[u8], out: &mut [i8])
     }
 }
 
-// Four signs at `at`, of the lowest four bits.
+// Writes four signs at `at`, from the lowest four bits of `bits`.
 fn put_signs(out: &mut [i8], at: usize, bits: u8)
     requires { ⌜ at + 4 ≤ length (now out) ⌝ }
     ensures { λ r. ⌜ now (out .exit) ≡ take at (now (out .entry)) ++ map signOfBit (digits 2 4 bits) ++ drop (at + 4) (now (out .entry)) ⌝ }
@@ -189,7 +189,7 @@ fn put_signs(out: &mut [i8], at: usize, bits: u8)
     out[at + 3] = sign(bits / 2 / 2 / 2 % 2);
 }
 
-// All signs from `from` on, of the lowest bits.
+// Writes all signs from `from` on, from the lowest bits of `last`.
 fn put_last_signs(out: &mut [i8], from: usize, last: u8)
     requires { ⌜ from ≤ length (now out) ⌝ }
     ensures { λ r. ⌜ now (out .exit) ≡ take from (now (out .entry)) ++ map signOfBit (digits 2 (length (now (out .entry)) - from) last) ⌝ }

@@ -1,4 +1,4 @@
--- The numbers that stand for the cases of an enum on the C side, and the structs that are passed there as their fields. Assumes nothing.
+-- On the C side numbers stand for the cases of an enum, and structs are passed as their fields. Assumes nothing.
 use Prim.Native.Nat.{ℕ}
 use mathlib.Core.Bool.{cond}
 use lib.Dec.{eqb}
@@ -12,27 +12,27 @@ use Rattle.setup.specs.declared.Setup.{Setup}
 use Rattle.setup.specs.declared.TurboMode.{TurboMode}
 use Rattle.setup.specs.declared.TurboMode.the-variants.{PolarOnly, PolarWithQjl}
 
--- 0 is `PolarOnly`, every other number `PolarWithQjl`
+-- The number 0 is `PolarOnly`, and every other number is `PolarWithQjl`.
 unfoldable pub modeFrom : ℕ → TurboMode
 modeFrom code = cond (eqb code 0) PolarOnly PolarWithQjl
 
--- 0 is `F32`, 1 `BlockLinearU16`, every other number `BlockLogU8`, which is refused
+-- The number 0 is `F32`, 1 is `BlockLinearU16`, and every other number is `BlockLogU8`, which is refused.
 unfoldable pub profileFrom : ℕ → RadiusCodecProfileV1
 profileFrom code = cond (eqb code 0) F32 (cond (eqb code 1) BlockLinearU16 BlockLogU8)
 
--- the scalars of a setup
+-- These are the scalars of a setup, with a number for its mode.
 abbrev pub setupFrom : ℕ → ℕ → ℕ → ℕ → Setup
 setupFrom mode dim bits projections = record { mode = modeFrom mode; dim = dim; bits = bits; projections = projections }
 
--- the scalars of a record
+-- These are the scalars of a record, with numbers for its profile and its mode.
 abbrev pub codeFrom : ℕ → ℕ → ℕ → ℕ → ℕ → Code
 codeFrom profile dim bits mode projections = record { profile = profileFrom profile; mode = modeFrom mode; dim = dim; bits = bits; projections = projections }
 
--- a range of two floats
+-- This is a range of two floats.
 abbrev pub rangeFrom : Float → Float → Range
 rangeFrom lo hi = record { min = lo; max = hi }
 
--- the parts of a range
+-- These two are the bounds of a range.
 abbrev pub minOf : Range → Float
 minOf range = range .min
 
@@ -41,12 +41,12 @@ maxOf range = range .max
 
 -- ---- a record's header, as the numbers that leave
 
--- the number of a mode
+-- This is the number of a mode.
 abbrev pub modeNumber : TurboMode → ℕ
 modeNumber PolarOnly = 0
 modeNumber PolarWithQjl = 1
 
--- the number of a profile
+-- This is the number of a profile.
 abbrev pub profileNumber : RadiusCodecProfileV1 → ℕ
 profileNumber F32 = 0
 profileNumber BlockLinearU16 = 1

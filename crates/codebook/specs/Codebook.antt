@@ -1,5 +1,5 @@
--- `ScalarCodebook` in document 01's terms: what each call answers, refusals included, with each float step rounded once, in the Rust's order.
--- 'Every codebook call: 1, 17, then its value.' Assumes nothing.
+-- These say what each call of `ScalarCodebook` answers, refusals included, with each float step rounded once, in the Rust's order. 'Every codebook call: 1, 17, then
+-- its value.' Assumes nothing.
 use Prim.Native.Nat.{ℕ, _-_, _^_, min}
 use mathlib.Core.Bool.{not, _||_}
 use mathlib.Core.List.{[], _∷_}
@@ -15,22 +15,22 @@ use Rattle.codebook.specs.declared.ScalarCodebook.{ScalarCodebook}
 abbrev pub wrongBounds : Float → Float → Check
 wrongBounds lo hi = check (not (finite lo) || not (finite hi) || le hi lo) 17 0
 
--- '11: a value is not finite ..'
+-- '11: a value is not finite ..' There is one value here, and its place is 0.
 abbrev pub wrongValue : Float → Check
 wrongValue x = check (not (finite x)) 11 0
 
--- how many levels so many bits have, as a float
+-- This is the number of levels that `bits` bits have, as a float.
 abbrev pub levelsFloat : ℕ → Float
 levelsFloat bits = ofInt binary32 (pos (2 ^ bits))
 
--- the level of a value: ((clipped − min) / (max − min)) × levels, cut to a whole number and at most the last; a NaN gives 0
+-- The level of a value is ((clipped − min) / (max − min)) × levels, cut to a whole number and at most the last; 'a NaN quotient gives index 0'.
 unfoldable pub levelOf : ℕ → Float → Float → Float → ℕ
 levelOf bits lo hi x =
     min
     (floorUnsigned 32 (mul binary32 (div binary32 (sub binary32 (clamped lo hi x) lo) (sub binary32 hi lo)) (levelsFloat bits)))
     (2 ^ bits - 1)
 
--- the middle of a level: min + (index + 0.5) × ((max − min) / levels); 3F000000 is 0.5
+-- The middle of a level is min + (index + 0.5) × ((max − min) / levels), each step rounded; 3F000000 is 0.5.
 unfoldable pub middleOf : ℕ → Float → Float → ℕ → Float
 middleOf bits lo hi index =
     add binary32 lo
@@ -38,7 +38,7 @@ middleOf bits lo hi index =
     (add binary32 (ofInt binary32 (pos index)) (ofBits binary32 0x3F00_0000))
     (div binary32 (sub binary32 hi lo) (levelsFloat bits)))
 
--- what every call asks of its codebook
+-- Every call asks this of its codebook: 1, then 17.
 unfoldable pub checkOf : ℕ → Float → Float → Answer (Unit {0})
 checkOf bits lo hi = first (wrongBits bits ∷ wrongBounds lo hi ∷ []) (value tt)
 

@@ -1,4 +1,4 @@
--- What each answer of a codebook's calls says, in document 01's terms. Assumes nothing.
+-- Each call of a codebook has an answer of its own. These say what it is in document 01's terms, a value or a refusal. Assumes nothing.
 use Prim.Native.Nat.{ℕ}
 use lib.Ieee.{Float}
 use Rattle.error.specs.Answer.{Answer, value, refused}

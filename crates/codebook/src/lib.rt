@@ -125,7 +125,7 @@ fn check(bits: u8, min: f32, max: f32) -> Outcome
     Outcome::Done
 }
 
-// The number of levels, as the shift of the Rust.
+// The number of levels, 2^bits, by a shift as in the Rust.
 fn level_count(bits: u8) -> u32
     requires { ⌜ bits ≤ 16 ⌝ }
     ensures { λ r. ⌜ r ≡ 2 ^ bits ⌝ }

@@ -1,5 +1,5 @@
--- Items that a function reads one by one, for the contracts of private functions that read bytes, in every crate that has some; no public promise is
--- stated by these. They are the items from `at` on: `run-two` and `run-four`. Assumes nothing.
+-- Private functions of several crates read bytes of a list one by one, and their contracts say so by these. They are the items from `at` on, where there are so
+-- many: `run-two` and `run-four` in lists/proofs/Stores.antt. No public promise is stated by these. Assumes nothing.
 use Prim.Native.Nat.{ℕ, _+_}
 use mathlib.Core.List.{List, [], _∷_}
 use lib.ListN.{getD}

@@ -1,4 +1,4 @@
--- The checks that more than one crate makes, as document 01 numbers them. Of two lengths the one that was found comes first. Assumes nothing.
+-- These are the checks that more than one crate makes, numbered as in document 01. Of two lengths the one that was found comes first. Assumes nothing.
 use Prim.Native.Nat.{ℕ, _^_}
 use mathlib.Core.Bool.{Bool, not, _||_}
 use mathlib.Core.List.{List, [], _∷_}
@@ -7,7 +7,7 @@ use lib.Ieee.{Float}
 use lib.Ieee.Scale.{finite}
 use Rattle.error.specs.Answer.{Answer, value, Check, check, first, place}
 
--- whether two numbers are not equal
+-- The two numbers are not equal.
 abbrev pub differs : ℕ → ℕ → Bool
 differs a b = not (eqb a b)
 
@@ -15,7 +15,7 @@ differs a b = not (eqb a b)
 abbrev pub wrongBits : ℕ → Check
 wrongBits bits = check (ltb bits 1 || ltb 16 bits) 1 bits
 
--- '5: a lent input's length .. differs from the setup's. Place: the length .. found.'
+-- '5: a lent input's length, or a record's dimension, differs from the setup's. Place: the length or dimension found.'
 abbrev pub wrongInput : ℕ → ℕ → Check
 wrongInput found needed = check (differs found needed) 5 found
 
@@ -23,15 +23,15 @@ wrongInput found needed = check (differs found needed) 5 found
 abbrev pub wrongRoom : ℕ → ℕ → Check
 wrongRoom found needed = check (differs found needed) 6 needed
 
--- '15: index at or above 2^bits. Place: its index; for a codebook or a single angle, 0.' This is the check of a codebook's index and of a single angle's
+-- '15: index at or above 2^bits. Place: its index; for a codebook or a single angle, 0.' This is the check of a codebook's index and of a single angle's.
 abbrev pub wrongIndex : ℕ → ℕ → Check
 wrongIndex bits index = check (leb (2 ^ bits) index) 15 0
 
--- '11: a value is not finite', and '9: a matrix entry is not finite'
+-- A NaN and an infinity offend: '11: a value is not finite', and '9: a matrix entry is not finite'.
 unfoldable pub badValue : Float → Bool
 badValue x = not (finite x)
 
--- the index of the first value that is not finite, or their number where there is none
+-- This is the index of the first value that is not finite, or how many values there are where each is finite.
 abbrev pub firstNonFiniteOf : List Float → ℕ
 firstNonFiniteOf values = place badValue values
 
@@ -39,6 +39,6 @@ firstNonFiniteOf values = place badValue values
 abbrev pub wrongScore : Float → Check
 wrongScore x = check (not (finite x)) 12 0
 
--- a score or a distance, judged
+-- This is a score or a distance with its value, or 12 where it is not finite.
 abbrev pub finiteScoreOf : Float → Answer Float
 finiteScoreOf x = first (wrongScore x ∷ []) (value x)

@@ -1,4 +1,4 @@
--- What a `Length` says, in document 01's terms: a number of bytes, or a refusal. Assumes nothing.
+-- A `Length` is what a call answers that counts bytes. In document 01's terms it says a number of bytes, or a refusal. Assumes nothing.
 use Prim.Native.Nat.{ℕ}
 use Rattle.error.specs.Answer.{Answer, value, refused}
 use Rattle.error.specs.declared.Length.{Length}

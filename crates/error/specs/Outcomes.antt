@@ -1,4 +1,5 @@
--- What an `Outcome` and a `Scored` say, in document 01's terms. Assumes nothing.
+-- An `Outcome` is what a call answers whose result, if any, stands in lent memory, and a `Scored` what a call answers that scores. This is what the two say in
+-- document 01's terms. Assumes nothing.
 use lib.Ieee.{Float}
 use Rattle.error.specs.Answer.{Answer, value, refused, accepted}
 use Rattle.error.specs.declared.Outcome.{Outcome}

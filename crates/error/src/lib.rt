@@ -96,7 +96,7 @@ pub fn all_finite(values: &[f32]) -> bool
     ok
 }
 
-// The index of the first value that is not finite, or their number where there is none.
+// The index of the first value that is not finite, or how many values there are where each is finite.
 pub fn first_non_finite(values: &[f32]) -> usize
     ensures { λ r. ⌜ r ≡ firstNonFiniteOf (now (values .entry)) ⌝ }
 {
@@ -106,7 +106,7 @@ pub fn first_non_finite(values: &[f32]) -> usize
     find_non_finite(values)
 }
 
-// The index of the first value that is not finite, one by one, or their number where there is none.
+// The index of the first value that is not finite, found one by one, or how many values there are where each is finite.
 fn find_non_finite(values: &[f32]) -> usize
     ensures { λ r. ⌜ r ≡ firstNonFiniteOf (now (values .entry)) ⌝ }
 {

@@ -1,17 +1,17 @@
--- The floats that definitions of several crates name. Assumes nothing.
+-- These are the floats that definitions of several crates name. Assumes nothing.
 use mathlib.Core.Bool.{Bool, false}
 use lib.IntN.{pos}
 use lib.Ieee.{Float, fin, binary32, ofBits}
 
--- +0.0
+-- This is +0.0.
 abbrev pub posZero : Float
 posZero = fin false 0 (pos 0)
 
--- 1.0, or -1.0 where the sign is true
+-- This is 1.0, or -1.0 where the sign is true.
 abbrev pub one : Bool → Float
 one s = fin s 1 (pos 0)
 
--- 2.0
+-- This is 2.0.
 abbrev pub two : Float
 two = fin false 1 (pos 1)
 

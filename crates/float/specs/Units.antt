@@ -1,20 +1,19 @@
--- A finite f32 as a whole number of units of 2 ^ -149, the smallest positive f32: document 01, 'Every finite f32 is a whole multiple of 2^−149'.
--- Assumes nothing.
+-- A finite f32 is counted in units of 2 ^ -149, the smallest positive f32. Document 01: 'Every finite f32 is a whole multiple of 2^−149'. Assumes nothing.
 use Prim.Native.Nat.{ℕ, _*_, _/_, _^_}
 use mathlib.Core.Bool.{Bool, false, not}
 use lib.Ieee.{Float, nan, inf, fin, up, down}
 
--- finite, and with a clear sign
+-- The float is finite and its sign is not set: of the two zeros only +0.0 counts.
 abbrev pub nonNegative : Float → Bool
 nonNegative nan = false
 nonNegative (inf s) = false
 nonNegative (fin s m e) = not s
 
--- how many units make 1.0
+-- This many units make 1.0.
 unfoldable pub unit : ℕ
 unit = 2 ^ 149
 
--- the size of x in units; 0 for a NaN and an infinity. The division leaves nothing over where x fits binary32
+-- This is the size of x in units, and 0 for a NaN and an infinity. The division leaves nothing over where x fits binary32.
 unfoldable pub mag : Float → ℕ
 mag nan = 0
 mag (inf s) = 0

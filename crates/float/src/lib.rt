@@ -57,7 +57,7 @@ pub fn put_f32(out: &mut [u8], at: usize, x: f32)
     digits::put_word(out, at, to_bits(x) as u64);
 }
 
-// Rust's `x.clamp(min, max)`, and where that panics too: what is below min is min, and then what is above max is max.
+// Rust's `x.clamp(min, max)`, with an answer also where that panics: what is below min is min, and then what is above max is max.
 pub fn clamp(x: f32, min: f32, max: f32) -> f32
     ensures { λ r. ⌜ r ≡ clamped min max x ⌝ }
 {
@@ -118,7 +118,7 @@ pub fn sqrt(x: f32) -> f32
     0.0f32 / 0.0f32
 }
 
-// The values of the input, into an output of the same length; where the lengths differ, nothing is written.
+// Copies the input into an output of the same length; where the lengths differ, nothing is written.
 pub fn copy_into(input: &[f32], output: &mut [f32])
     ensures { λ _. ⌜ now (output .exit) ≡ copyIntoOf (now (input .entry)) (now (output .entry)) ⌝ }
 {
@@ -143,7 +143,7 @@ fn significand(b: u32) -> u32
     }
 }
 
-// By how many places that significand is shifted.
+// By how many binary places the significand of a pattern with a clear sign is shifted.
 fn shift(b: u32) -> u32
     ensures { λ r. ⌜ r ≡ shiftOf b ⌝ }
 {

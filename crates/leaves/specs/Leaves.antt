@@ -1,6 +1,6 @@
--- What is promised of the leaves beyond their contracts: where each bit of an index and of a sign stands, that indices, signs and F32 radii come back from their bytes and bytes from
--- them, that a square root is the nearest and the only one, and which dimensions are powers of two. Of what is given only this is asked: a byte is below 256, and a
--- float is an f32. Assumes nothing.
+-- This is promised of the leaves beyond their contracts: where each bit of an index and of a sign stands, that indices, signs and F32 radii come back from their
+-- bytes and bytes from them, that a square root is the nearest and the only one, and which dimensions are powers of two. Of what is given only this is asked: a byte
+-- is below 256, and a float is an f32. Assumes nothing.
 use Prim.Native.Nat.{ℕ, suc, _/_, _%_, _^_, _<_}
 use mathlib.Core.Path.{_≡_}
 use mathlib.Core.Bool.{Bool, true, false, not}
@@ -21,36 +21,37 @@ use Rattle.radius.specs.Codec.{compressBytesOf, decompressOf}
 use Rattle.radius.specs.declared.Range.{Range}
 use Rattle.radius.specs.declared.RadiusCodecProfileV1.the-variants.{F32}
 
--- Bytes and indices have the same bits: 'Index i of b bits occupies bits i×b upward, least significant first; bit k is bit k mod 8 of byte k/8.'
+-- Bytes and indices have the same bits: 'Index i of b bits occupies bits i×b upward, least significant first; bit k is bit k mod 8 of byte k/8.' Behind the last
+-- index every bit is 0.
 abbrev pub SameBits : ℕ → List ℕ → List ℕ → Type 0
 SameBits bits packed indices = (k : ℕ) → getD packed (k / 8) 0 / 2 ^ (k % 8) % 2 ≡ getD indices (k / bits) 0 / 2 ^ (k % bits) % 2
 
--- The same of signs: 'Sign +1 is bit 1, −1 is bit 0.' Behind the last sign there is no bit.
+-- Bytes and signs have the same bits: 'Sign +1 is bit 1, −1 is bit 0.' Behind the last sign every bit is 0.
 abbrev pub SameSigns : List ℕ → List ℤ → Type 0
 SameSigns packed signs = (k : ℕ) → getD packed (k / 8) 0 / 2 ^ (k % 8) % 2 ≡ getD (map bitOfSign signs) k 0
 
--- Indices, signs and F32 radii come back from their bytes, and bytes from them.
+-- All promises of the leaves stand here as one claim.
 pub record Leaves : Type 0 where
-  -- indices
+  -- Indices have the bits of their bytes, come back from them, and bytes come back from indices.
   pub pack-bit : (indices : List ℕ) (bits room : ℕ) (packed : List ℕ) → packIndicesOf indices bits room ≡ value packed → SameBits bits packed indices
   pub unpack-bit : (packed : List ℕ) (count bits room : ℕ) (indices : List ℕ) → AreBytes packed → unpackIndicesOf packed count bits room ≡ value indices → SameBits bits packed indices
   pub unpack-pack : (indices : List ℕ) (bits room : ℕ) (packed : List ℕ) → packIndicesOf indices bits room ≡ value packed
       → unpackIndicesOf packed (length indices) bits (length indices) ≡ value indices
   pub pack-unpack : (packed : List ℕ) (count bits room : ℕ) (indices : List ℕ) → AreBytes packed → unpackIndicesOf packed count bits room ≡ value indices
       → packIndicesOf indices bits (length packed) ≡ value packed
-  -- signs
+  -- Signs have the bits of their bytes, come back from them, and bytes come back from signs.
   pub pack-signs-bit : (signs : List ℤ) (room : ℕ) (packed : List ℕ) → packSignsOf signs room ≡ value packed → SameSigns packed signs
   pub unpack-signs-bit : (packed : List ℕ) (count room : ℕ) (signs : List ℤ) → AreBytes packed → unpackSignsOf packed count room ≡ value signs → SameSigns packed signs
   pub unpack-pack-signs : (signs : List ℤ) (room : ℕ) (packed : List ℕ) → packSignsOf signs room ≡ value packed
       → unpackSignsOf packed (length signs) (length signs) ≡ value signs
   pub pack-unpack-signs : (packed : List ℕ) (count room : ℕ) (signs : List ℤ) → AreBytes packed → unpackSignsOf packed count room ≡ value signs
       → packSignsOf signs (length packed) ≡ value packed
-  -- F32 radii
+  -- F32 radii come back from their bytes, and bytes from radii.
   pub decompress-compress : (radii : List Float) (room : ℕ) (bytes : List ℕ) (range : Range) → AreFloats radii → compressBytesOf radii F32 room ≡ value bytes
       → decompressOf F32 (length radii) range bytes (length radii) ≡ value radii
   pub compress-decompress : (count : ℕ) (range : Range) (payload : List ℕ) (room : ℕ) (radii : List Float) → AreBytes payload → decompressOf F32 count range payload room ≡ value radii
       → compressBytesOf radii F32 (length payload) ≡ value payload
-  -- a float and its four bytes; a NaN's pattern is not kept
+  -- A float comes back from its four bytes, and they from it; a NaN's pattern is not kept.
   pub float-back : (x : Float) → T (fits binary32 x) → ofLeBytes (toLeBytes x) ≡ x
   pub bytes-back : (bytes : List ℕ) → AreBytes bytes → length bytes ≡ 4 → T (not (isNan (ofLeBytes bytes))) → toLeBytes (ofLeBytes bytes) ≡ bytes
   -- 'The root of any f32 is IEEE 754 squareRoot, shown by comparing integer squares: −0.0 gives −0.0, below zero gives NaN.'

@@ -1,5 +1,5 @@
--- The fields of a record, by the bytes that hold them. Document 01: 'Map byte, dimension u32, polar bits u8; if bit 0 stands, min and max
--- as f32; if bit 1 stands, projections u32; .. All little-endian.' Assumes nothing.
+-- Each field of a record is told by the bytes that hold it. Document 01: 'Map byte, dimension u32, polar bits u8; if bit 0 stands, min and max as f32; if bit 1
+-- stands, projections u32; .. All little-endian.' Assumes nothing.
 use Prim.Native.Nat.{ℕ, _+_, _*_, _/_, _%_}
 use mathlib.Core.Bool.{Bool, cond}
 use mathlib.Core.List.{List}
@@ -20,11 +20,11 @@ use Rattle.setup.specs.declared.TurboMode.the-variants.{PolarOnly, PolarWithQjl
 abbrev pub mapOf : List ℕ → ℕ
 mapOf bytes = getD bytes 0 0
 
--- bit 0: the radii are linear, and their range stands in the header
+-- Bit 0 stands where the radii are linear, and then their range stands in the header.
 abbrev pub rangeBit : ℕ → ℕ
 rangeBit map = map % 2
 
--- bit 1: there are signs, and their number stands in the header
+-- Bit 1 stands where there are signs, and then their number stands in the header.
 abbrev pub signsBit : ℕ → ℕ
 signsBit map = map / 2 % 2
 
@@ -34,21 +34,21 @@ hasRange map = eqb (rangeBit map) 1
 abbrev pub hasSigns : ℕ → Bool
 hasSigns map = eqb (signsBit map) 1
 
--- 'radii (linear if bit 0, else F32)'
+-- This is the profile that the map byte tells: 'radii (linear if bit 0, else F32)'.
 abbrev pub profileOf : ℕ → RadiusCodecProfileV1
 profileOf map = cond (hasRange map) BlockLinearU16 F32
 
--- 'signs if bit 1'
+-- This is the mode that the map byte tells: 'signs if bit 1'.
 abbrev pub modeOf : ℕ → TurboMode
 modeOf map = cond (hasSigns map) PolarWithQjl PolarOnly
 
 -- ---- the other fields
 
--- a u32 whose bytes start at a place
+-- This is the u32 whose four bytes start at `at`.
 abbrev pub wordAt : List ℕ → ℕ → ℕ
 wordAt bytes at = number 256 (take 4 (drop at bytes))
 
--- an f32 whose bytes start at a place
+-- This is the f32 whose four bytes start at `at`.
 abbrev pub floatAt : List ℕ → ℕ → Float
 floatAt bytes at = ofLeBytes (take 4 (drop at bytes))
 
@@ -58,14 +58,14 @@ dimOf bytes = wordAt bytes 1
 abbrev pub bitsOf : List ℕ → ℕ
 bitsOf bytes = getD bytes 5 0
 
--- the range; F32 radii have none, and 0, 0 stands for it
+-- This is the range; F32 radii have none, and 0, 0 stands for it.
 unfoldable pub boundsOf : List ℕ → Range
 boundsOf bytes = cond (hasRange (mapOf bytes)) (record { min = floatAt bytes 6; max = floatAt bytes 10 }) (record { min = posZero; max = posZero })
 
--- where the projections stand, behind the range if there is one
+-- The projections start at this byte, behind the range if there is one.
 abbrev pub projectionsStart : ℕ → ℕ
 projectionsStart map = 6 + 8 * rangeBit map
 
--- the projections; without signs they count as 0
+-- These are the projections; without signs they count as 0.
 unfoldable pub projectionsOf : List ℕ → ℕ
 projectionsOf bytes = cond (hasSigns (mapOf bytes)) (wordAt bytes (projectionsStart (mapOf bytes))) 0

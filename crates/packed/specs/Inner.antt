@@ -1,5 +1,5 @@
--- What a private function asks of its caller: a header at hand that is the record's own, in a record whose earlier checks have passed. No public promise is stated
--- by this. Assumes nothing.
+-- A private function asks this of its caller: the header at hand is the record's own, the checks of the header have passed, and the record has the right length. No
+-- public promise is stated by this. Assumes nothing.
 use Prim.Native.Nat.{ℕ}
 use mathlib.Core.Path.{_≡_}
 use mathlib.Core.List.{List}

@@ -1,5 +1,5 @@
--- Where the parts of a record stand, and how long they are; the header's length is computed from the map byte. Document 01: '.. then radii
--- (linear if bit 0, else F32), indices, and signs if bit 1.' 'The length is count × b / 8, rounded up.' Assumes nothing.
+-- These say where the parts of a record stand, and how long they are; the header's length is computed from the map byte. Document 01: '.. then radii (linear if bit
+-- 0, else F32), indices, and signs if bit 1.' 'The length is count × b / 8, rounded up.' Assumes nothing.
 use Prim.Native.Nat.{ℕ, _+_, _*_, _/_}
 use mathlib.Core.List.{List}
 use lib.ListN.{take, drop}
@@ -8,11 +8,11 @@ use Rattle.radius.specs.Codec.{widthOf}
 use Rattle.packed.specs.Fields.{mapOf, rangeBit, signsBit, profileOf, modeOf, dimOf, bitsOf, boundsOf, projectionsOf}
 use Rattle.packed.specs.declared.Header.{Header}
 
--- six bytes that every record has, eight of the range if bit 0 stands, four of the projections if bit 1 stands; no other bit counts
+-- Every header has six bytes, eight more of the range if bit 0 stands, and four more of the projections if bit 1 stands; no other bit counts.
 abbrev pub headerLength : ℕ → ℕ
 headerLength map = 6 + 8 * rangeBit map + 4 * signsBit map
 
--- a pair of coordinates has a radius and an index
+-- This is how many pairs of coordinates there are; each has a radius and an index.
 abbrev pub pairsOf : List ℕ → ℕ
 pairsOf bytes = dimOf bytes / 2
 
@@ -27,7 +27,7 @@ radiiLength bytes = widthOf (profileOf (mapOf bytes)) * pairsOf bytes
 abbrev pub indicesStart : List ℕ → ℕ
 indicesStart bytes = radiiStart bytes + radiiLength bytes
 
--- so many bits of the indices' payload are used
+-- This many bits of the indices' payload are used.
 abbrev pub indicesUsed : List ℕ → ℕ
 indicesUsed bytes = pairsOf bytes * bitsOf bytes
 
@@ -40,11 +40,11 @@ signsStart bytes = indicesStart bytes + indicesLength bytes
 abbrev pub signsLength : List ℕ → ℕ
 signsLength bytes = bytesFor (projectionsOf bytes)
 
--- the whole record's length
+-- This is the whole record's length.
 abbrev pub recordLength : List ℕ → ℕ
 recordLength bytes = signsStart bytes + signsLength bytes
 
--- so many bytes from a place on
+-- These are `long` bytes from `at` on.
 abbrev pub partAt : List ℕ → ℕ → ℕ → List ℕ
 partAt bytes at long = take long (drop at bytes)
 
@@ -57,7 +57,7 @@ indicesBytes bytes = partAt bytes (indicesStart bytes) (indicesLength bytes)
 unfoldable pub signsBytes : List ℕ → List ℕ
 signsBytes bytes = partAt bytes (signsStart bytes) (signsLength bytes)
 
--- all of the header by value
+-- This is all of the header, by value.
 unfoldable pub headerOf : List ℕ → Header
 headerOf bytes = record {
   mode = modeOf (mapOf bytes);

@@ -1,4 +1,4 @@
--- Which ranges a record may hold. Document 01: '17 if a bound is not finite, below zero, or min above max (−0.0 is zero)'. Assumes nothing.
+-- These say which ranges a record may not hold. Document 01: '17 if a bound is not finite, below zero, or min above max (−0.0 is zero)'. Assumes nothing.
 use mathlib.Core.Bool.{Bool, false, _||_}
 use lib.Ieee.{lt}
 use Rattle.radius.specs.Radii.{badRadius}
@@ -6,11 +6,11 @@ use Rattle.radius.specs.declared.Range.{Range}
 use Rattle.radius.specs.declared.RadiusCodecProfileV1.{RadiusCodecProfileV1}
 use Rattle.radius.specs.declared.RadiusCodecProfileV1.the-variants.{F32, BlockLinearU16, BlockLogU8}
 
--- a bound that is not finite or below zero, which a radius may not be either, or min above max
+-- A bound is not finite or below zero, which a radius may not be either, or min is above max.
 abbrev pub badBounds : Range → Bool
 badBounds range = badRadius (range .min) || badRadius (range .max) || lt (range .max) (range .min)
 
--- the range of linear radii; F32 radii have none
+-- The range of linear radii is judged; F32 radii have none.
 abbrev pub badBoundsFor : RadiusCodecProfileV1 → Range → Bool
 badBoundsFor F32 range = false
 badBoundsFor BlockLinearU16 range = badBounds range

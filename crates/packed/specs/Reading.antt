@@ -1,6 +1,5 @@
--- The reader: its checks in document 01's order, its answer, and the values that an accepted record holds. 'Reading checks, in order: under
--- six bytes 13; 18; 2; 3; 4; 1 (16 is refused beside bit 1); header cut short 13; 8; total length 13; 17 ..; 16; 14 for indices; 14 for signs.'
--- Assumes nothing.
+-- This is the reader: its checks in document 01's order, its answer, and the values that an accepted record holds. 'Reading checks, in order: under six bytes 13;
+-- 18; 2; 3; 4; 1 (16 is refused beside bit 1); header cut short 13; 8; total length 13; 17 ..; 16; 14 for indices; 14 for signs.' Assumes nothing.
 use Prim.Native.Nat.{ℕ, _^_}
 use mathlib.Core.Bool.{Bool, not, _||_}
 use mathlib.Core.List.{List, [], _∷_, _++_, map}
@@ -27,14 +26,14 @@ use Rattle.packed.specs.declared.Header.{Header}
 use Rattle.packed.specs.declared.Reading.{Reading}
 use Rattle.packed.specs.declared.Reading.the-variants.{Read, Refused}
 
--- what a `Reading` says: a header, or a refusal
+-- A `Reading` says a header, or a refusal.
 abbrev pub saysReading : Reading → Answer Header
 saysReading (Read header) = value header
 saysReading (Refused n p) = refused n p
 
 -- ---- the values as read
 
--- the radii as read, F32 or linear: min + (max − min) × (v / 65,535), each step rounded
+-- These are the radii as read. A linear one is min + (max − min) × (v / 65,535), each step rounded, with v its 16 bits.
 unfoldable pub radiiOf : List ℕ → List Float
 radiiOf bytes = radiiFor (profileOf (mapOf bytes)) (pairsOf bytes) (boundsOf bytes) (radiiBytes bytes)
 
@@ -46,23 +45,23 @@ signsOf bytes = map signOfBit (digits 2 (projectionsOf bytes) (number 256 (signs
 
 -- ---- the checks
 
--- '13: byte length wrong. Place: the length found.' In a record, the whole record's length
+-- '13: byte length wrong. Place: the length found.' In a record this is the whole record's length.
 abbrev pub wrongSize : Bool → List ℕ → Check
 wrongSize bad bytes = check bad 13 (length bytes)
 
--- 'a map bit not defined': a bit other than 0 and 1
+-- 'a map bit not defined': a bit other than 0 and 1 stands.
 abbrev pub badMap : ℕ → Bool
 badMap map = ltb 3 map
 
--- '18: .. Place: the map byte'
+-- '18: .. Place: the map byte'.
 abbrev pub wrongMap : List ℕ → Check
 wrongMap bytes = check (badMap (mapOf bytes)) 18 (mapOf bytes)
 
--- 'bits outside 1..16', '16 is refused beside bit 1'
+-- 'bits outside 1..16', '16 is refused beside bit 1'.
 abbrev pub badPolarBits : TurboMode → ℕ → Bool
 badPolarBits mode bits = ltb bits 1 || ltb (byMode mode 16 15) bits
 
--- 'even dimension that is no power of two, or above 4,096': the record's own rule, in reading and in writing
+-- 'even dimension that is no power of two, or above 4,096': this is the record's own rule, in reading and in writing.
 abbrev pub badRecordDimension : ℕ → Bool
 badRecordDimension dim = not (eqb (ones dim) 1) || ltb 4096 dim
 
@@ -70,11 +69,11 @@ badRecordDimension dim = not (eqb (ones dim) 1) || ltb 4096 dim
 abbrev pub wrongRecordDimension : ℕ → Check
 wrongRecordDimension dim = check (badRecordDimension dim) 4 dim
 
--- '2; 3; 4; 1', in reading and in writing
+-- '2; 3; 4; 1': these are the checks of a dimension and of polar bits, in reading and in writing.
 abbrev pub shapeChecks : TurboMode → ℕ → ℕ → List Check
 shapeChecks mode dim bits = wrongZeroDimension dim ∷ wrongOddDimension dim ∷ wrongRecordDimension dim ∷ check (badPolarBits mode bits) 1 bits ∷ []
 
--- the checks of the header up to its projections
+-- These are the checks of the header up to its projections.
 abbrev pub headerChecks : List ℕ → List Check
 headerChecks bytes =
     wrongSize (ltb (length bytes) 6) bytes
@@ -84,12 +83,12 @@ headerChecks bytes =
     ∷ wrongProjections (modeOf (mapOf bytes)) (projectionsOf bytes)
     ∷ [])
 
--- '14 for indices; 14 for signs'. The place is a byte's index in its payload
+-- '14 for indices; 14 for signs'. The place is a byte's index in its payload.
 abbrev pub paddingChecks : List ℕ → List Check
 paddingChecks bytes = wrongPadding (indicesBytes bytes) (indicesUsed bytes) ∷ wrongPadding (signsBytes bytes) (projectionsOf bytes) ∷ []
 
--- the checks of the whole length, the range and the payloads. '16: a radius is NaN, infinite or below zero', as it is read: 'A linear radius that
--- reads as infinite is 16'
+-- These are the checks of the whole length, the range and the payloads. '16: a radius is NaN, infinite or below zero' is asked of a radius as it is read: 'A linear
+-- radius that reads as infinite is 16'.
 abbrev pub payloadChecks : List ℕ → List Check
 payloadChecks bytes =
     wrongSize (differs (length bytes) (recordLength bytes)) bytes
@@ -100,7 +99,7 @@ payloadChecks bytes =
 abbrev pub recordChecks : List ℕ → List Check
 recordChecks bytes = headerChecks bytes ++ payloadChecks bytes
 
--- the reader's answer
+-- This is what `read_record` answers.
 unfoldable pub readRecordOf : List ℕ → Answer Header
 readRecordOf bytes = first (recordChecks bytes) (value (headerOf bytes))
 
@@ -117,12 +116,13 @@ radiiPartOf bytes = partWhere (readRecordOf bytes) (radiiBytes bytes)
 unfoldable pub indicesPartOf : List ℕ → List ℕ
 indicesPartOf bytes = partWhere (readRecordOf bytes) (indicesBytes bytes)
 
--- '.. or for signs that aren't there, the part is empty': no projections take no byte
+-- '.. or for signs that aren't there, the part is empty': no projections take no byte.
 unfoldable pub signsPartOf : List ℕ → List ℕ
 signsPartOf bytes = partWhere (readRecordOf bytes) (signsBytes bytes)
 
 -- ---- the values in lent memory: the reader's refusals, then 6
 
+-- `needed` is how many values there are, and `room` is the output's length.
 abbrev pub fillOf : {A : Type 0} → List ℕ → ℕ → ℕ → A → Answer A
 fillOf bytes needed room x = first (recordChecks bytes ++ (wrongRoom room needed ∷ [])) (value x)
 

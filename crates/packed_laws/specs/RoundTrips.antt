@@ -1,5 +1,5 @@
--- What acceptance and the round trips of a record promise: the header that inputs are written with, the fields that come back, and what a linear record keeps. Document 01: 'Writing
--- a record, F32 or linear'; 'In PolarOnly m counts as 0'. Assumes nothing.
+-- These are the promises of acceptance and of a record's round trips: the header that inputs are written with, the fields that come back, and what a linear record
+-- keeps. Document 01: 'Writing a record, F32 or linear'; 'In `PolarOnly` m counts as 0'. Assumes nothing.
 use Prim.Native.Nat.{ℕ, _+_, _*_, _/_}
 use mathlib.Core.Path.{_≡_}
 use mathlib.Core.Bool.{true, false}
@@ -26,11 +26,11 @@ use Rattle.packed_writing.specs.Writing.{writeRecordOf}
 use Rattle.setup.specs.Setups.{counted}
 use Rattle.radius.specs.Firsts.{readBack}
 
--- the scalars that a record's bytes tell, under a profile
+-- These are the scalars that a record's bytes tell, under a given profile.
 abbrev pub codeAs : RadiusCodecProfileV1 → List ℕ → Code
 codeAs profile bytes = record { profile = profile; mode = modeOf (mapOf bytes); dim = dimOf bytes; bits = bitsOf bytes; projections = projectionsOf bytes }
 
--- the header that a record is written with, by value
+-- This is the header that a record is written with, by value.
 unfoldable pub headerFor : Code → List Float → Header
 headerFor code radii = record {
   mode = code .mode;
@@ -45,7 +45,7 @@ headerFor code radii = record {
   end = neededFor code;
 }
 
--- the fields of the bytes are those that were given; `room` is the output's length
+-- The fields of the bytes are those that were given; `room` is the output's length.
 pub record SameFields (bytes : List ℕ) (code : Code) (radii : List Float) (room : ℕ) : Type 0 where
   pub map-same : mapOf bytes ≡ mapFor (code .profile) (code .mode)
   pub mode-same : modeOf (mapOf bytes) ≡ code .mode
@@ -53,11 +53,11 @@ pub record SameFields (bytes : List ℕ) (code : Code) (radii : List Float) (roo
   pub dim-same : dimOf bytes ≡ code .dim
   pub bits-same : bitsOf bytes ≡ code .bits
   pub projections-same : projectionsOf bytes ≡ counted (code .mode) (code .projections)
-  -- the range of linear radii; F32 has none, and 0, 0 stands for it
+  -- This is the range of linear radii; F32 radii have none, and 0, 0 stands for it.
   pub range-same : boundsOf bytes ≡ rangeFor (code .profile) radii
   pub length-same : length bytes ≡ room
 
--- what a linear record keeps that is taken apart and written again
+-- A linear record that is taken apart and written again as `again` keeps this.
 pub record SameButRadii (bytes again : List ℕ) : Type 0 where
   pub map-same : mapOf again ≡ mapOf bytes
   pub dim-same : dimOf again ≡ dimOf bytes
@@ -66,34 +66,34 @@ pub record SameButRadii (bytes again : List ℕ) : Type 0 where
   pub length-same : length again ≡ length bytes
   pub indices-same : indicesBytes again ≡ indicesBytes bytes
   pub signs-same : signsBytes again ≡ signsBytes bytes
-  -- the range is that of the radii as read, and they are read again as the writer says
+  -- The range is that of the radii as read, and they are read again as the writer says.
   pub range-read : boundsOf again ≡ rangeOf (radiiOf bytes)
   pub radii-read : radiiOf again ≡ readBack BlockLinearU16 (radiiOf bytes)
 
--- what comes back from bytes that were written: indices, signs and F32 radii, and linear radii as they are read
+-- This comes back from bytes that were written: indices, signs and F32 radii, and linear radii as they are read.
 pub record ComesBack (code : Code) (radii : List Float) (indices : List ℕ) (signs : List ℤ) (room : ℕ) (bytes : List ℕ) : Type 0 where
-  -- a writer never writes a record that its reader refuses, and the header says what was given
+  -- A writer never writes a record that its reader refuses, and the header says what was given.
   pub header-back : readRecordOf bytes ≡ value (headerFor code radii)
   pub fields-back : SameFields bytes code radii room
   pub indices-back : indicesOf bytes ≡ indices
   pub signs-back : signsOf bytes ≡ signs
-  -- to the last bit for F32; linear radii as the writer says that they will be read
+  -- F32 radii come back to the last bit; linear radii come back as the writer says that they will be read.
   pub floats-back : code .profile ≡ F32 → radiiOf bytes ≡ radii
   pub radii-back : radiiOf bytes ≡ readBack (code .profile) radii
 
--- Acceptance and the round trips, as one claim. Of what is given only this is asked: a byte is below 256, and a radius is an f32.
+-- Acceptance and the round trips stand here as one claim. Of what is given only this is asked: a byte is below 256, and a radius is an f32.
 pub record RoundTrips : Type 0 where
-  -- the listed conditions are the sole ones
+  -- The listed conditions are the sole ones.
   pub accepted-reads : (bytes : List ℕ) → Accepted bytes → readRecordOf bytes ≡ value (headerOf bytes)
   pub read-accepts : (bytes : List ℕ) (header : Header) → readRecordOf bytes ≡ value header → Accepted bytes
-  -- what was written comes back
+  -- What was written comes back.
   pub written : (code : Code) (radii : List Float) (indices : List ℕ) (signs : List ℤ) (room : ℕ) (bytes : List ℕ)
       → AreFloats radii
       → writeRecordOf code radii indices signs room ≡ value bytes → ComesBack code radii indices signs room bytes
-  -- and bytes come back from what they hold: an accepted F32 record, taken apart and written again, gives the same bytes
+  -- Bytes come back from what they hold: an accepted F32 record, taken apart and written again, gives the same bytes.
   pub rewritten : (bytes : List ℕ) (header : Header) → AreBytes bytes → readRecordOf bytes ≡ value header
       → hasRange (mapOf bytes) ≡ false → writeRecordOf (codeAs F32 bytes) (radiiOf bytes) (indicesOf bytes) (signsOf bytes) (length bytes) ≡ value bytes
-  -- of a linear one, where it is written again at all, everything but the range and the radii's bytes
+  -- Of a linear record, where it is written again at all, everything comes back but the range and the radii's bytes.
   pub rewritten-linear : (bytes : List ℕ) (header : Header) (room : ℕ) (again : List ℕ) → AreBytes bytes → readRecordOf bytes ≡ value header
       → hasRange (mapOf bytes) ≡ true → writeRecordOf (codeAs BlockLinearU16 bytes) (radiiOf bytes) (indicesOf bytes) (signsOf bytes) room ≡ value again
       → SameButRadii bytes again

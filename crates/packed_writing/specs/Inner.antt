@@ -1,4 +1,4 @@
--- What private functions ask of their callers: inputs whose earlier checks have passed; no public promise is stated by these. Assumes nothing.
+-- Private functions ask these of their callers: inputs whose earlier checks have passed. No public promise is stated by these. Assumes nothing.
 use Prim.Native.Nat.{ℕ, _+_, _*_, _≤_}
 use mathlib.Core.Path.{_≡_}
 use mathlib.Core.Bool.{false}

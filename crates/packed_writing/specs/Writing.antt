@@ -1,6 +1,5 @@
--- The writer: the bytes of a record, and its checks in document 01's order. 'Writing a record, F32 or linear: 18 for BlockLogU8, 2, 3, 4, 1 (16
--- is refused beside signs), 8, 5 for radii, indices and signs, 16 for bad radii, 16 for radii that would read as infinite, 15, 10.'
--- Assumes nothing.
+-- This is the writer: the bytes of a record, and its checks in document 01's order. 'Writing a record, F32 or linear: 18 for BlockLogU8, 2, 3, 4, 1 (16 is refused
+-- beside signs), 8, 5 for radii, indices and signs, 16 for bad radii, 16 for radii that would read as infinite, 15, 10.' Assumes nothing.
 use Prim.Native.Nat.{ℕ, _*_, _/_, _^_}
 use mathlib.Core.List.{List, [], _∷_, _++_, map}
 use lib.IntN.{ℤ}
@@ -25,15 +24,15 @@ use Rattle.packed_size.specs.Size.{byProfile, mapFor, neededFor, codeChecks}
 
 -- ---- the bytes
 
--- 'if bit 0 stands, min and max as f32'
+-- These are the bytes of the range: 'if bit 0 stands, min and max as f32'.
 abbrev pub rangeBytes : RadiusCodecProfileV1 → Range → List ℕ
 rangeBytes profile range = byProfile profile [] (toLeBytes (range .min) ++ toLeBytes (range .max))
 
--- 'if bit 1 stands, projections u32'
+-- These are the bytes of the projections: 'if bit 1 stands, projections u32'.
 abbrev pub projectionBytes : TurboMode → ℕ → List ℕ
 projectionBytes mode m = byMode mode [] (digits 256 4 m)
 
--- 'Map byte, dimension u32, polar bits u8', then range and projections where they stand
+-- 'Map byte, dimension u32, polar bits u8', then come range and projections where they stand.
 unfoldable pub headerBytes : Code → Range → List ℕ
 headerBytes code range =
     mapFor (code .profile) (code .mode)
@@ -42,14 +41,14 @@ headerBytes code range =
     ++ rangeBytes (code .profile) range
     ++ projectionBytes (code .mode) (code .projections)
 
--- the payloads of indices and signs
+-- These two are the payloads of indices and of signs.
 abbrev pub indexBytes : ℕ → List ℕ → List ℕ
 indexBytes bits indices = digits 256 (bytesFor (length indices * bits)) (number (2 ^ bits) indices)
 
 abbrev pub signBytes : List ℤ → List ℕ
 signBytes signs = digits 256 (bytesFor (length signs)) (number 2 (map bitOfSign signs))
 
--- 'then radii (linear if bit 0, else F32), indices, and signs if bit 1'
+-- The header is followed by the payloads: 'then radii (linear if bit 0, else F32), indices, and signs if bit 1'.
 unfoldable pub recordOf : Code → List Float → List ℕ → List ℤ → List ℕ
 recordOf code radii indices signs =
     headerBytes code (rangeFor (code .profile) radii)
@@ -59,26 +58,26 @@ recordOf code radii indices signs =
 
 -- ---- the checks
 
--- '5 for radii, indices and signs'
+-- '5 for radii, indices and signs': of each the length is given here, and a radius and an index are needed for each pair, and m signs.
 abbrev pub lengthChecks : ℕ → ℕ → ℕ → ℕ → ℕ → List Check
 lengthChecks pairs m radii indices signs = wrongInput radii pairs ∷ wrongInput indices pairs ∷ wrongInput signs m ∷ []
 
--- '18 for BlockLogU8, 2, 3, 4, 1 (16 is refused beside signs), 8, 5 for radii, indices and signs'
+-- '18 for BlockLogU8, 2, 3, 4, 1 (16 is refused beside signs), 8, 5 for radii, indices and signs', of which the lengths are given here.
 abbrev pub fieldChecks : Code → ℕ → ℕ → ℕ → List Check
 fieldChecks code radii indices signs = codeChecks code ++ lengthChecks (code .dim / 2) (counted (code .mode) (code .projections)) radii indices signs
 
--- '15, 10'
+-- These are the checks of indices and signs: '15, 10'.
 abbrev pub itemChecks : ℕ → List ℕ → List ℤ → List Check
 itemChecks bits indices signs = each (badIndex bits) 15 indices ∷ each badSketchSign 10 signs ∷ []
 
--- '16 for bad radii, 16 for radii that would read as infinite, 15, 10'
+-- These are the checks of all values: '16 for bad radii, 16 for radii that would read as infinite, 15, 10'.
 abbrev pub valueChecks : RadiusCodecProfileV1 → ℕ → List Float → List ℕ → List ℤ → List Check
 valueChecks profile bits radii indices signs =
     each badRadius 16 radii
     ∷ each badRadius 16 (readBack profile radii)
     ∷ itemChecks bits indices signs
 
--- 'In every call 6 comes after all input checks.' `room` is the output's length
+-- This is what `write_record` answers. 'In every call 6 comes after all input checks.' `room` is the output's length.
 unfoldable pub writeRecordOf : Code → List Float → List ℕ → List ℤ → ℕ → Answer (List ℕ)
 writeRecordOf code radii indices signs room =
     first

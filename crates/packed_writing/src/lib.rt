@@ -86,7 +86,7 @@ fn check_fields(code: Code, radii: usize, indices: usize, signs: usize) -> Outco
     check_lengths(dim / 2, needed, radii, indices, signs)
 }
 
-// The lengths of radii, indices and signs: a radius and an index for each pair, and a sign for each projection.
+// The checks of the lengths of radii, indices and signs: a radius and an index for each pair, and a sign for each projection.
 fn check_lengths(
     pairs: usize,
     projections: usize,
@@ -239,7 +239,7 @@ fn put_header(code: Code, range: Range, out: &mut [u8])
     put_projections(out, mode, code.projections);
 }
 
-// The range at byte 6, for linear radii.
+// Writes the range at byte 6 of a header, where radii are linear.
 fn put_range(out: &mut [u8], profile: RadiusCodecProfileV1, range: Range)
     requires { ⌜ 6 + byProfile profile 0 8 ≤ length (now out) ⌝ }
     ensures { λ r. ⌜ now (out .exit) ≡ take 6 (now (out .entry)) ++ rangeBytes profile range ++ drop (6 + byProfile profile 0 8) (now (out .entry)) ⌝ }
@@ -254,7 +254,7 @@ fn put_range(out: &mut [u8], profile: RadiusCodecProfileV1, range: Range)
     }
 }
 
-// The projections in the last four bytes of a header, beside signs.
+// Writes the projections in the last four bytes of a header, where there are signs.
 fn put_projections(out: &mut [u8], mode: TurboMode, projections: usize)
     requires { ⌜ byMode mode 0 4 ≤ length (now out) ⌝ }
     ensures { λ r. ⌜ now (out .exit) ≡ take (length (now (out .entry)) - byMode mode 0 4) (now (out .entry)) ++ projectionBytes mode projections ⌝ }

@@ -1,6 +1,6 @@
--- The polar sum without rounding, over any rotation: its exact entries are whole numbers xs of some unit. Beside it what bounds its size.
--- In document 01's words it is 'the sum over pairs of r × (qa × c + qb × s), with r the pair's radius as read from the record, (c, s) the table's direction
--- for its index, and (qa, qb) its two entries of the query rotated without rounding'. Assumes nothing.
+-- The polar sum without rounding is defined over any rotation, whose exact entries are whole numbers xs of some unit. Beside it stands what bounds its size. In
+-- document 01's words it is 'the sum over pairs of r × (qa × c + qb × s), with r the pair's radius as read from the record, (c, s) the table's direction for its
+-- index, and (qa, qb) its two entries of the query rotated without rounding'. Assumes nothing.
 use Prim.Native.Nat.{ℕ, _+_, _*_}
 use mathlib.Core.List.{List, map}
 use lib.ListN.{getD}
@@ -12,7 +12,7 @@ use Rattle.rounding.specs.Sums.{exactTotal, sum}
 use Rattle.polar.specs.Polar.{valueAt, cosine, sine, pairs}
 
 -- ---- the exact sum
--- (qa × c + qb × s) × r, of pair i
+-- This is (qa × c + qb × s) × r of pair i.
 unfoldable pub exactTerm : List Diff → List Float → List ℕ → List Float → ℕ → Diff
 exactTerm xs directions indices radii i =
     (getD xs (2 * i) nought ⊠ val (cosine directions indices i) ⊞ getD xs (2 * i + 1) nought ⊠ val (sine directions indices i)) ⊠ val (valueAt radii i)
@@ -21,7 +21,7 @@ unfoldable pub exactPolar : List Diff → List Float → List ℕ → List Float
 exactPolar xs directions indices radii = exactTotal (map (λ i. exactTerm xs directions indices radii i) (pairs radii))
 
 -- ---- its size, where bs bound the sizes of the exact entries
--- |r| × (|c| × ba + |s| × bb), of pair i
+-- This is |r| × (|c| × ba + |s| × bb) of pair i, with ba and bb the pair's two entries of bs.
 unfoldable pub sizeTerm : List ℕ → List Float → List ℕ → List Float → ℕ → ℕ
 sizeTerm bs directions indices radii i =
     mag (valueAt radii i) * (mag (cosine directions indices i) * getD bs (2 * i) 0 + mag (sine directions indices i) * getD bs (2 * i + 1) 0)

@@ -23,7 +23,7 @@ pub enum Angle {
 // Rust's `std::f32::consts::PI`, 40490FDB.
 const PI: f32 = 3.14159274;
 
-// The angle of an index of so many bits, from -PI on.
+// The angle of an index of `bits` bits; index 0 has the angle -PI.
 pub fn dequantize_angle(bits: u8, index: u16) -> Angle
     ensures { λ r. ⌜ saysAngle r ≡ dequantizeAngleOf bits index ⌝ }
 {

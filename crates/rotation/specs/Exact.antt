@@ -1,5 +1,5 @@
--- The rotation without rounding: the same steps over whole numbers, with 1/sqrt(n) 'as the floats that they are'. An entry is a whole number of
--- units of 2 ^ -298, since a value is a whole number of units of 2 ^ -149 and so is 1/sqrt(n). Assumes nothing.
+-- The rotation without rounding takes the same steps over whole numbers, 'taking .. 1/sqrt(n) .. as the floats that they are'. An entry is a whole number of units
+-- of 2 ^ -298, since a value is a whole number of units of 2 ^ -149 and so is 1/sqrt(n). Assumes nothing.
 use Prim.Native.Nat.{ℕ}
 use mathlib.Core.Bool.{Bool}
 use mathlib.Core.List.{List, map}
@@ -12,11 +12,11 @@ use Rattle.rounding.specs.Sums.{turnedEach}
 use Rattle.rounding.specs.Butterfly.{stages}
 use Rattle.rotation.specs.Rotation.{inverseRoot}
 
--- whether a sign is -1
+-- The sign is -1, which is told by its being below zero.
 abbrev pub negative : Float → Bool
 negative s = lt s posZero
 
--- 'the query rotated without rounding'
+-- 'the query rotated without rounding': signs, butterflies and the product with 1/sqrt(n), each exact.
 unfoldable pub exactRotated : ℕ → List Float → List Float → List Diff
 exactRotated n signs xs =
     map (λ x. x ⊠ val (inverseRoot n)) (stages _⊞_ _⊟_ nought (trailingZeros 64 n) 1 (turnedEach (map negative signs) (map val xs)))

@@ -39,7 +39,7 @@ fn is_bad_sign(sign: f32) -> bool
     if sign != -1.0 { sign != 1.0 } else { false }
 }
 
-// The index of the first sign that is neither -1 nor 1, or their number where there is none.
+// The index of the first sign that is neither -1 nor 1, or how many signs there are where each is one of them.
 pub fn first_bad_sign(signs: &[f32]) -> usize
     ensures { λ r. ⌜ r ≡ firstBadSignOf (now (signs .entry)) ⌝ }
 {
@@ -172,7 +172,7 @@ fn butterflies(values: &mut [f32], h: usize)
     }
 }
 
-// Every stage, in place: so many, with steps 1, 2, 4 and on.
+// All stages of butterflies, in place: `count` of them, with steps 1, 2, 4 and on.
 fn transform(values: &mut [f32], count: u32)
     requires { ⌜ (count ≤ 12) × (length (now values) ≡ 2 ^ count) ⌝ }
     ensures { λ _. ⌜ now (values .exit) ≡ stages (add binary32) (sub binary32) posZero count 1 (now (values .entry)) ⌝ }

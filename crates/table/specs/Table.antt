@@ -1,5 +1,5 @@
--- Document 01's worked cases, P1 to P13, as one table: each row is a definition that contracts cite, at the row's input, and what the document says of it. Its one
--- truth, `table-holds`, covers all rows. Bytes and patterns are hexadecimal, as there. Assumes nothing.
+-- Document 01's worked cases, P1 to P13, stand here as one table: each row is a definition that contracts cite, at the row's input, and what the document says of
+-- it. Its one truth, `table-holds`, covers all rows. Bytes and patterns are hexadecimal, as there. Assumes nothing.
 use Prim.Native.Nat.{ℕ, _≤_}
 use mathlib.Core.Path.{_≡_}
 use mathlib.Core.Bool.{true, false}
@@ -22,7 +22,7 @@ use Rattle.packed_writing.specs.Writing.{writeRecordOf}
 abbrev float : ℕ → Float
 float bits = ofBits binary32 bits
 
--- the records of P12 and P13
+-- These two are the records of P12 and P13.
 abbrev pub withoutSigns : List ℕ
 withoutSigns = 0x00 ∷ 0x02 ∷ 0x00 ∷ 0x00 ∷ 0x00 ∷ 0x01 ∷ 0x00 ∷ 0x00 ∷ 0x80 ∷ 0x3F ∷ 0x01 ∷ []
 
@@ -53,13 +53,13 @@ pub record Table : Type 0 where
   pub p10 : dequantizeAngleOf 1 1 ≡ value (fin false 0 (pos 0))
   -- '(0, 0.5, 1): 00 00 00 80 FF FF.'
   pub p11 : compressBytesOf (float 0x0000_0000 ∷ float 0x3F00_0000 ∷ float 0x3F80_0000 ∷ []) BlockLinearU16 6 ≡ value (0x00 ∷ 0x00 ∷ 0x00 ∷ 0x80 ∷ 0xFF ∷ 0xFF ∷ [])
-  -- 'n 2, 1 bit, radius 1.0, index 1: 00 02 00 00 00 01 00 00 80 3F 01.' Written, and read again
+  -- 'n 2, 1 bit, radius 1.0, index 1: 00 02 00 00 00 01 00 00 80 3F 01.' It is written, and read again.
   pub p12-written : writeRecordOf (record { profile = F32; mode = PolarOnly; dim = 2; bits = 1; projections = 0 }) (one false ∷ []) (1 ∷ []) [] 11 ≡ value withoutSigns
   pub p12-read : readRecordOf withoutSigns ≡ value (record { mode = PolarOnly; profile = F32; dim = 2; bits = 1; projections = 0; range = record { min = posZero; max = posZero }; «radii_start» = 6; «indices_start» = 10; «signs_start» = 11; end = 11 })
   pub p12-radii : radiiOf withoutSigns ≡ one false ∷ []
   pub p12-indices : indicesOf withoutSigns ≡ 1 ∷ []
   pub p12-signs : signsOf withoutSigns ≡ []
-  -- 'With signs (+, −, +): 02 02 00 00 00 01 03 00 00 00 00 00 80 3F 01 05.'
+  -- 'With signs (+, −, +): 02 02 00 00 00 01 03 00 00 00 00 00 80 3F 01 05.' It is written, and read again.
   pub p13-written : writeRecordOf (record { profile = F32; mode = PolarWithQjl; dim = 2; bits = 1; projections = 3 }) (one false ∷ []) (1 ∷ []) (pos 1 ∷ negsuc 0 ∷ pos 1 ∷ []) 16 ≡ value withSigns
   pub p13-read : readRecordOf withSigns ≡ value (record { mode = PolarWithQjl; profile = F32; dim = 2; bits = 1; projections = 3; range = record { min = posZero; max = posZero }; «radii_start» = 10; «indices_start» = 14; «signs_start» = 15; end = 16 })
   pub p13-radii : radiiOf withSigns ≡ one false ∷ []

@@ -1,4 +1,4 @@
--- The score of a record under a setup and a query, and by a prepared query. Document 01: 'Scoring follows `TurboQuantizer::inner_product_estimate`: setup,
+-- This is the score of a record under a setup and a query, and by a prepared query. Document 01: 'Scoring follows `TurboQuantizer::inner_product_estimate`: setup,
 -- query length 5, query 11, rotated 11, projected 11, record reading, 5, 20, then 12.' Assumes nothing.
 use Prim.Native.Nat.{ℕ}
 use mathlib.Core.List.{List, [], _∷_, _++_}
@@ -19,11 +19,11 @@ use Rattle.turbo.specs.Scoring.{recordScore, readingChecks}
 
 -- ---- by a query
 
--- the score of a record's bytes
+-- This is the score of a record's bytes, before any check.
 abbrev pub estimate : Setup → Lent → List Float → List ℕ → Float
 estimate s l query bytes = scoreOf s l query (contentOf bytes)
 
--- 'setup, query length 5, query 11, rotated 11, projected 11, record reading, 5, 20, then 12'
+-- These are all checks of scoring: 'setup, query length 5, query 11, rotated 11, projected 11, record reading, 5, 20, then 12'.
 abbrev pub estimateChecks : Setup → Lent → List Float → List ℕ → List Check
 estimateChecks s l query bytes = queryChecks s l query ++ readingChecks s bytes (estimate s l query bytes)
 
@@ -43,7 +43,7 @@ innerProductEstimatePhasedOf s l query bytes = first (queryChecks s l query) (va
 
 -- ---- by a prepared query, which needs neither signs nor matrix
 
--- the two lengths, then 11 for either
+-- The two lengths are checked, 5, then the values of either list, 11.
 abbrev pub lengthsAndValues : Setup → List Float → List Float → List Check
 lengthsAndValues s rotated projected =
     wrongInput (length rotated) (s .dim)
@@ -52,7 +52,7 @@ lengthsAndValues s rotated projected =
     ∷ each badValue 11 projected
     ∷ []
 
--- of the setup the scalars and the directions, then what is asked of the query
+-- Of the setup the scalars and the directions are checked, then what is asked of the prepared query.
 abbrev pub readyChecks : Setup → List Float → List Float → List Float → List Check
 readyChecks s directions rotated projected = scalarChecks s ++ directionChecks s directions ++ lengthsAndValues s rotated projected
 

@@ -1,4 +1,4 @@
--- What private functions of this crate tell their callers; no public promise is stated by these. Assumes nothing.
+-- Private functions of this crate tell these to their callers. No public promise is stated by these. Assumes nothing.
 use Prim.Native.Nat.{ℕ}
 use mathlib.Core.Path.{_≡_}
 use mathlib.Core.List.{List}
@@ -11,21 +11,21 @@ use Rattle.turbo.specs.declared.Phased.{Phased}
 use Rattle.turbo.specs.declared.Phased.the-variants.{Score, BeforeReading, FromReading}
 use Rattle.turbo.specs.Scoring.{recordScore, readingChecks}
 
--- the radii of a record stand in front of room that was lent for them
+-- The radii of a record stand in front of `room`, which is memory that was lent for them.
 abbrev pub RadiiInFront : List ℕ → List Float → Type 0
 RadiiInFront bytes room = take (length (radiiOf bytes)) room ≡ radiiOf bytes
 
--- they do where a score is answered
+-- They do where a score is answered; of a refusal nothing is said.
 abbrev pub RadiiLeft : Phased → List ℕ → List Float → Type 0
 RadiiLeft (Score x) bytes room = RadiiInFront bytes room
 RadiiLeft (BeforeReading n p) bytes room = Unit {0}
 RadiiLeft (FromReading n p) bytes room = Unit {0}
 
--- an answer without the phase of its refusal
+-- This is an answer without the phase of its refusal.
 abbrev pub joined : {A : Type 0} → Answer (Answer A) → Answer A
 joined (value a) = a
 joined (refused n p) = refused n p
 
--- the answer from record reading on
+-- This is the answer from record reading on, by a query that is rotated and projected.
 unfoldable pub recordScoreOf : Setup → List Float → List Float → List Float → List ℕ → Answer Float
 recordScoreOf s directions rotated projected bytes = first (readingChecks s bytes (recordScore s directions rotated projected bytes)) (value (recordScore s directions rotated projected bytes))

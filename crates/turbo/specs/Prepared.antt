@@ -12,7 +12,7 @@ use Rattle.turbo_query.specs.Query.{prepareRotatedOf, prepareProjectedOf}
 use Rattle.turbo.specs.Estimates.{innerProductEstimateOf, innerProductEstimatePreparedOf}
 use Rattle.turbo.specs.Order.{Demand}
 
--- the two lists are what `prepare_query` answers for the query, into outputs of some two lengths
+-- The two lists are what `prepare_query` answers for the query, into outputs of some two lengths.
 pub record IsPrepared (s : Setup) (l : Lent) (query rotated projected : List Float) : Type 0 where
   pub room : ℕ
   pub space : ℕ

@@ -52,7 +52,7 @@ pub fn inner_product_estimate(
     without_phase(inner_product_estimate_phased(setup, signs, directions, matrix, query, bytes))
 }
 
-// The same, and a refusal tells whether it came before the record was read.
+// The answer of `inner_product_estimate`, with a refusal that tells whether it came before the record was read.
 pub fn inner_product_estimate_phased(
     setup: Setup,
     signs: &[f32],
@@ -67,7 +67,7 @@ pub fn inner_product_estimate_phased(
     measure(setup, signs, directions, matrix, query, bytes, &mut radii)
 }
 
-// The same by a query that is prepared, which needs neither signs nor matrix.
+// The estimated inner product by a query that is prepared, which needs neither signs nor matrix.
 pub fn inner_product_estimate_prepared(
     setup: Setup,
     directions: &[f32],
@@ -128,7 +128,7 @@ fn measure(
     }
 }
 
-// The same under a setup whose scalars have passed.
+// What `measure` answers and leaves, under a setup whose scalars have passed.
 fn measure_query(
     setup: Setup,
     signs: &[f32],
@@ -339,7 +339,7 @@ fn without_phase(phased: Phased) -> Scored
     }
 }
 
-// Room for the indices of a record.
+// Room for the indices of a record, of which there are at most 2,048.
 fn no_indices() -> [u16; 2048] {
     [0u16; 2048]
 }

@@ -1,4 +1,5 @@
--- A record decoded: its pairs, rotated back. Document 01: '`decode_approximate`: setup, record reading, 5, 20; infinities in its output pass.' Assumes nothing.
+-- A record is decoded into its pairs, rotated back. Document 01: '`decode_approximate`: setup, record reading, 5, 20; infinities in its output pass.'
+-- Assumes nothing.
 use Prim.Native.Nat.{ℕ}
 use mathlib.Core.List.{List, [], _∷_, _++_}
 use lib.Ieee.{Float}
@@ -12,11 +13,11 @@ use Rattle.polar.specs.Polar.{decodedPairs}
 use Rattle.packed.specs.Reading.{radiiOf, indicesOf}
 use Rattle.turbo_opening.specs.Opening.{openChecks}
 
--- (r × c, r × s) of each pair, rotated back
+-- These are (r × c, r × s) of each pair, rotated back.
 abbrev pub decoded : Setup → Lent → List ℕ → List Float
 decoded s l bytes = unrotated (s .dim) (l .signs) (decodedPairs (l .directions) (indicesOf bytes) (radiiOf bytes))
 
--- 'setup, record reading, 5, 20'; 'In every call 6 comes after all input checks.' `room` is the output's length
+-- 'setup, record reading, 5, 20'; 'In every call 6 comes after all input checks.' `room` is the output's length.
 abbrev pub decodeChecks : Setup → Lent → List ℕ → ℕ → List Check
 decodeChecks s l bytes room = setupChecks s l ++ openChecks s bytes ++ (wrongRoom room (s .dim) ∷ [])
 

@@ -1,4 +1,4 @@
--- What private functions of this crate ask of their callers, so that nothing refuses any more; no public promise is stated by these. Assumes nothing.
+-- Private functions of this crate ask these of their callers, so that nothing refuses any more. No public promise is stated by these. Assumes nothing.
 use Prim.Native.Nat.{ℕ, _*_, _/_, _≤_}
 use mathlib.Core.Path.{_≡_}
 use mathlib.Core.List.{List}
@@ -8,12 +8,12 @@ use Rattle.rotation.specs.Checks.{rotationChecks}
 use Rattle.packed.specs.declared.Header.{Header}
 use Rattle.packed.specs.Reading.{readRecordOf}
 
--- a record with the header that was read from it, and n values, two for each of its pairs
+-- The header was read from the record, and there are n values, two for each of its pairs.
 pub record Paired (bytes : List ℕ) (header : Header) (n : ℕ) : Type 0 where
   pub read : readRecordOf bytes ≡ value header
   pub double : n ≡ 2 * (header .dim / 2)
 
--- and the values can be rotated back by the signs
+-- Beside that, the values can be rotated back by the signs.
 pub record Decodable (signs : List Float) (bytes : List ℕ) (header : Header) (n : ℕ) : Type 0 where
   pub paired : Paired bytes header n
   pub small : n ≤ 4096

@@ -1,4 +1,4 @@
--- What private functions of this crate and of turbo tell their callers; no public promise is stated by this. Assumes nothing.
+-- Private functions of this crate and of `turbo` tell this to their callers. No public promise is stated by this. Assumes nothing.
 use Prim.Native.Nat.{ℕ}
 use mathlib.Core.List.{List}
 use Rattle.error.specs.Answer.{Answer, value, first}
@@ -7,6 +7,6 @@ use Rattle.packed.specs.declared.Header.{Header}
 use Rattle.packed.specs.Layout.{headerOf}
 use Rattle.turbo_opening.specs.Opening.{openChecks}
 
--- 'record reading, 5, 20', with no check of the setup: whoever asks has made those before
+-- This is 'record reading, 5, 20' with no check of the setup: whoever asks has made those before.
 unfoldable pub openedOf : Setup → List ℕ → Answer Header
 openedOf s bytes = first (openChecks s bytes) (value (headerOf bytes))

@@ -1,4 +1,4 @@
--- A record under a setup: read, and held against the setup. Document 01: '.. record reading, 5, 20'. Assumes nothing.
+-- A record is opened under a setup: read, and held against the setup. Document 01: '.. record reading, 5, 20'. Assumes nothing.
 use Prim.Native.Nat.{ℕ}
 use mathlib.Core.Bool.{Bool, _||_}
 use mathlib.Core.List.{List, [], _∷_, _++_}
@@ -13,11 +13,11 @@ use Rattle.packed.specs.Layout.{headerOf}
 use Rattle.packed.specs.Reading.{recordChecks, radiiOf, indicesOf, signsOf}
 use Rattle.turbo_order.specs.Scores.{Content}
 
--- what a record holds, as read from its bytes
+-- This is what a record holds, as read from its bytes.
 abbrev pub contentOf : List ℕ → Content
 contentOf bytes = record { radii = radiiOf bytes; indices = indicesOf bytes; signs = signsOf bytes }
 
--- '.. a record's bits or projections are not the setup's.' Without signs its projections count as 0
+-- '.. a record's bits or projections are not the setup's.' Without signs its projections count as 0.
 abbrev pub badMatch : Setup → ℕ → ℕ → Bool
 badMatch s bits projections = differs bits (polarBitsOf s) || differs projections (countedProjectionsOf s)
 
@@ -25,14 +25,14 @@ badMatch s bits projections = differs bits (polarBitsOf s) || differs projection
 abbrev pub wrongMatch : Setup → List ℕ → Check
 wrongMatch s bytes = check (badMatch s (bitsOf bytes) (projectionsOf bytes)) 20 0
 
--- '5: .. a record's dimension, differs from the setup's. Place: the .. dimension found.'; then 20
+-- '5: .. a record's dimension, differs from the setup's. Place: the .. dimension found.' Then comes 20.
 abbrev pub matchChecks : Setup → List ℕ → List Check
 matchChecks s bytes = wrongInput (dimOf bytes) (s .dim) ∷ wrongMatch s bytes ∷ []
 
--- 'record reading, 5, 20'
+-- These are the checks 'record reading, 5, 20'.
 abbrev pub openChecks : Setup → List ℕ → List Check
 openChecks s bytes = recordChecks bytes ++ matchChecks s bytes
 
--- the setup's scalars, 'record reading, 5, 20'; the value is the header of a record that is the setup's
+-- This is what `open_record` answers: the checks of the setup's scalars, then 'record reading, 5, 20'. The value is the header of a record that is the setup's.
 unfoldable pub openRecordOf : Setup → List ℕ → Answer Header
 openRecordOf s bytes = first (scalarChecks s ++ openChecks s bytes) (value (headerOf bytes))

@@ -1,5 +1,5 @@
--- An account of the rotation of a query: all that the score, its exact score and its bound take from the rotation, so that each of the three is defined once
--- for every rotation. Assumes nothing.
+-- An account of the rotation of a query is all that the score, its exact score and its bound take from the rotation. So each of the three is defined once for every
+-- rotation. Assumes nothing.
 use Prim.Native.Nat.{ℕ, _*_}
 use mathlib.Core.List.{List}
 use lib.ListN.{replicate}
@@ -11,18 +11,18 @@ use Rattle.rotation.specs.Rotation.{inverseRoot, rotated}
 use Rattle.rotation.specs.Exact.{exactRotated}
 
 pub record Account : Type 0 where
-  -- the query's entries rotated, each step rounded
+  -- These are the query's entries rotated, each step rounded.
   pub entries : List Float
-  -- 'the query rotated without rounding', each entry a whole number of 2 ^ -298
+  -- This is 'the query rotated without rounding', each entry a whole number of 2 ^ -298.
   pub exact : List Diff
-  -- for each exact entry the sum of absolute values that bounds it, in units of 2 ^ -298
+  -- For each exact entry this is the sum of absolute values that bounds it, in units of 2 ^ -298.
   pub sizes : List ℕ
-  -- what stands for n in the bound's 'n + m + 16'
+  -- This stands for n in the bound's 'n + m + 16'.
   pub count : ℕ
-  -- by what the bound's R is multiplied
+  -- The bound's R is multiplied by this.
   pub factor : ℕ
 
--- The Hadamard rotation: '(1/sqrt(n)) × X' bounds every entry, with 'X the sum of the query's absolute values'; the bound's n and R are as they stand.
+-- This is the Hadamard rotation's: '(1/sqrt(n)) × X' bounds every entry, with 'X the sum of the query's absolute values'; the bound's n and R are as they stand.
 abbrev pub hadamardAccount : ℕ → List Float → List Float → Account
 hadamardAccount n signs query =
     record {

@@ -1,5 +1,5 @@
--- The size and the bound of a score as document 01 writes them: the definitions speak of an account of the rotation, entry by entry, and for the Hadamard rotation
--- they come to these products. Assumes nothing.
+-- The size and the bound of a score are stated here as document 01 writes them. The definitions speak of an account of the rotation, entry by entry, and for the
+-- Hadamard rotation they come to these products. Assumes nothing.
 use Prim.Native.Nat.{ℕ, _+_, _*_, _≤_}
 use mathlib.Core.Path.{_≡_}
 use mathlib.Core.List.{List}
@@ -14,7 +14,7 @@ use Rattle.setup.specs.declared.Setup.{Setup}
 use Rattle.setup.specs.Setups.{byMode, countedProjectionsOf}
 use Rattle.turbo_order.specs.Scores.{Content, accountOf, residualPartSize, sizeBy, perStep, perRadius, scoreBound}
 
--- '(1/sqrt(n)) × X × sum of r(|c| + |s|)'
+-- This is the first part of A: '(1/sqrt(n)) × X × sum of r(|c| + |s|)'.
 abbrev pub writtenPolarSize : Setup → Lent → List Float → Content → ℕ
 writtenPolarSize s l query c = mag (inverseRoot (s .dim)) * absoluteSum query * directionSum (l .directions) (c .indices) (c .radii)
 
@@ -22,10 +22,10 @@ writtenPolarSize s l query c = mag (inverseRoot (s .dim)) * absoluteSum query * 
 abbrev pub writtenSize : Setup → Lent → List Float → Content → ℕ
 writtenSize s l query c = byMode (s .mode) (writtenPolarSize s l query c) (writtenPolarSize s l query c + residualPartSize s l query)
 
--- of what a record holds that has at most a radius for each pair of the setup's dimension
+-- Both are claimed of what a record holds that has at most one radius for each pair of the setup's dimension.
 pub record AsWritten : Type 0 where
   pub size : (s : Setup) (l : Lent) (query : List Float) (c : Content) → 2 * length (c .radii) ≤ s .dim → sizeBy (accountOf s l query) s l query c ≡ writtenSize s l query c
-  -- 'bound = (n + m + 16) × A / 2^23 + (R + n×m + n) / 2^146'
+  -- 'bound = (n + m + 16) × A / 2^23 + (R + n×m + n) / 2^146'.
   pub bound : (s : Setup) (l : Lent) (query : List Float) (c : Content) → 2 * length (c .radii) ≤ s .dim
       → scoreBound s l query c
       ≡ (s .dim + countedProjectionsOf s + 16) * writtenSize s l query c + (perRadius * absoluteSum (c .radii) + perStep * (s .dim * countedProjectionsOf s + s .dim))

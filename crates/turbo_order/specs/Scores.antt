@@ -1,7 +1,6 @@
--- The score of what a record holds under a setup and a query, the exact score, and the bound between them: document 01, 'Rotation, sketch, score'.
--- What they take from the rotation is an account of it, so that they stand here once for every rotation.
--- Score, exact score and bound are whole numbers at one fixed scale, 2 ^ -619: a product of four f32 is a whole number of 2 ^ -596, and the bound has 2 ^ 23
--- below its line. Assumes nothing.
+-- These are the score of what a record holds under a setup and a query, the exact score, and the bound between them: document 01, 'Rotation, sketch, score'. What
+-- they take from the rotation is an account of it, so that they stand here once for every rotation. Score, exact score and bound are whole numbers at one fixed
+-- scale, 2 ^ -619: a product of four f32 is a whole number of 2 ^ -596, and the bound has 2 ^ 23 below its line. Assumes nothing.
 use Prim.Native.Nat.{ℕ, _+_, _*_, _^_}
 use mathlib.Core.Bool.{false}
 use mathlib.Core.List.{List}
@@ -21,34 +20,34 @@ use Rattle.qjl.specs.Score.{scaleOf, unitResidual}
 use Rattle.qjl.specs.Exact.{exactResidual, residualSize}
 use Rattle.turbo_order.specs.Account.{Account, hadamardAccount}
 
--- what a record holds, as read from it: a radius and an index for each pair, and its signs
+-- A record holds this, as read from it: a radius and an index for each pair, and its signs.
 pub record Content : Type 0 where
   pub radii : List Float
   pub indices : List ℕ
   pub signs : List ℤ
 
--- 'the scale K is root(PI / 2) × 1.0 / m'
+-- 'the scale K is root(PI / 2) × 1.0 / m'.
 abbrev pub unitScale : ℕ → Float
 unitScale m = scaleOf m (one false)
 
 -- ---- the score
--- 'The score is the polar sum plus the residual, rounded; in `PolarOnly` it is the polar sum.' From a query that is rotated and projected
+-- 'The score is the polar sum plus the residual, rounded; in `PolarOnly` it is the polar sum.' The query comes rotated, and projected as `values`.
 unfoldable pub scoreFrom : Setup → List Float → List Float → List Float → Content → Float
 scoreFrom s directions rotated values c =
     byMode (s .mode)
     (polarSumOf rotated directions (c .indices) (c .radii))
     (add binary32 (polarSumOf rotated directions (c .indices) (c .radii)) (unitResidual (s .projections) values (c .signs)))
 
--- the score by an account of the query's rotation, with the query projected on the matrix
+-- This is the score by an account of the query's rotation, with the query projected on the matrix.
 abbrev pub scoreBy : Account → Setup → Lent → List Float → Content → Float
 scoreBy a s l query c = scoreFrom s (l .directions) (a .entries) (projected (s .dim) (s .projections) (l .matrix) query) c
 
 -- ---- 'The exact score replaces each rounded step from query to score by its exact one', in units of 2 ^ -596
--- 'the sum over pairs of r × (qa × c + qb × s), .. (qa, qb) its two entries of the query rotated without rounding'
+-- 'the sum over pairs of r × (qa × c + qb × s), .. (qa, qb) its two entries of the query rotated without rounding'.
 abbrev pub exactPolarPart : Account → Lent → Content → Diff
 exactPolarPart a l c = exactPolar (a .exact) (l .directions) (c .indices) (c .radii)
 
--- 'K × the sum over rows of the record's sign × projected value', a whole number of 2 ^ -447, brought to 2 ^ -596
+-- 'K × the sum over rows of the record's sign × projected value' is a whole number of 2 ^ -447, brought to 2 ^ -596 here.
 abbrev pub exactResidualPart : Setup → Lent → List Float → Content → Diff
 exactResidualPart s l query c = unit ⊙ exactResidual (unitScale (s .projections)) (s .dim) (s .projections) (l .matrix) query (c .signs)
 
@@ -57,8 +56,8 @@ exactBy a s l query c = byMode (s .mode) (exactPolarPart a l c) (exactPolarPart 
 
 -- ---- 'A = (1/sqrt(n)) × X × sum of r(|c| + |s|), plus K × the sum of all |matrix entry × query entry|', in units of 2 ^ -596;
 -- 'Without residual the K part is 0.'
--- the sum of r(|c| × a + |s| × b), where a and b are the sums that bound the pair's two entries; each is (1/sqrt(n)) × X for the Hadamard rotation, and
--- `AsWritten` has the product that document 01 writes
+-- This is the sum of r(|c| × a + |s| × b), where a and b are the sums that bound the pair's two entries. Each is (1/sqrt(n)) × X for the Hadamard rotation, and
+-- `AsWritten` has the product that document 01 writes.
 abbrev pub polarPartSize : Account → Lent → Content → ℕ
 polarPartSize a l c = polarSize (a .sizes) (l .directions) (c .indices) (c .radii)
 
@@ -69,19 +68,19 @@ unfoldable pub sizeBy : Account → Setup → Lent → List Float → Content �
 sizeBy a s l query c = byMode (s .mode) (polarPartSize a l c) (polarPartSize a l c + residualPartSize s l query)
 
 -- ---- at the scale 2 ^ -619
--- how many make 2 ^ -149, of which every finite float is a whole number
+-- This many make 2 ^ -149, of which every finite float is a whole number.
 unfoldable pub perUnit : ℕ
 perUnit = 2 ^ 470
 
--- how many make 1 / 2 ^ 146
+-- This many make 1 / 2 ^ 146.
 unfoldable pub perStep : ℕ
 perStep = 2 ^ 473
 
--- how many make 2 ^ -149 / 2 ^ 146, of which R / 2 ^ 146 is a whole number
+-- This many make 2 ^ -149 / 2 ^ 146, of which R / 2 ^ 146 is a whole number.
 unfoldable pub perRadius : ℕ
 perRadius = 2 ^ 324
 
--- 'bound = (n + m + 16) × A / 2^23 + (R + n×m + n) / 2^146', with the account's count for the first n, and R times its factor
+-- 'bound = (n + m + 16) × A / 2^23 + (R + n×m + n) / 2^146', with the account's count for the first n, and R times its factor.
 unfoldable pub boundBy : Account → Setup → Lent → List Float → Content → ℕ
 boundBy a s l query c =
     (a .count + countedProjectionsOf s + 16) * sizeBy a s l query c
@@ -94,7 +93,7 @@ accountOf s l query = hadamardAccount (s .dim) (l .signs) query
 unfoldable pub scoreOf : Setup → Lent → List Float → Content → Float
 scoreOf s l query c = scoreBy (accountOf s l query) s l query c
 
--- the exact score and the bound, at the scale
+-- These two are the exact score and the bound, at the scale 2 ^ -619.
 abbrev pub scaledExact : Setup → Lent → List Float → Content → Diff
 scaledExact s l query c = 2 ^ 23 ⊙ exactBy (accountOf s l query) s l query c
 

@@ -1,5 +1,5 @@
--- What private functions of this crate ask of their callers and tell them: a query that is rotated and projected, judged and handed to two outputs; no public
--- promise is stated by these. Assumes nothing.
+-- Private functions of this crate ask some of these of their callers and ensure the others: a query that is rotated and projected is judged, and handed to two
+-- outputs. No public promise is stated by these. Assumes nothing.
 use Prim.Native.Nat.{ℕ, _≤_}
 use mathlib.Core.Path.{_≡_}
 use mathlib.Core.List.{List, [], _∷_}
@@ -10,7 +10,7 @@ use Rattle.error.specs.Checks.{wrongRoom, badValue}
 use Rattle.rotation.specs.Checks.{rotationChecks}
 use Rattle.qjl.specs.Inner.{Rowed}
 
--- 'rotated 11, projected 11', then 6 for either output: n values are needed in the first, m in the second
+-- 'rotated 11, projected 11', then 6 for either output: n values are needed in the first, whose length is `room`, and m in the second, whose length is `space`.
 abbrev pub handedChecks : ℕ → ℕ → List Float → List Float → ℕ → ℕ → List Check
 handedChecks n m rotated projected room space =
     each badValue 11 rotated
@@ -19,13 +19,13 @@ handedChecks n m rotated projected room space =
     ∷ wrongRoom space m
     ∷ []
 
--- what the call says, and what either output holds afterwards: both values, or what they held before
+-- The call says `said`, and the outputs hold out′ and other′ afterwards: both values, or what they held before.
 pub record Handed (n m : ℕ) (rotated projected out other : List Float) (said : Answer (Unit {0})) (out′ other′ : List Float) : Type 0 where
   pub answer : said ≡ first (handedChecks n m rotated projected (length out) (length other)) accepted
   pub rotated-after : out′ ≡ after (first (handedChecks n m rotated projected (length out) (length other)) (value rotated)) out
   pub projected-after : other′ ≡ after (first (handedChecks n m rotated projected (length out) (length other)) (value projected)) other
 
--- a rotation of n values and a projection on m rows refuse nothing
+-- A rotation of n values and a projection on m rows refuse nothing.
 pub record Queryable (n m : ℕ) (signs matrix query : List Float) : Type 0 where
   pub small : n ≤ 4096
   pub few : m ≤ 4096

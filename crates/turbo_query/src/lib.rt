@@ -37,8 +37,8 @@ pub fn prepare_query(
     prepare_checked(setup, signs, directions, matrix, query, rotated, projected)
 }
 
-// Both outputs where nothing offends, and else false with neither written. A finite projection has finite terms only, so the matrix
-// needs no pass of its own.
+// Writes both outputs where nothing offends, and else answers false with neither written. A finite projection has finite terms only, so the matrix needs no pass of
+// its own.
 fn prepare_at_once(
     setup: Setup,
     signs: &[f32],
@@ -70,7 +70,7 @@ fn prepare_at_once(
     true
 }
 
-// Both outputs, check by check: the checks of the matrix's entries come before those of the query.
+// Writes both outputs, or refuses, check by check: the checks of the matrix's entries come before those of the query.
 fn prepare_checked(
     setup: Setup,
     signs: &[f32],
@@ -93,7 +93,7 @@ fn prepare_checked(
     prepare(dim, rows, signs, matrix, query, rotated, projected)
 }
 
-// A query of the right length under tables of the right lengths: rotated and projected in memory of its own, then handed over.
+// Prepares a query of the right length under tables of the right lengths: it is rotated and projected in memory of its own, then handed over.
 fn prepare(
     dim: usize,
     rows: usize,
@@ -119,7 +119,7 @@ fn prepare(
     hand_over(&rotated[0..dim], &projected[0..rows], out, other)
 }
 
-// The query rotated, and the query projected, each into an output of just that length.
+// Writes the query rotated, and the query projected, each into an output of just its length.
 fn fill_query(
     dim: usize,
     signs: &[f32],
