@@ -1,5 +1,6 @@
 /*
- * Foldrima: the C functions of the proved port of turbo-quant, one for each call of document 01. For 64-bit x86 only: libcapi.a is an archive for x86-64 Linux.
+ * Foldrima: the C functions of the proved port of turbo-quant, one for each call of document 01, and one for a record's length. For 64-bit x86 only:
+ * libcapi.a is an archive for x86-64 Linux.
  *
  * A signature here is that of the function of the same name in crates/capi; a test of host/foldrima holds the two, and the numbers below, against the
  * sources.
@@ -29,8 +30,15 @@
  *     read_signs                      projections from foldrima_read_record
  *
  * Memory and threads. No call allocates, and none keeps anything after it returns, a pointer neither: there is no state, so calls may run in any number
- * of threads at once, as long as none writes what another is lent. A call takes at most 96 KB of stack, whatever it is lent (host/c/stack.c measures it
- * at the largest setup).
+ * of threads at once, as long as none writes what another is lent.
+ *
+ * Stack. Whatever it is lent, a call takes at most (host/c/stack.c measures every call at the largest setup):
+ *
+ *     inner_product_estimate, l2_distance_estimate                96 KB
+ *     prepare_query                                               48 KB
+ *     decode_approximate                                          40 KB
+ *     sketch, sketch_score, inner_product_estimate_prepared       24 KB
+ *     every other call                                             4 KB
  *
  * Modes and profiles. They are numbers here, since an enum can't cross to C, and every number of a uint8_t means one: a mode other than 0 counts as 1,
  * PolarWithQjl, and a profile other than 0 and 1 as BlockLogU8, which every call that takes a profile refuses (18; in foldrima_compress 16 comes
@@ -206,7 +214,8 @@ void foldrima_dequantize_midpoint(uint8_t bits, float min, float max, uint16_t i
 /* How many bytes a record takes; bits are the polar bits, and in PolarOnly the projections are ignored: 18, 2, 3, 4, 1, 8. */
 void foldrima_record_size(uint8_t profile, size_t dim, uint8_t bits, uint8_t mode, size_t projections, uint32_t *number, size_t *place, size_t *value);
 
-/* Writes a record; bits are the polar bits, and in PolarOnly the signs are none: 18, 2, 3, 4, 1, 8, 5 for radii, indices, signs, 16, 15, 10, 6. */
+/* Writes a record; bits are the polar bits, and in PolarOnly the signs are none: 18, 2, 3, 4, 1, 8, 5 for radii, indices, signs, 16 for
+ * bad radii, 16 for radii that would read as infinite, 15, 10, 6. */
 void foldrima_write_record(uint8_t profile, size_t dim, uint8_t bits, uint8_t mode, size_t projections, const float *radii, size_t radii_len,
                            const uint16_t *indices, size_t indices_len, const int8_t *signs, size_t signs_len, uint8_t *out, size_t out_len,
                            uint32_t *number, size_t *place);

@@ -3,7 +3,7 @@
  *
  *     cc -O2 -I include host/c/stack.c target/staticlib/libcapi.a -lpthread -lm -o stack && ./stack
  *
- * Ends with 1 where a call takes more than the 96 KB that the header names.
+ * Ends with 1 where a call takes more than the header names for its kind.
  */
 #include <math.h>
 #include <pthread.h>
@@ -13,7 +13,7 @@
 
 #include "foldrima.h"
 
-enum { DIM = 4096, PAIRS = DIM / 2, BITS = 16, POLAR = BITS - 1, TABLE = 2 << POLAR, SIZE = 1 << 20, MOST = 96 * 1024 };
+enum { DIM = 4096, PAIRS = DIM / 2, BITS = 16, POLAR = BITS - 1, TABLE = 2 << POLAR, SIZE = 1 << 20, KB = 1024 };
 
 static float signs[DIM], directions[TABLE], query[DIM], rotated[DIM], projected[DIM], radii[PAIRS], floats[DIM], *matrix;
 static uint16_t indices[PAIRS];
@@ -35,7 +35,18 @@ static void apply(void) { foldrima_apply(DIM, signs, DIM, query, DIM, floats, DI
 static void apply_inverse(void) { foldrima_apply_inverse(DIM, signs, DIM, query, DIM, floats, DIM, &number, &place); }
 static void compress(void) { float min, max; foldrima_compress(radii, PAIRS, FOLDRIMA_BLOCK_LINEAR_U16, payload, 2 * PAIRS, &number, &place, &min, &max); }
 static void decompress(void) { foldrima_decompress(FOLDRIMA_BLOCK_LINEAR_U16, PAIRS, 0.0f, 1.0f, payload, 2 * PAIRS, radii, PAIRS, &number, &place); }
-static void codebook(void) { uint16_t value; foldrima_quantize(BITS, 0.0f, 1.0f, 0.5f, &number, &place, &value); }
+static void quantize(void) { uint16_t value; foldrima_quantize(BITS, 0.0f, 1.0f, 0.5f, &number, &place, &value); }
+static void uniform(void) { foldrima_uniform(BITS, 0.0f, 1.0f, &number, &place); }
+static void levels(void) { uint32_t value; foldrima_levels(BITS, 0.0f, 1.0f, &number, &place, &value); }
+static void midpoint(void) { float value; foldrima_dequantize_midpoint(BITS, 0.0f, 1.0f, 1, &number, &place, &value); }
+static void encoded_bytes(void) { size_t value; foldrima_encoded_bytes(FOLDRIMA_BLOCK_LINEAR_U16, payload, 2 * PAIRS, &number, &place, &value); }
+static void length_of_indices(void) { size_t value; foldrima_packed_len(PAIRS, POLAR, &number, &place, &value); }
+static void padding(void) { foldrima_validate_padding_zero(packed, packed_len, 8 * packed_len, &number, &place); }
+static void angle(void) { float value; foldrima_dequantize_angle(POLAR, 1, &number, &place, &value); }
+static void root(void) { number = foldrima_sqrt(2.0f) < 1.0f; }
+static void hadamard_seed(void) { number = foldrima_hadamard_seed(1) == 1; }
+static void matrix_seed(void) { number = foldrima_matrix_seed(1) == 1; }
+static void record_size(void) { size_t value; foldrima_record_size(FOLDRIMA_F32, DIM, POLAR, FOLDRIMA_POLAR_WITH_QJL, DIM, &number, &place, &value); }
 static void check_setup(void) { foldrima_check_setup(SETUP, TABLES, &number, &place); }
 static void make_sketch(void) { foldrima_sketch(SETUP, TABLES, query, DIM, sketch, DIM, &number, &place); }
 static void sketch_score(void) { float value; foldrima_sketch_score(SETUP, TABLES, query, DIM, sketch, DIM, &number, &place, &value); }
@@ -53,6 +64,8 @@ static void read_record(void)
     foldrima_read_record(record, record_len, &number, &place, &mode, &profile, &dim, &bits, &projections, &min, &max);
 }
 static void radii_part(void) { size_t start, count; foldrima_radii_part(record, record_len, &start, &count); }
+static void indices_part(void) { size_t start, count; foldrima_indices_part(record, record_len, &start, &count); }
+static void signs_part(void) { size_t start, count; foldrima_signs_part(record, record_len, &start, &count); }
 static void read_radii(void) { foldrima_read_radii(record, record_len, floats, PAIRS, &number, &place); }
 static void read_indices(void) { foldrima_read_indices(record, record_len, indices, PAIRS, &number, &place); }
 static void read_signs(void) { foldrima_read_signs(record, record_len, sketch, DIM, &number, &place); }
@@ -91,13 +104,17 @@ static size_t used(unsigned char *stack, void (*call)(void))
 
 int main(void)
 {
-    static const struct { const char *name; void (*call)(void); } calls[] = {
-        {"pack_indices", pack}, {"unpack_indices", unpack}, {"pack_signs", pack_signs}, {"unpack_signs", unpack_signs}, {"apply", apply},
-        {"apply_inverse", apply_inverse}, {"compress", compress}, {"decompress", decompress}, {"quantize", codebook}, {"check_setup", check_setup},
-        {"sketch", make_sketch}, {"sketch_score", sketch_score}, {"prepare_query", prepare}, {"write_record", write_record},
-        {"read_record", read_record}, {"radii_part", radii_part}, {"read_radii", read_radii}, {"read_indices", read_indices},
-        {"read_signs", read_signs}, {"inner_product_estimate", score}, {"inner_product_estimate_prepared", prepared_score},
-        {"l2_distance_estimate", distance}, {"decode_approximate", decode},
+    static const struct { const char *name; void (*call)(void); size_t most; } calls[] = {
+        {"packed_len", length_of_indices, 4 * KB}, {"pack_indices", pack, 4 * KB}, {"unpack_indices", unpack, 4 * KB}, {"pack_signs", pack_signs, 4 * KB},
+        {"unpack_signs", unpack_signs, 4 * KB}, {"validate_padding_zero", padding, 4 * KB}, {"uniform", uniform, 4 * KB}, {"levels", levels, 4 * KB},
+        {"quantize", quantize, 4 * KB}, {"dequantize_midpoint", midpoint, 4 * KB}, {"compress", compress, 4 * KB}, {"decompress", decompress, 4 * KB},
+        {"encoded_bytes", encoded_bytes, 4 * KB}, {"sqrt", root, 4 * KB}, {"dequantize_angle", angle, 4 * KB}, {"hadamard_seed", hadamard_seed, 4 * KB},
+        {"matrix_seed", matrix_seed, 4 * KB}, {"apply", apply, 4 * KB}, {"apply_inverse", apply_inverse, 4 * KB}, {"check_setup", check_setup, 4 * KB},
+        {"record_size", record_size, 4 * KB}, {"write_record", write_record, 4 * KB}, {"read_record", read_record, 4 * KB},
+        {"radii_part", radii_part, 4 * KB}, {"indices_part", indices_part, 4 * KB}, {"signs_part", signs_part, 4 * KB}, {"read_radii", read_radii, 4 * KB},
+        {"read_indices", read_indices, 4 * KB}, {"read_signs", read_signs, 4 * KB}, {"sketch", make_sketch, 24 * KB},
+        {"sketch_score", sketch_score, 24 * KB}, {"inner_product_estimate_prepared", prepared_score, 24 * KB}, {"decode_approximate", decode, 40 * KB},
+        {"prepare_query", prepare, 48 * KB}, {"inner_product_estimate", score, 96 * KB}, {"l2_distance_estimate", distance, 96 * KB},
     };
     unsigned char *stack = aligned_alloc(4096, SIZE);
     int failed = 0;
@@ -128,8 +145,8 @@ int main(void)
     const size_t thread = used(stack, nothing);
     for (size_t i = 0; i < sizeof calls / sizeof *calls; i++) {
         const size_t bytes = used(stack, calls[i].call) - thread;
-        failed |= number != 0 || bytes > MOST;
-        printf("%-34s %6zu bytes%s%s\n", calls[i].name, bytes, number ? ", REFUSED" : "", bytes > MOST ? ", TOO MANY" : "");
+        failed |= number != 0 || bytes > calls[i].most;
+        printf("%-34s %6zu bytes%s%s\n", calls[i].name, bytes, number ? ", REFUSED" : "", bytes > calls[i].most ? ", TOO MANY" : "");
     }
     return failed;
 }

@@ -10,9 +10,9 @@ use borrow.Author.Tests.{lt-ltb, le-ltb, ltb-false, leb-false, eq-eqb, ne-eqb, e
 use Rattle.error.specs.Answer.{value, refused, place, each, first}
 use Rattle.error.proofs.Places.{place-le, place-passed}
 use Rattle.digits.specs.Digits.{number, digits}
-use Rattle.error.specs.Checks.{wrongBits, wrongRoom}
+use Rattle.error.specs.Checks.{wrongBits, wrongRoom, badIndex}
 use Rattle.bitpack.specs.Padding.{bytesFor, wrongLength, wrongPadding, unpackChecks, validatePaddingZeroOf}
-use Rattle.bitpack.specs.Packing.{packedLenOf, packIndicesOf, unpackIndicesOf, badIndex, wrongOverflow}
+use Rattle.bitpack.specs.Packing.{packedLenOf, packIndicesOf, unpackIndicesOf, wrongOverflow}
 use Rattle.bitpack.specs.Inner.{Packable, Unpackable}
 use Rattle.error.proofs.Chains.{append-refused, append-passed, first-value, first-passes, or-false}
 

@@ -14,9 +14,9 @@ use borrow.Author.Tests.{lt-leb, leb-false, ltb-false, eqb-true, eqb-false}
 use Rattle.error.specs.Answer.{value, check, place, each}
 use Rattle.digits.specs.Digits.{number, digits}
 use Rattle.digits.proofs.Laws.{Below, below-head, below-tail, length-digits, digits-below, number-lt, number-digits, repack}
-use Rattle.error.specs.Checks.{wrongBits, wrongRoom}
+use Rattle.error.specs.Checks.{wrongBits, wrongRoom, badIndex}
 use Rattle.bitpack.specs.Padding.{bytesFor, badPadding, wrongLength, wrongPadding}
-use Rattle.bitpack.specs.Packing.{packIndicesOf, unpackIndicesOf, badIndex, wrongOverflow}
+use Rattle.bitpack.specs.Packing.{packIndicesOf, unpackIndicesOf, wrongOverflow}
 use Rattle.bitpack.specs.Signs.{isPlus, badSketchSign, bitOfSign, signOfBit, packSignsOf, unpackSignsOf}
 use Rattle.error.proofs.Chains.{Passed, first-passes, first-value, first-accepts, or-false}
 use Rattle.error.proofs.Places.{each-clear, each-none}

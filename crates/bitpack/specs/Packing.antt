@@ -1,12 +1,11 @@
 -- Indices of b bits are packed in bytes and unpacked again, refusals included. 'Index i of b bits occupies bits i×b upward, least significant first; bit k is bit k
 -- mod 8 of byte k/8': the indices are the digits, base 2^b, of one number, and the bytes are its digits, base 256. Assumes nothing.
 use Prim.Native.Nat.{ℕ, _-_, _*_, _^_}
-use mathlib.Core.Bool.{Bool}
 use mathlib.Core.List.{List, [], _∷_}
-use lib.Dec.{leb, ltb}
+use lib.Dec.{ltb}
 use lib.ListN.{length}
 use Rattle.error.specs.Answer.{Answer, value, Check, check, first, place, each}
-use Rattle.error.specs.Checks.{wrongBits, wrongRoom}
+use Rattle.error.specs.Checks.{wrongBits, badIndex, wrongRoom}
 use Rattle.digits.specs.Digits.{number, digits}
 use Rattle.bitpack.specs.Padding.{bytesFor, unpackChecks}
 
@@ -14,13 +13,17 @@ use Rattle.bitpack.specs.Padding.{bytesFor, unpackChecks}
 abbrev pub wrongOverflow : ℕ → ℕ → Check
 wrongOverflow count bits = check (ltb (2 ^ 64 - 1) (count * bits)) 19 0
 
--- '15: index at or above 2^bits. Place: its index', in a list of indices.
-abbrev pub badIndex : ℕ → ℕ → Bool
-badIndex bits index = leb (2 ^ bits) index
-
 -- This is the place of the first index that is too large, or how many indices there are where none is.
 abbrev pub firstBadIndexOf : List ℕ → ℕ → ℕ
 firstBadIndexOf indices bits = place (badIndex bits) indices
+
+-- These are the bytes of indices of `bits` bits each: the digits, base 256, of the number whose digits, base 2^bits, the indices are.
+abbrev pub indexBytes : ℕ → List ℕ → List ℕ
+indexBytes bits indices = digits 256 (bytesFor (length indices * bits)) (number (2 ^ bits) indices)
+
+-- These are the first `count` indices of `bits` bits each that bytes hold, the other way round.
+abbrev pub indicesIn : ℕ → ℕ → List ℕ → List ℕ
+indicesIn bits count bytes = digits (2 ^ bits) count (number 256 bytes)
 
 -- This is the answer of `packed_len`: how many bytes `count` indices of `bits` bits each take.
 unfoldable pub packedLenOf : ℕ → ℕ → Answer ℕ
@@ -40,7 +43,7 @@ packIndicesOf indices bits room =
     ∷ each (badIndex bits) 15 indices
     ∷ wrongRoom room (bytesFor (length indices * bits))
     ∷ [])
-    (value (digits 256 (bytesFor (length indices * bits)) (number (2 ^ bits) indices)))
+    (value (indexBytes bits indices))
 
 -- 'Unpacking: 1, 19, 13, 14, then 6.' `room` is the output's length, and the value is what the output holds afterwards.
 unfoldable pub unpackIndicesOf : List ℕ → ℕ → ℕ → ℕ → Answer (List ℕ)
@@ -49,4 +52,4 @@ unpackIndicesOf packed count bits room =
     (wrongBits bits
     ∷ wrongOverflow count bits
     ∷ unpackChecks packed (count * bits) count room)
-    (value (digits (2 ^ bits) count (number 256 packed)))
+    (value (indicesIn bits count packed))

@@ -34,6 +34,14 @@ bitOfSign z = cond (isPlus z) 1 0
 abbrev pub signOfBit : ℕ → ℤ
 signOfBit bit = cond (eqb bit 1) (pos 1) (negsuc 0)
 
+-- These are the bytes of signs, one bit each: the digits, base 256, of the number whose binary digits are the bits.
+abbrev pub signBytes : List ℤ → List ℕ
+signBytes signs = digits 256 (bytesFor (length signs)) (number 2 (map bitOfSign signs))
+
+-- These are the first `count` signs that bytes hold, the other way round.
+abbrev pub signsIn : ℕ → List ℕ → List ℤ
+signsIn count bytes = map signOfBit (digits 2 count (number 256 bytes))
+
 -- 'Packing signs: 10.' 'In every call 6 comes after all input checks.' `room` is the output's length.
 unfoldable pub packSignsOf : List ℤ → ℕ → Answer (List ℕ)
 packSignsOf signs room =
@@ -41,9 +49,9 @@ packSignsOf signs room =
     (each badSketchSign 10 signs
     ∷ wrongRoom room (bytesFor (length signs))
     ∷ [])
-    (value (digits 256 (bytesFor (length signs)) (number 2 (map bitOfSign signs))))
+    (value (signBytes signs))
 
 -- 'Unpacking signs: 13, 14.' 'In every call 6 comes after all input checks.' `room` is the output's length.
 unfoldable pub unpackSignsOf : List ℕ → ℕ → ℕ → Answer (List ℤ)
 unpackSignsOf packed count room =
-    first (unpackChecks packed count count room) (value (map signOfBit (digits 2 count (number 256 packed))))
+    first (unpackChecks packed count count room) (value (signsIn count packed))

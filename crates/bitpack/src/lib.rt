@@ -19,7 +19,8 @@ ghost use Rattle.digits.specs.Digits.{number, digits};
 ghost use Rattle.digits.specs.Inner.{fourAt};
 ghost use Rattle.bitpack.specs.Padding.{validatePaddingZeroOf};
 ghost use Rattle.bitpack.specs.Inner.{Packable, Unpackable, Eights, Refillable, Refilled};
-ghost use Rattle.bitpack.specs.Packing.{packedLenOf, badIndex, packIndicesOf, firstBadIndexOf, unpackIndicesOf};
+ghost use Rattle.error.specs.Checks.{badIndex};
+ghost use Rattle.bitpack.specs.Packing.{packedLenOf, packIndicesOf, firstBadIndexOf, unpackIndicesOf};
 
 // Bits that were read and not yet handed out, and the next byte to read.
 struct Window {

@@ -8,10 +8,10 @@ use lib.IntN.{ℤ}
 use lib.ListN.{length}
 use lib.Ieee.{Float}
 use Rattle.error.specs.Answer.{Answer, value, refused, Check, check, first, each, accepted}
-use Rattle.error.specs.Checks.{wrongBits, wrongRoom, wrongIndex, wrongInput, wrongScore}
+use Rattle.error.specs.Checks.{wrongBits, wrongRoom, wrongIndex, wrongInput, wrongScore, badIndex}
 use Rattle.error.proofs.Chains.{value-not-refused}
 use Rattle.bitpack.specs.Padding.{bytesFor, wrongLength, wrongPadding, validatePaddingZeroOf}
-use Rattle.bitpack.specs.Packing.{wrongOverflow, badIndex, packedLenOf, packIndicesOf, unpackIndicesOf}
+use Rattle.bitpack.specs.Packing.{wrongOverflow, packedLenOf, packIndicesOf, unpackIndicesOf}
 use Rattle.bitpack.specs.Signs.{badSketchSign, packSignsOf, unpackSignsOf}
 use Rattle.codebook.specs.Codebook.{wrongBounds, wrongValue, uniformOf, levelsOf, quantizeOf, dequantizeMidpointOf}
 use Rattle.polar.specs.Angle.{dequantizeAngleOf}
@@ -38,7 +38,7 @@ use Rattle.packed_size.specs.Size.{neededFor, codeChecks, recordSizeOf}
 use Rattle.packed_writing.specs.Writing.{fieldChecks, valueChecks, writeRecordOf}
 use Rattle.turbo_query.specs.Query.{prepareChecks, prepareRotatedOf}
 use Rattle.turbo.specs.Scoring.{recordScore, readingChecks}
-use Rattle.turbo.specs.Estimates.{estimateChecks, innerProductEstimateOf, readyChecks, innerProductEstimatePreparedOf}
+use Rattle.turbo.specs.Estimates.{estimateChecks, innerProductEstimateOf, preparedChecks, innerProductEstimatePreparedOf}
 use Rattle.turbo.specs.Distance.{distance, l2DistanceEstimateOf}
 use Rattle.turbo_decode.specs.Decode.{decodeChecks, decodeApproximateOf}
 
@@ -218,4 +218,4 @@ module _ (s : Setup) (l : Lent) (query : List Float) (bytes : List ℕ) where
 pub estimate-prepared-numbered : (s : Setup) (directions rotated values : List Float) (bytes : List ℕ) → Numbered (innerProductEstimatePreparedOf s directions rotated values bytes)
 unfolding innerProductEstimatePreparedOf
 estimate-prepared-numbered s directions rotated values bytes =
-    chain (readyChecks s directions rotated values ++ readingChecks s bytes (recordScore s directions rotated values bytes)) _ refl
+    chain (preparedChecks s directions rotated values ++ readingChecks s bytes (recordScore s directions rotated values bytes)) _ refl

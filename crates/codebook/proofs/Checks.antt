@@ -8,7 +8,8 @@ use lib.Dec.{ltb}
 use lib.Ieee.{Float}
 use Rattle.error.specs.Answer.{Answer, value, refused, first}
 use Rattle.error.proofs.Chains.{first-refused, first-passed, first-passes, or-false}
-use Rattle.codebook.specs.Codebook.{checkOf, wrongBounds}
+use Rattle.codebook.specs.Codebook.{wrongBounds}
+use Rattle.codebook.specs.Inner.{checkOf}
 use Rattle.error.specs.Checks.{wrongBits}
 
 -- what a call of a codebook says, by what its first two checks say

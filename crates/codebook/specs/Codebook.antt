@@ -2,7 +2,7 @@
 -- its value.' Assumes nothing.
 use Prim.Native.Nat.{ℕ, _-_, _^_, min}
 use mathlib.Core.Bool.{not, _||_}
-use mathlib.Core.List.{[], _∷_}
+use mathlib.Core.List.{List, [], _∷_}
 use lib.IntN.{pos}
 use lib.Ieee.{Float, binary32, add, sub, mul, div, le, ofInt, ofBits}
 use lib.Ieee.Scale.{finite}
@@ -38,40 +38,26 @@ middleOf bits lo hi index =
     (add binary32 (ofInt binary32 (pos index)) (ofBits binary32 0x3F00_0000))
     (div binary32 (sub binary32 hi lo) (levelsFloat bits)))
 
--- Every call asks this of its codebook: 1, then 17.
-unfoldable pub checkOf : ℕ → Float → Float → Answer (Unit {0})
-checkOf bits lo hi = first (wrongBits bits ∷ wrongBounds lo hi ∷ []) (value tt)
+-- 'Every codebook call: 1, 17, then its value.' `more` is what a call checks of its value.
+abbrev pub codebookChecks : ℕ → Float → Float → List Check → List Check
+codebookChecks bits lo hi more = wrongBits bits ∷ wrongBounds lo hi ∷ more
 
 unfoldable pub uniformOf : ℕ → Float → Float → Answer ScalarCodebook
 uniformOf bits lo hi =
-    first
-    (wrongBits bits
-    ∷ wrongBounds lo hi
-    ∷ [])
+    first (codebookChecks bits lo hi [])
     (value (record { bits = bits; min = lo; max = hi }))
 
 unfoldable pub levelsOf : ℕ → Float → Float → Answer ℕ
 levelsOf bits lo hi =
-    first
-    (wrongBits bits
-    ∷ wrongBounds lo hi
-    ∷ [])
+    first (codebookChecks bits lo hi [])
     (value (2 ^ bits))
 
 unfoldable pub quantizeOf : ℕ → Float → Float → Float → Answer ℕ
 quantizeOf bits lo hi x =
-    first
-    (wrongBits bits
-    ∷ wrongBounds lo hi
-    ∷ wrongValue x
-    ∷ [])
+    first (codebookChecks bits lo hi (wrongValue x ∷ []))
     (value (levelOf bits lo hi x))
 
 unfoldable pub dequantizeMidpointOf : ℕ → Float → Float → ℕ → Answer Float
 dequantizeMidpointOf bits lo hi index =
-    first
-    (wrongBits bits
-    ∷ wrongBounds lo hi
-    ∷ wrongIndex bits index
-    ∷ [])
+    first (codebookChecks bits lo hi (wrongIndex bits index ∷ []))
     (value (middleOf bits lo hi index))

@@ -1,2 +1,3 @@
 pub mod Codebook
+pub mod Inner
 pub mod Says

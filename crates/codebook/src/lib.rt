@@ -7,7 +7,8 @@ use error::Outcome;
 ghost use Prim.Native.Nat.{_≤_, _^_};
 ghost use mathlib.Core.Path.{_≡_};
 ghost use Rattle.error.specs.Outcomes.{says};
-ghost use Rattle.codebook.specs.Codebook.{checkOf, uniformOf, levelsOf, quantizeOf, dequantizeMidpointOf};
+ghost use Rattle.codebook.specs.Codebook.{uniformOf, levelsOf, quantizeOf, dequantizeMidpointOf};
+ghost use Rattle.codebook.specs.Inner.{checkOf};
 ghost use Rattle.codebook.specs.Says.{saysMade, saysCount, saysIndex, saysPoint};
 
 // A deterministic uniform scalar codebook over a closed interval.

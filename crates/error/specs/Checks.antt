@@ -23,9 +23,13 @@ wrongInput found needed = check (differs found needed) 5 found
 abbrev pub wrongRoom : ℕ → ℕ → Check
 wrongRoom found needed = check (differs found needed) 6 needed
 
--- '15: index at or above 2^bits. Place: its index; for a codebook or a single angle, 0.' This is the check of a codebook's index and of a single angle's.
+-- '15: index at or above 2^bits.'
+abbrev pub badIndex : ℕ → ℕ → Bool
+badIndex bits index = leb (2 ^ bits) index
+
+-- '15: .. Place: its index; for a codebook or a single angle, 0.' This is the check of a codebook's index and of a single angle's.
 abbrev pub wrongIndex : ℕ → ℕ → Check
-wrongIndex bits index = check (leb (2 ^ bits) index) 15 0
+wrongIndex bits index = check (badIndex bits index) 15 0
 
 -- A NaN and an infinity offend: '11: a value is not finite', and '9: a matrix entry is not finite'.
 unfoldable pub badValue : Float → Bool

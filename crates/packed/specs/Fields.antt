@@ -8,7 +8,7 @@ use lib.ListN.{getD, take, drop}
 use lib.Ieee.{Float}
 use Rattle.digits.specs.Digits.{number}
 use Rattle.float.specs.Bytes.{ofLeBytes}
-use Rattle.float.specs.Constants.{posZero}
+use Rattle.radius.specs.Radii.{noRange}
 use Rattle.radius.specs.declared.Range.{Range}
 use Rattle.radius.specs.declared.RadiusCodecProfileV1.{RadiusCodecProfileV1}
 use Rattle.radius.specs.declared.RadiusCodecProfileV1.the-variants.{F32, BlockLinearU16}
@@ -60,7 +60,7 @@ bitsOf bytes = getD bytes 5 0
 
 -- This is the range; F32 radii have none, and 0, 0 stands for it.
 unfoldable pub boundsOf : List ℕ → Range
-boundsOf bytes = cond (hasRange (mapOf bytes)) (record { min = floatAt bytes 6; max = floatAt bytes 10 }) (record { min = posZero; max = posZero })
+boundsOf bytes = cond (hasRange (mapOf bytes)) (record { min = floatAt bytes 6; max = floatAt bytes 10 }) noRange
 
 -- The projections start at this byte, behind the range if there is one.
 abbrev pub projectionsStart : ℕ → ℕ

@@ -9,10 +9,10 @@ use lib.IntN.{ℤ}
 use lib.ListN.{length}
 use lib.Ieee.{Float}
 use Rattle.error.specs.Answer.{Answer, value, refused, Check, check, first, each}
-use Rattle.digits.specs.Digits.{number, digits}
 use Rattle.bitpack.specs.Padding.{wrongPadding}
 use Rattle.error.specs.Checks.{differs, wrongRoom}
-use Rattle.bitpack.specs.Signs.{signOfBit}
+use Rattle.bitpack.specs.Packing.{indicesIn}
+use Rattle.bitpack.specs.Signs.{signsIn}
 use Rattle.radius.specs.Codec.{radiiFor}
 use Rattle.radius.specs.Radii.{badRadius}
 use Rattle.rotation.specs.Checks.{wrongZeroDimension, wrongOddDimension}
@@ -38,10 +38,10 @@ unfoldable pub radiiOf : List ℕ → List Float
 radiiOf bytes = radiiFor (profileOf (mapOf bytes)) (pairsOf bytes) (boundsOf bytes) (radiiBytes bytes)
 
 unfoldable pub indicesOf : List ℕ → List ℕ
-indicesOf bytes = digits (2 ^ bitsOf bytes) (pairsOf bytes) (number 256 (indicesBytes bytes))
+indicesOf bytes = indicesIn (bitsOf bytes) (pairsOf bytes) (indicesBytes bytes)
 
 unfoldable pub signsOf : List ℕ → List ℤ
-signsOf bytes = map signOfBit (digits 2 (projectionsOf bytes) (number 256 (signsBytes bytes)))
+signsOf bytes = signsIn (projectionsOf bytes) (signsBytes bytes)
 
 -- ---- the checks
 

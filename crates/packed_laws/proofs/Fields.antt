@@ -13,7 +13,7 @@ use lib.Ieee.{Float}
 use Rattle.error.proofs.Chains.{or-false}
 use Rattle.digits.specs.Digits.{number}
 use Rattle.digits.proofs.Laws.{length-digits}
-use Rattle.bitpack.specs.Signs.{bitOfSign}
+use Rattle.bitpack.specs.Signs.{bitOfSign, signBytes}
 use Rattle.bitpack.specs.Padding.{bytesFor}
 use Rattle.radius.specs.Codec.{badProfile, widthOf, rangeFor, payloadFor}
 use Rattle.radius.proofs.RoundTrip.{Floats}
@@ -24,7 +24,8 @@ use Rattle.packed.specs.Fields.{mapOf, profileOf, modeOf, dimOf, bitsOf, bounds
 use Rattle.packed.specs.Layout.{headerLength, recordLength, headerOf}
 use Rattle.setup.specs.Checks.{badProjections}
 use Rattle.packed_size.specs.Size.{mapFor}
-use Rattle.packed_writing.specs.Writing.{headerBytes, indexBytes, signBytes, recordOf}
+use Rattle.bitpack.specs.Packing.{indexBytes}
+use Rattle.packed_writing.specs.Writing.{headerBytes, recordOf}
 use Rattle.setup.specs.Setups.{counted}
 use Rattle.packed_writing.proofs.FieldsBack.{mode-back, profile-back, map-back, dim-back, bits-back, projections-back, bounds-back}
 use Rattle.packed_writing.proofs.PartsBack.{length-header, length-payloadFor}

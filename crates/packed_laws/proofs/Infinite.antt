@@ -12,11 +12,10 @@ use lib.IntN.{ℤ}
 use lib.ListN.{length, getD}
 use lib.Ieee.{Float, nan, inf}
 use Rattle.error.specs.Answer.{refused, each, place}
-use Rattle.error.specs.Checks.{wrongRoom}
+use Rattle.error.specs.Checks.{wrongRoom, badIndex}
 use Rattle.error.proofs.Places.{each-none}
 use Rattle.digits.specs.Digits.{number}
 use Rattle.digits.proofs.Laws.{length-digits, digits-below, number-lt}
-use Rattle.bitpack.specs.Packing.{badIndex}
 use Rattle.bitpack.specs.Signs.{badSketchSign}
 use Rattle.lists.proofs.Chunks.{chunks-joined}
 use Rattle.radius.specs.Codec.{badProfile}

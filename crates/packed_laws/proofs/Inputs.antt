@@ -11,10 +11,9 @@ use lib.IntN.{ℤ}
 use lib.ListN.{length, getD}
 use lib.Ieee.{Float, nan}
 use Rattle.error.specs.Answer.{value, place}
-use Rattle.error.specs.Checks.{wrongRoom}
+use Rattle.error.specs.Checks.{wrongRoom, badIndex}
 use Rattle.error.proofs.Chains.{first-all, first-value, or-false}
 use Rattle.error.proofs.Places.{each-clear}
-use Rattle.bitpack.specs.Packing.{badIndex}
 use Rattle.bitpack.specs.Signs.{badSketchSign}
 use Rattle.error.proofs.Differs.{differs-same}
 use Rattle.radius.specs.Codec.{badProfile}

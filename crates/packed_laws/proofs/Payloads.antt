@@ -17,8 +17,8 @@ use Rattle.digits.proofs.Laws.{length-digits}
 use Rattle.float.specs.Bytes.{ofLeBytes, toLeBytes}
 use Rattle.float.proofs.Bytes.{length-toLeBytes, ofLeBytes-toLeBytes}
 use Rattle.bitpack.specs.Padding.{bytesFor, badPadding, wrongLength, wrongPadding}
-use Rattle.bitpack.specs.Packing.{wrongOverflow, packIndicesOf, unpackIndicesOf}
-use Rattle.bitpack.specs.Signs.{unpackSignsOf}
+use Rattle.bitpack.specs.Packing.{wrongOverflow, packIndicesOf, unpackIndicesOf, indexBytes}
+use Rattle.bitpack.specs.Signs.{unpackSignsOf, signBytes}
 use Rattle.bitpack.proofs.RoundTrip.{unpack-pack, unpack-indices, unpack-pack-signs, unpack-signs-bits}
 use Rattle.radius.specs.Codec.{widthOf, rangeFor, payloadFor}
 use Rattle.radius.specs.declared.RadiusCodecProfileV1.the-variants.{F32}
@@ -29,7 +29,7 @@ use Rattle.packed.specs.Fields.{projectionsOf}
 use Rattle.packed.specs.Layout.{headerLength, pairsOf, indicesUsed, indicesStart, indicesLength, signsStart, signsLength, partAt, radiiBytes, indicesBytes, signsBytes}
 use Rattle.packed.specs.Reading.{radiiOf, indicesOf, signsOf}
 use Rattle.packed_size.specs.Size.{mapFor}
-use Rattle.packed_writing.specs.Writing.{headerBytes, indexBytes, signBytes, recordOf}
+use Rattle.packed_writing.specs.Writing.{headerBytes, recordOf}
 use Rattle.radius.specs.Firsts.{readBack}
 use Rattle.packed.proofs.Headers.{product-most}
 use Rattle.packed_writing.proofs.Writing.{indices-pass, signs-pass}

@@ -8,12 +8,11 @@ use borrow.Author.Tests.{lt-leb}
 use lib.IntN.{pos}
 use lib.ListN.{length, getD}
 use Rattle.error.specs.Answer.{value}
-use Rattle.error.specs.Checks.{wrongRoom}
+use Rattle.error.specs.Checks.{wrongRoom, badIndex}
 use Rattle.error.proofs.Chains.{first-all, first-accepts}
 use Rattle.error.proofs.Places.{each-none}
 use Rattle.digits.proofs.Laws.{Below}
-use Rattle.bitpack.specs.Packing.{badIndex}
-use Rattle.bitpack.specs.Signs.{badSketchSign}
+use Rattle.bitpack.specs.Signs.{badSketchSign, signBytes}
 use Rattle.error.proofs.Differs.{differs-not}
 use Rattle.radius.specs.declared.RadiusCodecProfileV1.{RadiusCodecProfileV1}
 use Rattle.radius.specs.declared.RadiusCodecProfileV1.the-variants.{F32, BlockLinearU16}
@@ -25,7 +24,8 @@ use Rattle.packed.specs.Layout.{radiiBytes, headerOf}
 use Rattle.packed.specs.Reading.{radiiOf, indicesOf, signsOf, recordChecks, readRecordOf}
 use Rattle.packed.specs.Accepted.{Accepted}
 use Rattle.packed_size.specs.Size.{mapFor, neededFor}
-use Rattle.packed_writing.specs.Writing.{headerBytes, indexBytes, signBytes, recordOf, fieldChecks, valueChecks, writeRecordOf}
+use Rattle.bitpack.specs.Packing.{indexBytes}
+use Rattle.packed_writing.specs.Writing.{headerBytes, recordOf, fieldChecks, valueChecks, writeRecordOf}
 use Rattle.setup.specs.Setups.{counted}
 use Rattle.packed.proofs.Accepted.{read-accepts}
 use Rattle.packed.proofs.Payloads.{length-radiiOf}

@@ -15,8 +15,8 @@ use Rattle.digits.specs.Digits.{digits}
 use Rattle.digits.proofs.Laws.{Below}
 use Rattle.float.specs.Bytes.{ofLeBytes, toLeBytes}
 use Rattle.bitpack.specs.Padding.{bytesFor}
-use Rattle.bitpack.specs.Packing.{unpackIndicesOf}
-use Rattle.bitpack.specs.Signs.{unpackSignsOf}
+use Rattle.bitpack.specs.Packing.{unpackIndicesOf, indexBytes}
+use Rattle.bitpack.specs.Signs.{unpackSignsOf, signBytes}
 use Rattle.bitpack.proofs.RoundTrip.{pack-bytes, pack-unpack, pack-signs-bytes, pack-unpack-signs}
 use Rattle.lists.specs.Chunks.{chunks}
 use Rattle.radius.specs.Radii.{badRadius}
@@ -27,7 +27,7 @@ use Rattle.packed.specs.Radii.{badBounds}
 use Rattle.packed.specs.Reading.{radiiOf, indicesOf, signsOf}
 use Rattle.packed.specs.Accepted.{Accepted}
 use Rattle.packed_size.specs.Size.{mapFor}
-use Rattle.packed_writing.specs.Writing.{rangeBytes, projectionBytes, headerBytes, indexBytes, signBytes}
+use Rattle.packed_writing.specs.Writing.{rangeBytes, projectionBytes, headerBytes}
 use Rattle.packed.proofs.Headers.{product-most}
 use Rattle.packed.proofs.Parts.{length-radii, length-indices, length-signs}
 use Rattle.packed.proofs.Payloads.{length-radiiOf}

@@ -13,8 +13,9 @@ use lib.Ieee.{Float}
 use Rattle.error.specs.Answer.{value, refused, place, first, each, accepted}
 use Rattle.error.proofs.Chains.{append-refused, append-passed}
 use Rattle.bitpack.specs.Padding.{bytesFor}
-use Rattle.bitpack.specs.Packing.{badIndex, packIndicesOf}
-use Rattle.bitpack.specs.Signs.{badSketchSign, packSignsOf}
+use Rattle.error.specs.Checks.{badIndex}
+use Rattle.bitpack.specs.Packing.{packIndicesOf, indexBytes}
+use Rattle.bitpack.specs.Signs.{badSketchSign, packSignsOf, signBytes}
 use Rattle.radius.specs.Codec.{badProfile, widthOf, compressChecks}
 use Rattle.radius.specs.Radii.{badRadius}
 use Rattle.radius.specs.declared.Range.{Range}
@@ -26,7 +27,7 @@ use Rattle.setup.specs.Setups.{byMode, counted}
 use Rattle.packed.specs.declared.Code.{Code}
 use Rattle.packed.specs.Layout.{headerLength}
 use Rattle.packed_size.specs.Size.{byProfile, mapFor, codeChecks}
-use Rattle.packed_writing.specs.Writing.{rangeBytes, indexBytes, signBytes, lengthChecks, fieldChecks}
+use Rattle.packed_writing.specs.Writing.{rangeBytes, lengthChecks, fieldChecks}
 
 -- ---- the header's length
 

@@ -11,9 +11,8 @@ use lib.ListN.{length}
 use lib.Ieee.{Float}
 use Rattle.error.specs.Answer.{value, refused, check, place, first, accepted}
 use Rattle.error.proofs.Chains.{first-all, append-left, append-refused, append-passed}
-use Rattle.error.specs.Checks.{wrongRoom}
+use Rattle.error.specs.Checks.{wrongRoom, badIndex}
 use Rattle.error.proofs.Differs.{differs-same}
-use Rattle.bitpack.specs.Packing.{badIndex}
 use Rattle.bitpack.specs.Padding.{bytesFor}
 use Rattle.bitpack.specs.Signs.{badSketchSign}
 use Rattle.float.specs.Bytes.{ofLeBytes}

@@ -9,7 +9,7 @@ use lib.ListN.{length}
 use lib.Ieee.{Float}
 use Rattle.error.specs.Answer.{place}
 use Rattle.bitpack.specs.Padding.{bytesFor}
-use Rattle.bitpack.specs.Packing.{badIndex}
+use Rattle.error.specs.Checks.{badIndex}
 use Rattle.bitpack.specs.Signs.{badSketchSign}
 use Rattle.radius.specs.Codec.{badProfile, widthOf}
 use Rattle.radius.specs.Radii.{badRadius}

@@ -1,17 +1,16 @@
 -- This is the writer: the bytes of a record, and its checks in document 01's order. 'Writing a record, F32 or linear: 18 for BlockLogU8, 2, 3, 4, 1 (16 is refused
 -- beside signs), 8, 5 for radii, indices and signs, 16 for bad radii, 16 for radii that would read as infinite, 15, 10.' Assumes nothing.
 use Prim.Native.Nat.{ℕ, _*_, _/_, _^_}
-use mathlib.Core.List.{List, [], _∷_, _++_, map}
+use mathlib.Core.List.{List, [], _∷_, _++_}
 use lib.IntN.{ℤ}
 use lib.ListN.{length}
 use lib.Ieee.{Float}
-use Rattle.error.specs.Checks.{wrongRoom, wrongInput}
+use Rattle.error.specs.Checks.{wrongRoom, wrongInput, badIndex}
 use Rattle.error.specs.Answer.{Answer, value, Check, first, each}
-use Rattle.digits.specs.Digits.{number, digits}
+use Rattle.digits.specs.Digits.{digits}
 use Rattle.float.specs.Bytes.{toLeBytes}
-use Rattle.bitpack.specs.Padding.{bytesFor}
-use Rattle.bitpack.specs.Packing.{badIndex}
-use Rattle.bitpack.specs.Signs.{badSketchSign, bitOfSign}
+use Rattle.bitpack.specs.Packing.{indexBytes}
+use Rattle.bitpack.specs.Signs.{signBytes, badSketchSign}
 use Rattle.radius.specs.Codec.{rangeFor, payloadFor}
 use Rattle.radius.specs.Firsts.{readBack}
 use Rattle.radius.specs.Radii.{badRadius}
@@ -41,13 +40,6 @@ headerBytes code range =
     ++ rangeBytes (code .profile) range
     ++ projectionBytes (code .mode) (code .projections)
 
--- These two are the payloads of indices and of signs.
-abbrev pub indexBytes : ℕ → List ℕ → List ℕ
-indexBytes bits indices = digits 256 (bytesFor (length indices * bits)) (number (2 ^ bits) indices)
-
-abbrev pub signBytes : List ℤ → List ℕ
-signBytes signs = digits 256 (bytesFor (length signs)) (number 2 (map bitOfSign signs))
-
 -- The header is followed by the payloads: 'then radii (linear if bit 0, else F32), indices, and signs if bit 1'.
 unfoldable pub recordOf : Code → List Float → List ℕ → List ℤ → List ℕ
 recordOf code radii indices signs =
@@ -60,11 +52,12 @@ recordOf code radii indices signs =
 
 -- '5 for radii, indices and signs': of each the length is given here, and a radius and an index are needed for each pair, and m signs.
 abbrev pub lengthChecks : ℕ → ℕ → ℕ → ℕ → ℕ → List Check
-lengthChecks pairs m radii indices signs = wrongInput radii pairs ∷ wrongInput indices pairs ∷ wrongInput signs m ∷ []
+lengthChecks pairs m manyRadii manyIndices manySigns = wrongInput manyRadii pairs ∷ wrongInput manyIndices pairs ∷ wrongInput manySigns m ∷ []
 
 -- '18 for BlockLogU8, 2, 3, 4, 1 (16 is refused beside signs), 8, 5 for radii, indices and signs', of which the lengths are given here.
 abbrev pub fieldChecks : Code → ℕ → ℕ → ℕ → List Check
-fieldChecks code radii indices signs = codeChecks code ++ lengthChecks (code .dim / 2) (counted (code .mode) (code .projections)) radii indices signs
+fieldChecks code manyRadii manyIndices manySigns =
+    codeChecks code ++ lengthChecks (code .dim / 2) (counted (code .mode) (code .projections)) manyRadii manyIndices manySigns
 
 -- These are the checks of indices and signs: '15, 10'.
 abbrev pub itemChecks : ℕ → List ℕ → List ℤ → List Check

@@ -19,13 +19,13 @@ ghost use mathlib.Core.List.{_++_};
 ghost use lib.ListN.{length, take, drop};
 ghost use Rattle.error.specs.Answer.{value, first, accepted, done, after};
 ghost use Rattle.error.specs.Outcomes.{says};
-ghost use Rattle.bitpack.specs.Packing.{packIndicesOf};
-ghost use Rattle.bitpack.specs.Signs.{packSignsOf};
+ghost use Rattle.bitpack.specs.Packing.{packIndicesOf, indexBytes};
+ghost use Rattle.bitpack.specs.Signs.{packSignsOf, signBytes};
 ghost use Rattle.setup.specs.Setups.{byMode};
 ghost use Rattle.radius.specs.Codec.{badProfile, compressChecks, rangeFor, payloadFor};
 ghost use Rattle.packed.specs.Layout.{headerLength};
 ghost use Rattle.packed_size.specs.Size.{byProfile, mapFor};
-ghost use Rattle.packed_writing.specs.Writing.{itemChecks, rangeBytes, projectionBytes, headerBytes, indexBytes, signBytes, lengthChecks, fieldChecks, valueChecks, writeRecordOf};
+ghost use Rattle.packed_writing.specs.Writing.{itemChecks, rangeBytes, projectionBytes, headerBytes, lengthChecks, fieldChecks, valueChecks, writeRecordOf};
 ghost use Rattle.packed_writing.specs.Inner.{CodesReady, Payloads};
 
 // Writes a record into exactly the bytes that it needs. Without signs the projections are ignored.

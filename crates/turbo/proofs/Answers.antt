@@ -22,11 +22,11 @@ use Rattle.qjl.specs.Sketch.{vectorChecks}
 use Rattle.packed.specs.Reading.{radiiOf, signsOf}
 use Rattle.turbo_order.specs.Scores.{accountOf, scoreFrom, scoreOf}
 use Rattle.turbo_order.proofs.Within.{polarPart}
-use Rattle.turbo_query.specs.Query.{rotatedQuery, projectedQuery, preparedChecks, queryChecks, prepareChecks, prepareRotatedOf, prepareProjectedOf}
+use Rattle.turbo_query.specs.Query.{rotatedQuery, projectedQuery, finiteChecks, queryChecks, prepareChecks, prepareRotatedOf, prepareProjectedOf}
 use Rattle.turbo_opening.specs.Opening.{contentOf}
 use Rattle.turbo.specs.Scoring.{recordScore, readingChecks}
 use Rattle.turbo.specs.Inner.{joined, recordScoreOf}
-use Rattle.turbo.specs.Estimates.{innerProductEstimatePhasedOf, estimate, estimateChecks, innerProductEstimateOf, readyChecks, innerProductEstimatePreparedOf, lengthsAndValues}
+use Rattle.turbo.specs.Estimates.{innerProductEstimatePhasedOf, estimate, estimateChecks, innerProductEstimateOf, preparedChecks, innerProductEstimatePreparedOf, lengthsAndValues}
 use Rattle.turbo.specs.Distance.{distanceSum, cutAtZero, distance, l2DistanceEstimateOf}
 use Rattle.turbo.proofs.Demand.{scored-estimate}
 
@@ -77,7 +77,7 @@ module _ (s : Setup) (l : Lent) (query : List Float) (bytes : List ℕ) where
 -- the scalars are judged first
 pub query-scalars : (s : Setup) (l : Lent) (query : List Float) {n p : ℕ} → first (scalarChecks s) accepted ≡ refused n p → first (queryChecks s l query) accepted ≡ refused n p
 query-scalars s l query e =
-    append-refused (vectorChecks s l query) (preparedChecks s l query) tt accepted
+    append-refused (vectorChecks s l query) (finiteChecks s l query) tt accepted
     (append-refused (setupChecks s l) (wrongInput (length query) (s .dim) ∷ each badValue 11 query ∷ []) tt accepted
     (append-refused (scalarChecks s) (tableChecks s l) tt accepted e))
 
@@ -89,8 +89,8 @@ module _ (s : Setup) (l : Lent) (query : List Float) (room space : ℕ) where
   prepared-done = first-done (prepareChecks s l query room space) (rotatedQuery s l query)
 
   module _ (e : done (prepareRotatedOf s l query room space) ≡ accepted) where
-    pub prepare-passed : first (queryChecks s l query) accepted ≡ accepted
-    prepare-passed = append-left (queryChecks s l query) (wrongRoom room (s .dim) ∷ wrongRoom space (countedProjectionsOf s) ∷ []) accepted (sym prepared-done ∙ e)
+    pub query-passed : first (queryChecks s l query) accepted ≡ accepted
+    query-passed = append-left (queryChecks s l query) (wrongRoom room (s .dim) ∷ wrongRoom space (countedProjectionsOf s) ∷ []) accepted (sym prepared-done ∙ e)
 
     pub prepare-rotated : prepareRotatedOf s l query room space ≡ value (rotatedQuery s l query)
     unfolding prepareRotatedOf
@@ -101,9 +101,9 @@ module _ (s : Setup) (l : Lent) (query : List Float) (room space : ℕ) where
     prepare-projected = first-passed (prepareChecks s l query room space) (value (projectedQuery s l query)) (sym prepared-done ∙ e)
 
   -- into room of the right length only the query is refused
-  pub prepare-refused : {n p : ℕ} → room ≡ s .dim → space ≡ countedProjectionsOf s → done (prepareRotatedOf s l query room space) ≡ refused n p
+  pub query-refused : {n p : ℕ} → room ≡ s .dim → space ≡ countedProjectionsOf s → done (prepareRotatedOf s l query room space) ≡ refused n p
       → first (queryChecks s l query) accepted ≡ refused n p
-  prepare-refused r t e =
+  query-refused r t e =
       let fits : first (wrongRoom room (s .dim) ∷ wrongRoom space (countedProjectionsOf s) ∷ []) accepted ≡ accepted = simp (eq-eqb room (s .dim) r, eq-eqb space (countedProjectionsOf s) t) in
       sym (ap (first (queryChecks s l query)) fits)
       ∙ sym (first-append (queryChecks s l query) (wrongRoom room (s .dim) ∷ wrongRoom space (countedProjectionsOf s) ∷ []) accepted)
@@ -132,30 +132,30 @@ module _ (s : Setup) (rotated projected : List Float) where
         values-passed q k = simp (eq-eqb (length rotated) (s .dim) long, eq-eqb (length projected) (countedProjectionsOf s) (many ∙ counted), each-passes badValue rotated p h, each-passes badValue projected q k)
 
 module _ (s : Setup) (directions rotated projected : List Float) where
-  pub ready-scalars : {n p : ℕ} → first (scalarChecks s) accepted ≡ refused n p → first (readyChecks s directions rotated projected) accepted ≡ refused n p
+  pub ready-scalars : {n p : ℕ} → first (scalarChecks s) accepted ≡ refused n p → first (preparedChecks s directions rotated projected) accepted ≡ refused n p
   ready-scalars e = append-refused (scalarChecks s) (directionChecks s directions ++ lengthsAndValues s rotated projected) tt accepted e
 
-  pub ready-usable : first (readyChecks s directions rotated projected) accepted ≡ accepted → first (scalarChecks s) accepted ≡ accepted
+  pub ready-usable : first (preparedChecks s directions rotated projected) accepted ≡ accepted → first (scalarChecks s) accepted ≡ accepted
   ready-usable e = append-left (scalarChecks s) (directionChecks s directions ++ lengthsAndValues s rotated projected) accepted e
 
   module _ (scalars : first (scalarChecks s) accepted ≡ accepted) where
-    ready-after : first (readyChecks s directions rotated projected) accepted ≡ first (directionChecks s directions ++ lengthsAndValues s rotated projected) accepted
+    ready-after : first (preparedChecks s directions rotated projected) accepted ≡ first (directionChecks s directions ++ lengthsAndValues s rotated projected) accepted
     ready-after = append-passed (scalarChecks s) (directionChecks s directions ++ lengthsAndValues s rotated projected) tt accepted scalars
 
-    pub ready-directions : {n p : ℕ} → first (directionChecks s directions) accepted ≡ refused n p → first (readyChecks s directions rotated projected) accepted ≡ refused n p
+    pub ready-directions : {n p : ℕ} → first (directionChecks s directions) accepted ≡ refused n p → first (preparedChecks s directions rotated projected) accepted ≡ refused n p
     ready-directions e = ready-after ∙ append-refused (directionChecks s directions) (lengthsAndValues s rotated projected) tt accepted e
 
-    pub ready-rest : first (directionChecks s directions) accepted ≡ accepted → first (readyChecks s directions rotated projected) accepted ≡ first (lengthsAndValues s rotated projected) accepted
+    pub ready-rest : first (directionChecks s directions) accepted ≡ accepted → first (preparedChecks s directions rotated projected) accepted ≡ first (lengthsAndValues s rotated projected) accepted
     ready-rest table = ready-after ∙ append-passed (directionChecks s directions) (lengthsAndValues s rotated projected) tt accepted table
 
   module _ (bytes : List ℕ) where
-    pub prepared-refused : {n p : ℕ} → first (readyChecks s directions rotated projected) accepted ≡ refused n p → innerProductEstimatePreparedOf s directions rotated projected bytes ≡ refused n p
+    pub prepared-refused : {n p : ℕ} → first (preparedChecks s directions rotated projected) accepted ≡ refused n p → innerProductEstimatePreparedOf s directions rotated projected bytes ≡ refused n p
     unfolding innerProductEstimatePreparedOf
-    prepared-refused e = append-refused (readyChecks s directions rotated projected) (readingChecks s bytes (recordScore s directions rotated projected bytes)) tt (value (recordScore s directions rotated projected bytes)) e
+    prepared-refused e = append-refused (preparedChecks s directions rotated projected) (readingChecks s bytes (recordScore s directions rotated projected bytes)) tt (value (recordScore s directions rotated projected bytes)) e
 
-    pub prepared-passed : first (readyChecks s directions rotated projected) accepted ≡ accepted → innerProductEstimatePreparedOf s directions rotated projected bytes ≡ recordScoreOf s directions rotated projected bytes
+    pub prepared-passed : first (preparedChecks s directions rotated projected) accepted ≡ accepted → innerProductEstimatePreparedOf s directions rotated projected bytes ≡ recordScoreOf s directions rotated projected bytes
     unfolding innerProductEstimatePreparedOf recordScoreOf
-    prepared-passed e = append-passed (readyChecks s directions rotated projected) (readingChecks s bytes (recordScore s directions rotated projected bytes)) tt (value (recordScore s directions rotated projected bytes)) e
+    prepared-passed e = append-passed (preparedChecks s directions rotated projected) (readingChecks s bytes (recordScore s directions rotated projected bytes)) tt (value (recordScore s directions rotated projected bytes)) e
 
 -- ---- the distance
 

@@ -27,7 +27,7 @@ use Rattle.turbo_order.proofs.Sound.{Sound}
 use Rattle.turbo_order.specs.Scores.{accountOf, scoreOf}
 use Rattle.turbo_order.proofs.Within.{Scorable, score-within, scores-ordered}
 use Rattle.turbo_order.proofs.Hadamard.{hadamard-sound}
-use Rattle.turbo_query.specs.Query.{preparedChecks, queryChecks}
+use Rattle.turbo_query.specs.Query.{finiteChecks, queryChecks}
 use Rattle.turbo_opening.specs.Opening.{contentOf, openChecks}
 use Rattle.turbo_opening.specs.Inner.{openedOf}
 use Rattle.turbo_opening.proofs.Answers.{opened-accepted, opened-dim, opened-projections}
@@ -44,7 +44,7 @@ module _ (s : Setup) (l : Lent) (query : List Float) (bytes : List ℕ) {x : Flo
   scored-query = append-left (queryChecks s l query) (readingChecks s bytes (estimate s l query bytes)) (value (estimate s l query bytes)) scored
 
   scored-vector : first (vectorChecks s l query) accepted ≡ accepted
-  scored-vector = append-left (vectorChecks s l query) (preparedChecks s l query) accepted scored-query
+  scored-vector = append-left (vectorChecks s l query) (finiteChecks s l query) accepted scored-query
 
   -- and those from record reading on
   scored-reading : first (readingChecks s bytes (estimate s l query bytes)) (value (estimate s l query bytes)) ≡ value x

@@ -24,8 +24,8 @@ use Rattle.setup.specs.Checks.{setupChecks}
 use Rattle.setup.proofs.Accepted.{setup-scalars, setup-directions}
 use Rattle.qjl.specs.Sketch.{vectorChecks}
 use Rattle.qjl.proofs.Answers.{vector-setup, vector-rowed}
-use Rattle.turbo_query.specs.Query.{rotatedQuery, projectedQuery, preparedChecks, queryChecks, prepareChecks, prepareRotatedOf, prepareProjectedOf}
-use Rattle.turbo.specs.Estimates.{readyChecks, innerProductEstimateOf, innerProductEstimatePreparedOf, lengthsAndValues}
+use Rattle.turbo_query.specs.Query.{rotatedQuery, projectedQuery, finiteChecks, queryChecks, prepareChecks, prepareRotatedOf, prepareProjectedOf}
+use Rattle.turbo.specs.Estimates.{preparedChecks, innerProductEstimateOf, innerProductEstimatePreparedOf, lengthsAndValues}
 use Rattle.turbo.specs.Prepared.{IsPrepared, Prepared}
 use Rattle.float.specs.Bytes.{AreFloats}
 use Rattle.turbo.proofs.Demand.{demand}
@@ -42,7 +42,7 @@ length-rotated n signs xs e =
 
 module _ (s : Setup) (l : Lent) (query : List Float) (passed : first (queryChecks s l query) accepted ≡ accepted) where
   vector-clear : first (vectorChecks s l query) accepted ≡ accepted
-  vector-clear = append-left (vectorChecks s l query) (preparedChecks s l query) accepted passed
+  vector-clear = append-left (vectorChecks s l query) (finiteChecks s l query) accepted passed
 
   setup-clear : first (setupChecks s l) accepted ≡ accepted
   setup-clear = append-left (setupChecks s l) (wrongInput (length query) (s .dim) ∷ each badValue 11 query ∷ []) accepted vector-clear
@@ -53,9 +53,9 @@ module _ (s : Setup) (l : Lent) (query : List Float) (passed : first (queryCheck
       length-rotated (s .dim) (l .signs) query (vector-setup s l query vector-clear .signs-long ∙ sym long) ∙ long
 
   -- a query that passes its checks passes them prepared
-  pub passed-ready : first (readyChecks s (l .directions) (rotatedQuery s l query) (projectedQuery s l query)) accepted ≡ accepted
+  pub passed-ready : first (preparedChecks s (l .directions) (rotatedQuery s l query) (projectedQuery s l query)) accepted ≡ accepted
   passed-ready =
-      let k = first-passes (preparedChecks s l query) tt (append-right (vectorChecks s l query) (preparedChecks s l query) accepted passed) in
+      let k = first-passes (finiteChecks s l query) tt (append-right (vectorChecks s l query) (finiteChecks s l query) accepted passed) in
       ready-rest s (l .directions) (rotatedQuery s l query) (projectedQuery s l query) (setup-scalars s l setup-clear) (setup-directions s l setup-clear)
       ∙ first-accepts (lengthsAndValues s (rotatedQuery s l query) (projectedQuery s l query)) accepted (
         differs-not (length (rotatedQuery s l query)) (s .dim) rotated-long,

@@ -53,9 +53,9 @@ lengthsAndValues s rotated projected =
     ∷ []
 
 -- Of the setup the scalars and the directions are checked, then what is asked of the prepared query.
-abbrev pub readyChecks : Setup → List Float → List Float → List Float → List Check
-readyChecks s directions rotated projected = scalarChecks s ++ directionChecks s directions ++ lengthsAndValues s rotated projected
+abbrev pub preparedChecks : Setup → List Float → List Float → List Float → List Check
+preparedChecks s directions rotated projected = scalarChecks s ++ directionChecks s directions ++ lengthsAndValues s rotated projected
 
 unfoldable pub innerProductEstimatePreparedOf : Setup → List Float → List Float → List Float → List ℕ → Answer Float
 innerProductEstimatePreparedOf s directions rotated projected bytes =
-    first (readyChecks s directions rotated projected ++ readingChecks s bytes (recordScore s directions rotated projected bytes)) (value (recordScore s directions rotated projected bytes))
+    first (preparedChecks s directions rotated projected ++ readingChecks s bytes (recordScore s directions rotated projected bytes)) (value (recordScore s directions rotated projected bytes))

@@ -11,15 +11,15 @@ use Rattle.turbo.specs.declared.Phased.{Phased}
 use Rattle.turbo.specs.declared.Phased.the-variants.{Score, BeforeReading, FromReading}
 use Rattle.turbo.specs.Scoring.{recordScore, readingChecks}
 
--- The radii of a record stand in front of `room`, which is memory that was lent for them.
+-- The radii of a record stand in front of the memory that was lent for them, `radii`.
 abbrev pub RadiiInFront : List ℕ → List Float → Type 0
-RadiiInFront bytes room = take (length (radiiOf bytes)) room ≡ radiiOf bytes
+RadiiInFront bytes radii = take (length (radiiOf bytes)) radii ≡ radiiOf bytes
 
 -- They do where a score is answered; of a refusal nothing is said.
 abbrev pub RadiiLeft : Phased → List ℕ → List Float → Type 0
-RadiiLeft (Score x) bytes room = RadiiInFront bytes room
-RadiiLeft (BeforeReading n p) bytes room = Unit {0}
-RadiiLeft (FromReading n p) bytes room = Unit {0}
+RadiiLeft (Score x) bytes radii = RadiiInFront bytes radii
+RadiiLeft (BeforeReading n p) bytes radii = Unit {0}
+RadiiLeft (FromReading n p) bytes radii = Unit {0}
 
 -- This is an answer without the phase of its refusal.
 abbrev pub joined : {A : Type 0} → Answer (Answer A) → Answer A

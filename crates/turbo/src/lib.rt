@@ -24,7 +24,7 @@ ghost use Rattle.packed.specs.Fields.{projectionsOf};
 ghost use Rattle.packed.specs.Reading.{readRecordOf, radiiOf, indicesOf, signsOf};
 ghost use Rattle.turbo_opening.specs.Inner.{openedOf};
 ghost use Rattle.turbo.specs.Scoring.{recordScore};
-ghost use Rattle.turbo.specs.Estimates.{innerProductEstimateOf, saysPhased, innerProductEstimatePhasedOf, readyChecks, innerProductEstimatePreparedOf, lengthsAndValues};
+ghost use Rattle.turbo.specs.Estimates.{innerProductEstimateOf, saysPhased, innerProductEstimatePhasedOf, preparedChecks, innerProductEstimatePreparedOf, lengthsAndValues};
 ghost use Rattle.turbo.specs.Distance.{squaredNorm, cutAtZero, l2DistanceEstimateOf};
 ghost use Rattle.turbo.specs.Inner.{RadiiInFront, RadiiLeft, joined, recordScoreOf};
 ghost use Rattle.turbo.specs.Order.{Demand};
@@ -250,7 +250,7 @@ fn residual_part(projected: &[f32], bytes: &[u8], header: Header) -> f32
 
 // The checks of a prepared query: the scalars of the setup and its directions, both lengths, and that every value is finite.
 fn check_prepared(setup: Setup, directions: &[f32], rotated: &[f32], projected: &[f32]) -> Outcome
-    ensures { λ r. ⌜ says r ≡ first (readyChecks setup (now (directions .entry)) (now (rotated .entry)) (now (projected .entry))) accepted ⌝ }
+    ensures { λ r. ⌜ says r ≡ first (preparedChecks setup (now (directions .entry)) (now (rotated .entry)) (now (projected .entry))) accepted ⌝ }
 {
     let scalars = setup::check_scalars(setup);
     if let Outcome::Refused { number, place } = scalars {

@@ -22,12 +22,12 @@ abbrev pub projectedQuery : Setup → Lent → List Float → List Float
 projectedQuery s l query = projected (s .dim) (countedProjectionsOf s) (l .matrix) query
 
 -- 'rotated 11, projected 11': 'a value is not finite, .. after rotation or after projection. Place: its index there.'
-abbrev pub preparedChecks : Setup → Lent → List Float → List Check
-preparedChecks s l query = each badValue 11 (rotatedQuery s l query) ∷ each badValue 11 (projectedQuery s l query) ∷ []
+abbrev pub finiteChecks : Setup → Lent → List Float → List Check
+finiteChecks s l query = each badValue 11 (rotatedQuery s l query) ∷ each badValue 11 (projectedQuery s l query) ∷ []
 
 -- These are all checks of a query: 'setup, query length 5, query 11, rotated 11, projected 11'.
 abbrev pub queryChecks : Setup → Lent → List Float → List Check
-queryChecks s l query = vectorChecks s l query ++ preparedChecks s l query
+queryChecks s l query = vectorChecks s l query ++ finiteChecks s l query
 
 -- 'In every call 6 comes after all input checks.' Of the two outputs the rotated one is judged first; `room` and `space` are their lengths.
 abbrev pub prepareChecks : Setup → Lent → List Float → ℕ → ℕ → List Check

@@ -115,6 +115,7 @@ pub(crate) fn write(
     };
     let written = packed_writing::write_record(code, radii, indices, signs, made);
     show::bytes(written, made);
+    show::length(packed_size::record_size(code));
 }
 
 // The dimension of a record with these radii.

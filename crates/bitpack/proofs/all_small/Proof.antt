@@ -8,7 +8,7 @@ use lib.ListN.{length, getD}
 use borrow.Author.Needs.{scaled-fits}
 use borrow.Author.Tests.{le-leb, lt-leb}
 use Rattle.error.proofs.Sweep.{swept-start, swept-pass, swept-spot, swept-end, Swept}
-use Rattle.bitpack.specs.Packing.{badIndex}
+use Rattle.error.specs.Checks.{badIndex}
 use Rattle.bitpack.proofs.Lengths.{power-shifted}
 use Rattle.bitpack.proofs.all_small.Statement.{statement}
 use Rattle.bitpack.proofs.all_small.Tie as tie

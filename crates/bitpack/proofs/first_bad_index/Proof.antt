@@ -13,7 +13,7 @@ use borrow.Author.Tests.{lt-leb}
 use Rattle.error.specs.Answer.{place}
 use Rattle.error.proofs.Places.{each-none}
 use Rattle.error.proofs.Sweep.{clear-place}
-use Rattle.bitpack.specs.Packing.{badIndex}
+use Rattle.error.specs.Checks.{badIndex}
 use Rattle.bitpack.proofs.first_bad_index.Statement.{statement}
 use Rattle.bitpack.proofs.first_bad_index.Tie as tie
 

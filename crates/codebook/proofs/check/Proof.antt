@@ -2,7 +2,7 @@
 use mathlib.Core.Logic.{⊎-elim}
 use borrow.Author.Needs.{needs}
 use borrow.Author.Tests.{lt-ltb, le-ltb}
-use Rattle.codebook.specs.Codebook.{checkOf}
+use Rattle.codebook.specs.Inner.{checkOf}
 use Rattle.codebook.proofs.check.Statement.{statement}
 use Rattle.codebook.proofs.check.Tie as tie
 

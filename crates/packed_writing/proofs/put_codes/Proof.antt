@@ -6,7 +6,7 @@ use native.Mathlib.Omega.{arith}
 use denote.Ref.{now}
 use lib.ListN.{length}
 use Rattle.bitpack.specs.Padding.{bytesFor}
-use Rattle.packed_writing.specs.Writing.{indexBytes}
+use Rattle.bitpack.specs.Packing.{indexBytes}
 use Rattle.packed.proofs.Headers.{product-most}
 use Rattle.lists.proofs.Stores.{lent-back, front-again, store-both}
 use Rattle.packed_writing.proofs.Writing.{indices-pass, signs-pass}

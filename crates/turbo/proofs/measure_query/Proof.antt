@@ -15,7 +15,7 @@ use Rattle.setup.specs.Lent.{lent}
 use Rattle.setup.proofs.Scalars.{scalars-usable}
 use Rattle.turbo_query.specs.Query.{rotatedQuery, projectedQuery, prepareRotatedOf}
 use Rattle.turbo.specs.Inner.{recordScoreOf}
-use Rattle.turbo.proofs.Answers.{phased-refused, phased-passed, prepare-refused, prepare-passed, prepare-rotated, prepare-projected}
+use Rattle.turbo.proofs.Answers.{phased-refused, phased-passed, query-refused, query-passed, prepare-rotated, prepare-projected}
 use Rattle.turbo.proofs.measure_query.Statement.{statement}
 use Rattle.turbo.proofs.measure_query.Tie as tie
 
@@ -92,7 +92,7 @@ returns c = let p = c .before .before .before .before .before in
     let z = p .before .before .before in (
       sym
           (phased-refused (a .setup) (lent (a .signs .now) (a .directions .now) (a .matrix .now)) (a .query .now) (a .bytes .now)
-          (prepare-refused (a .setup) (lent (a .signs .now) (a .directions .now) (a .matrix .now)) (a .query .now) _ _ (part-long (a .setup .dim) (z .before .zeros .result) (room z)) (part-long (z .before .before .counted-projections .result) (z .zeros2 .result) (space z) ∙ z .before .before .counted-projections .ensures)
+          (query-refused (a .setup) (lent (a .signs .now) (a .directions .now) (a .matrix .now)) (a .query .now) _ _ (part-long (a .setup .dim) (z .before .zeros .result) (room z)) (part-long (z .before .before .counted-projections .result) (z .zeros2 .result) (space z) ∙ z .before .before .counted-projections .ensures)
           (sym (p .prepare-query .ensures .0) ∙ ap says (c .before .prepared .given .1)))),
       tt,
     )
@@ -138,7 +138,7 @@ returns-2 c = let e = c .before .before .before .before .before .before .before 
       c .before .before .record-score .ensures .0
           ∙ ap (λ (vs : List Float). value (recordScoreOf (a .setup) (a .directions .now) vs (take (m - 0) (p .prepare-query .last .1 .1 .1 .1 .1 .1 .0 ++ postOf 0 (m - 0) (p .before .before .before .zeros2 .result))) (a .bytes .now))) (rotated-part e)
           ∙ ap (λ (vs : List Float). value (recordScoreOf (a .setup) (a .directions .now) (rotatedQuery (a .setup) (lent (a .signs .now) (a .directions .now) (a .matrix .now)) (a .query .now)) vs (a .bytes .now))) (projected-part e)
-          ∙ sym (phased-passed (a .setup) (lent (a .signs .now) (a .directions .now) (a .matrix .now)) (a .query .now) (a .bytes .now) (prepare-passed (a .setup) (lent (a .signs .now) (a .directions .now) (a .matrix .now)) (a .query .now) _ _ (ready e))),
+          ∙ sym (phased-passed (a .setup) (lent (a .signs .now) (a .directions .now) (a .matrix .now)) (a .query .now) (a .bytes .now) (query-passed (a .setup) (lent (a .signs .now) (a .directions .now) (a .matrix .now)) (a .query .now) _ _ (ready e))),
       c .before .before .record-score .ensures .1,
     )
 

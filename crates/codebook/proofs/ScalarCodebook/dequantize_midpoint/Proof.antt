@@ -6,7 +6,8 @@ use borrow.Author.Needs.{needs}
 use borrow.Author.Tests.{le-leb, lt-leb}
 use Rattle.error.specs.Answer.{value, first}
 use Rattle.error.specs.Outcomes.{says}
-use Rattle.codebook.specs.Codebook.{checkOf, middleOf, dequantizeMidpointOf}
+use Rattle.codebook.specs.Codebook.{middleOf, dequantizeMidpointOf}
+use Rattle.codebook.specs.Inner.{checkOf}
 use Rattle.error.specs.Checks.{wrongIndex}
 use Rattle.codebook.proofs.Checks.{check-refused, check-passed, check-narrow}
 use Rattle.float.proofs.Levels.{levels-most, levels-inFloat}

@@ -7,7 +7,8 @@ use borrow.Author.Needs.{needs}
 use lib.Pow.{pow-pos}
 use Rattle.error.specs.Answer.{value, first}
 use Rattle.error.specs.Outcomes.{says}
-use Rattle.codebook.specs.Codebook.{checkOf, wrongValue, levelOf, quantizeOf}
+use Rattle.codebook.specs.Codebook.{wrongValue, levelOf, quantizeOf}
+use Rattle.codebook.specs.Inner.{checkOf}
 use Rattle.codebook.proofs.Checks.{check-refused, check-passed, check-narrow}
 use Rattle.float.proofs.Levels.{levels-most, levels-inFloat}
 use Rattle.codebook.proofs.ScalarCodebook.quantize.Statement.{statement}
