@@ -17,8 +17,8 @@ use Rattle.packed.specs.Layout.{radiiBytes, indicesBytes, signsBytes}
 use Rattle.packed.specs.Reading.{radiiOf, indicesOf, signsOf}
 use Rattle.polar.specs.Exact.{exactTerm, exactPolar, sizeTerm, polarSize, directionTerm, directionSum}
 use Rattle.polar.specs.Polar.{term, polarSumOf, laid, decodedPairs}
-use Rattle.qjl.specs.Exact.{exactResidual, residualSize}
-use Rattle.qjl.specs.Score.{root, scaleOf, signSumOf, residualOf}
+use Rattle.qjl_residual.specs.Exact.{exactResidual, residualSize}
+use Rattle.qjl_residual.specs.Residual.{root, scaleOf, signSumOf, residualOf}
 use Rattle.rotation.specs.Exact.{exactRotated}
 use Rattle.rotation.specs.Rotation.{inverseRoot, scaled, hadamardOf, rotated, unrotated}
 use Rattle.rounding.specs.Butterfly.{from, entry, stage, stages}

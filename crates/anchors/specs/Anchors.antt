@@ -17,7 +17,7 @@ use Rattle.setup.specs.declared.Setup.{Setup}
 use Rattle.setup.specs.declared.TurboMode.the-variants.{PolarOnly, PolarWithQjl}
 use Rattle.setup.specs.Lent.{Lent, lent}
 use Rattle.setup.specs.Setups.{countedProjectionsOf}
-use Rattle.qjl.specs.Exact.{exactResidual, residualSize}
+use Rattle.qjl_residual.specs.Exact.{exactResidual, residualSize}
 use Rattle.turbo_order.specs.Scores.{unitScale, perUnit, perStep, perRadius, accountOf}
 use Rattle.turbo.specs.Estimates.{innerProductEstimateOf}
 use Rattle.turbo.specs.Distance.{l2DistanceEstimateOf}

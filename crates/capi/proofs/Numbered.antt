@@ -29,7 +29,8 @@ use Rattle.setup.specs.Setups.{countedProjectionsOf}
 use Rattle.setup.specs.Checks.{setupChecks}
 use Rattle.rounding.specs.Rows.{projected}
 use Rattle.qjl.specs.Sketch.{vectorChecks, sketchOf}
-use Rattle.qjl.specs.Score.{signedChecks, unitResidual, signedScore, modeScore, sketchScoreOf}
+use Rattle.qjl_residual.specs.Residual.{unitResidual}
+use Rattle.qjl.specs.Score.{signedChecks, signedScore, modeScore, sketchScoreOf}
 use Rattle.packed.specs.declared.Code.{Code}
 use Rattle.packed.specs.Layout.{pairsOf}
 use Rattle.packed.specs.Fields.{projectionsOf}

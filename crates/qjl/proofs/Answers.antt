@@ -1,10 +1,10 @@
 -- The answers of the calls, case by case, from what their checks find. Assumes nothing.
-use Prim.Native.Nat.{ℕ, _*_, _≤_, _<_}
+use Prim.Native.Nat.{ℕ, _≤_, _<_}
 use mathlib.Core.Path.{_≡_, refl, sym, ap, _∙_, subst}
-use mathlib.Core.Bool.{true, false}
+use mathlib.Core.Bool.{false}
 use mathlib.Core.List.{List, [], _∷_, map}
 use borrow.Author.Tests.{eqb-true, not-false, eq-eqb, ne-eqb, ltb-false}
-use lib.Dec.{eqb, ltb}
+use lib.Dec.{ltb}
 use lib.IntN.{ℤ}
 use lib.ListN.{length}
 use lib.Ieee.{Float}
@@ -21,36 +21,14 @@ use Rattle.setup.specs.Setups.{byMode, countedProjectionsOf}
 use Rattle.setup.specs.Checks.{setupChecks, setupChecksButEntries}
 use Rattle.setup.proofs.Usable.{AcceptedSetup}
 use Rattle.setup.proofs.Accepted.{setup-accepted, but-entries-usable, but-entries-long, but-entries-rest}
-use Rattle.qjl.specs.Projection.{projectOf}
 use Rattle.rounding.specs.Rows.{projected}
-use Rattle.qjl.specs.Inner.{Rowed}
+use Rattle.qjl_rows.specs.Inner.{Rowed}
 use Rattle.qjl.specs.Sketch.{signOfSum, vectorChecks, sketchOf}
 use Rattle.bitpack.specs.Signs.{badSketchSign}
-use Rattle.qjl.proofs.FiniteSums.{matrix-finite, query-finite}
-use Rattle.qjl.proofs.Rows.{above-zero}
-use Rattle.qjl.specs.Score.{unitResidual, signedScore, modeScore, sketchScoreOf}
-
--- ---- projecting
-
-module _ (n : ℕ) (matrix query : List Float) (room : ℕ) where
-  pub project-query : (length query ≡ n → ⊥) → projectOf n matrix query room ≡ refused 5 (length query)
-  unfolding projectOf
-  project-query h = simp (ne-eqb (length query) n h)
-
-  pub project-matrix : length query ≡ n → eqb (length matrix) (room * n) ≡ false → projectOf n matrix query room ≡ refused 5 (length matrix)
-  unfolding projectOf
-  project-matrix h e = simp (eq-eqb (length query) n h, e)
-
-  pub project-value : length query ≡ n → eqb (length matrix) (room * n) ≡ true → projectOf n matrix query room ≡ value (projected n room matrix query)
-  unfolding projectOf
-  project-value h e = simp (eq-eqb (length query) n h, e)
-
-  pub project-rowed : length query ≡ n → eqb (length matrix) (room * n) ≡ true → Rowed n matrix query room
-  project-rowed h e = record { query-long = h; matrix-long = eqb-true (length matrix) (room * n) e }
-
-  -- where the lengths are right it is the projections
-  pub project-ready : Rowed n matrix query room → projectOf n matrix query room ≡ value (projected n room matrix query)
-  project-ready r = project-value (r .query-long) (eq-eqb (length matrix) (room * n) (r .matrix-long))
+use Rattle.qjl_rows.proofs.FiniteSums.{matrix-finite, query-finite}
+use Rattle.qjl_rows.proofs.Rows.{above-zero}
+use Rattle.qjl_residual.specs.Residual.{unitResidual}
+use Rattle.qjl.specs.Score.{signedScore, modeScore, sketchScoreOf}
 
 -- ---- the checks of a vector
 

@@ -1,10 +1,4 @@
-pub mod Rows
-pub mod FiniteSums
 pub mod AtOnce
 pub mod Signs
-pub mod SignSums
 pub mod Answers
-pub mod SignValues
-pub mod ErrorBound
-pub mod ScaleBound
 pub mod Examples

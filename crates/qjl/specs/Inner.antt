@@ -1,60 +1,15 @@
--- What private functions of this crate, and of crates that fill projections as they do, ask of their callers and tell them: what the loops of a
--- projection keep, and what a call leaves that writes all signs or none. No public promise is stated by these. Assumes nothing.
-use Prim.Native.Nat.{ℕ, _+_, _*_, _≤_}
+-- What private functions of this crate, and of crates that write all or nothing as they do, tell their callers: what a call leaves that writes all signs or
+-- none. No public promise is stated by these. Assumes nothing.
 use mathlib.Core.Path.{_≡_}
 use mathlib.Core.Bool.{Bool, true, false}
 use mathlib.Core.List.{List, map}
 use lib.Dec.{ltb}
 use lib.IntN.{ℤ}
-use lib.ListN.{length, getD, drop}
-use lib.Ieee.{Float, nan, binary32, add, mul}
+use lib.ListN.{length}
+use lib.Ieee.{Float}
 use Rattle.error.specs.Answer.{Answer, value, place}
 use Rattle.error.specs.Checks.{badValue}
-use Rattle.rounding.specs.Sums.{dot}
-use Rattle.rounding.specs.Inner.{SoFar}
 use Rattle.qjl.specs.Sketch.{signOfSum}
-
--- ---- the loops of a projection
-
--- the projection on row j, whose entries start at j × n; a dot product ends with the shorter list, so what follows the row does not count
-abbrev pub onRow : ℕ → List Float → List Float → ℕ → Float
-onRow n matrix query j = dot (drop (j * n) matrix) query
-
--- four rows, each as long as the query, that follow one another from an index on, of whose dot products i terms are taken
-pub record FourSoFar (matrix query : List Float) (from i : ℕ) (a b c d : Float) : Type 0 where
-  pub within : i ≤ length query
-  pub top : SoFar matrix query from i a
-  pub second : SoFar matrix query (from + length query) i b
-  pub third : SoFar matrix query (from + length query + length query) i c
-  pub fourth : SoFar matrix query (from + length query + length query + length query) i d
-
--- the next four terms of a dot product, added to a sum in index order
-abbrev pub fourMore : List Float → List Float → ℕ → ℕ → Float → Float
-fourMore matrix query at i sum =
-    add
-    binary32
-    (add
-    binary32
-    (add
-    binary32
-    (add binary32 sum (mul binary32 (getD matrix at nan) (getD query i nan)))
-    (mul binary32 (getD matrix (at + 1) nan) (getD query (i + 1) nan)))
-    (mul binary32 (getD matrix (at + 2) nan) (getD query (i + 2) nan)))
-    (mul binary32 (getD matrix (at + 3) nan) (getD query (i + 3) nan))
-
--- what a call asks that fills a part of the projections: the query has a row's length, and the matrix a row for each entry of the output
-pub record Rowed (n : ℕ) (matrix query : List Float) (room : ℕ) : Type 0 where
-  pub query-long : length query ≡ n
-  pub matrix-long : length matrix ≡ room * n
-
--- the projections on four rows, each as long as the query, that follow one another from an index on
-pub record FourDots (matrix query : List Float) (from : ℕ) (a b c d : Float) : Type 0 where
-  pub top : a ≡ dot (drop from matrix) query
-  pub second : b ≡ dot (drop (from + length query) matrix) query
-  pub third : c ≡ dot (drop (from + length query + length query) matrix) query
-  pub fourth : d ≡ dot (drop (from + length query + length query + length query) matrix) query
-
--- ---- signs, all or none
 
 -- what a call leaves that writes the signs of values, but where they are judged only if all of them are finite, and says whether it did
 pub record JudgedSigns (judged : Bool) (values : List Float) (old : List ℤ) (wrote : Bool) (new : List ℤ) : Type 0 where

@@ -1,47 +1,24 @@
--- The residual, a scale times the sum of sign times projected value, and what a call that scores a sketch answers. Quotes are document 01's.
--- Assumes nothing.
+-- What a call that scores a sketch answers: its checks, and the residual of the projected query. Quotes are document 01's. Assumes nothing.
 use Prim.Native.Nat.{ℕ}
-use mathlib.Core.Bool.{false}
-use mathlib.Core.List.{List, [], _∷_, map}
-use lib.IntN.{ℤ, pos}
+use mathlib.Core.List.{List, [], _∷_}
+use lib.IntN.{ℤ}
 use lib.ListN.{length}
-use lib.Ieee.{Float, binary32, mul, div, ofInt}
+use lib.Ieee.{Float}
 use Rattle.error.specs.Answer.{Answer, value, Check, first, each}
-use Rattle.bitpack.specs.Signs.{badSketchSign}
-use Rattle.float.specs.SquareRoot.{squareRoot}
-use Rattle.rounding.specs.Sums.{dot}
-use Rattle.float.specs.Constants.{posZero, one, two, pi}
 use Rattle.error.specs.Checks.{wrongInput, wrongScore, badValue}
+use Rattle.float.specs.Constants.{posZero}
+use Rattle.bitpack.specs.Signs.{badSketchSign}
+use Rattle.rounding.specs.Rows.{projected}
+use Rattle.qjl_residual.specs.Residual.{unitResidual}
 use Rattle.setup.specs.Lent.{Lent}
 use Rattle.setup.specs.declared.Setup.{Setup}
 use Rattle.setup.specs.declared.TurboMode.{TurboMode}
 use Rattle.setup.specs.declared.TurboMode.the-variants.{PolarOnly, PolarWithQjl}
 use Rattle.qjl.specs.Sketch.{vectorChecks}
-use Rattle.rounding.specs.Rows.{projected}
-
--- 'PI is 40490FDB'; root(PI / 2), quotient and root each rounded once
-unfoldable pub root : Float
-root = squareRoot (div binary32 pi two)
-
--- 'the scale K is root(PI / 2) × 1.0 / m', with the norm in the place of 1.0
-unfoldable pub scaleOf : ℕ → Float → Float
-scaleOf m norm = div binary32 (mul binary32 root norm) (ofInt binary32 (pos m))
-
--- 'the sum of sign times projected value'; 'Sums run in index order from +0.0.' It ends with the shorter list, and a sign counts by its value
-unfoldable pub signSumOf : List ℤ → List Float → Float
-signSumOf signs values = dot (map (ofInt binary32) signs) values
-
--- 'Residual: scale times the sum of sign times projected value'
-unfoldable pub residualOf : ℕ → Float → List Float → List ℤ → Float
-residualOf m norm values signs = mul binary32 (scaleOf m norm) (signSumOf signs values)
 
 -- 'projected 11, 5 and 10 for the signs, 12': what follows the checks of the query; m signs are asked for
 abbrev pub signedChecks : ℕ → List Float → List ℤ → Float → List Check
 signedChecks m values signs score = each badValue 11 values ∷ wrongInput (length signs) m ∷ each badSketchSign 10 signs ∷ wrongScore score ∷ []
-
--- the residual of a projected query and lent signs, with the norm 1.0
-abbrev pub unitResidual : ℕ → List Float → List ℤ → Float
-unitResidual m values signs = residualOf m (one false) values signs
 
 -- the score from a projected query in residual mode
 unfoldable pub signedScore : ℕ → List Float → List ℤ → Answer Float

@@ -17,7 +17,7 @@ use Rattle.setup.specs.declared.TurboMode.{TurboMode}
 use Rattle.setup.specs.declared.TurboMode.the-variants.{PolarOnly, PolarWithQjl}
 use Rattle.setup.specs.Setups.{byMode, countedProjectionsOf}
 use Rattle.setup.specs.Checks.{scalarChecks, tableChecks, setupChecks, directionChecks}
-use Rattle.qjl.specs.Score.{unitResidual}
+use Rattle.qjl_residual.specs.Residual.{unitResidual}
 use Rattle.qjl.specs.Sketch.{vectorChecks}
 use Rattle.packed.specs.Reading.{radiiOf, signsOf}
 use Rattle.turbo_order.specs.Scores.{accountOf, scoreFrom, scoreOf}

@@ -13,7 +13,7 @@ use Rattle.setup.specs.declared.TurboMode.{TurboMode}
 use Rattle.setup.specs.declared.TurboMode.the-variants.{PolarOnly, PolarWithQjl}
 use Rattle.setup.specs.Setups.{byMode}
 use Rattle.polar.specs.Polar.{polarSumOf}
-use Rattle.qjl.specs.Score.{unitResidual}
+use Rattle.qjl_residual.specs.Residual.{unitResidual}
 use Rattle.packed.specs.declared.Header.{Header}
 use Rattle.packed.specs.Fields.{projectionsOf}
 use Rattle.packed.specs.Layout.{headerOf}

@@ -19,7 +19,7 @@ ghost use Rattle.error.specs.Outcomes.{says, saysScore};
 ghost use Rattle.setup.specs.Lent.{lent};
 ghost use Rattle.setup.specs.Checks.{scalarChecks};
 ghost use Rattle.polar.specs.Polar.{polarSumOf};
-ghost use Rattle.qjl.specs.Score.{unitResidual};
+ghost use Rattle.qjl_residual.specs.Residual.{unitResidual};
 ghost use Rattle.packed.specs.Fields.{projectionsOf};
 ghost use Rattle.packed.specs.Reading.{readRecordOf, radiiOf, indicesOf, signsOf};
 ghost use Rattle.turbo_opening.specs.Inner.{openedOf};
@@ -245,7 +245,7 @@ fn residual_part(projected: &[f32], bytes: &[u8], header: Header) -> f32
     let projections = header.projections;
     let mut signs = no_signs();
     packed_parts::signs_at(bytes, header, &mut signs[0..projections]);
-    qjl::residual(projections as u16, 1.0, projected, &signs[0..projections])
+    qjl_residual::residual(projections as u16, 1.0, projected, &signs[0..projections])
 }
 
 // The checks of a prepared query: the scalars of the setup and its directions, both lengths, and that every value is finite.

@@ -32,8 +32,8 @@ use Rattle.polar.specs.Polar.{valueAt, polarSumOf}
 use Rattle.polar.proofs.Directions.{within-small, missing-small}
 use Rattle.polar.proofs.Counts.{close-polar-most}
 use Rattle.rounding.specs.Rows.{projected}
-use Rattle.qjl.specs.Score.{unitResidual}
-use Rattle.qjl.proofs.ScaleBound.{close-unit-residual}
+use Rattle.qjl_residual.specs.Residual.{unitResidual}
+use Rattle.qjl_residual.proofs.ScaleBound.{close-unit-residual}
 use Rattle.turbo_order.specs.Account.{Account}
 use Rattle.turbo_order.specs.Scores.{Content, scoreFrom, scoreBy, exactPolarPart, exactResidualPart, exactBy, polarPartSize, residualPartSize, sizeBy, perUnit, boundBy}
 use Rattle.turbo_order.proofs.Sound.{Sound}

@@ -16,8 +16,8 @@ use Rattle.polar.specs.Polar.{polarSumOf}
 use Rattle.polar.specs.Exact.{exactPolar, polarSize}
 use Rattle.rounding.specs.Sums.{absoluteSum}
 use Rattle.rounding.specs.Rows.{projected}
-use Rattle.qjl.specs.Score.{scaleOf, unitResidual}
-use Rattle.qjl.specs.Exact.{exactResidual, residualSize}
+use Rattle.qjl_residual.specs.Residual.{scaleOf, unitResidual}
+use Rattle.qjl_residual.specs.Exact.{exactResidual, residualSize}
 use Rattle.turbo_order.specs.Account.{Account, hadamardAccount}
 
 -- A record holds this, as read from it: a radius and an index for each pair, and its signs.

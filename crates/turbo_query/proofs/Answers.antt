@@ -19,10 +19,11 @@ use Rattle.setup.specs.Setups.{countedProjectionsOf}
 use Rattle.setup.specs.Checks.{entryChecks, setupChecks, setupChecksButEntries}
 use Rattle.setup.proofs.Accepted.{but-entries-usable, but-entries-long, but-entries-rest}
 use Rattle.error.specs.Checks.{wrongInput, badValue}
-use Rattle.qjl.specs.Inner.{Rowed, AtOnce}
+use Rattle.qjl_rows.specs.Inner.{Rowed}
+use Rattle.qjl_rows.proofs.FiniteSums.{matrix-finite}
+use Rattle.qjl.specs.Inner.{AtOnce}
 use Rattle.qjl.specs.Sketch.{vectorChecks}
 use Rattle.qjl.proofs.Answers.{vector-rowed, vector-passed}
-use Rattle.qjl.proofs.FiniteSums.{matrix-finite}
 use Rattle.qjl.proofs.AtOnce.{at-once-left, at-once-made}
 use Rattle.turbo_query.specs.Query.{rotatedQuery, projectedQuery, prepareRotatedOf, prepareProjectedOf}
 use Rattle.turbo_query.specs.Inner.{handedChecks, Handed, Queryable}

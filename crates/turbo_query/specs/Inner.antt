@@ -8,7 +8,7 @@ use lib.Ieee.{Float}
 use Rattle.error.specs.Answer.{Answer, value, Check, first, each, accepted, after}
 use Rattle.error.specs.Checks.{wrongRoom, badValue}
 use Rattle.rotation.specs.Checks.{rotationChecks}
-use Rattle.qjl.specs.Inner.{Rowed}
+use Rattle.qjl_rows.specs.Inner.{Rowed}
 
 -- 'rotated 11, projected 11', then 6 for either output: n values are needed in the first, whose length is `room`, and m in the second, whose length is `space`.
 abbrev pub handedChecks : ℕ → ℕ → List Float → List Float → ℕ → ℕ → List Check

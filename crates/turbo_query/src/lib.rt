@@ -12,7 +12,8 @@ ghost use Rattle.error.specs.Outcomes.{says};
 ghost use Rattle.rotation.specs.Checks.{rotationChecks};
 ghost use Rattle.rotation.specs.Rotation.{rotated as rotatedBy};
 ghost use Rattle.setup.specs.Lent.{lent};
-ghost use Rattle.qjl.specs.Inner.{Rowed, AtOnce};
+ghost use Rattle.qjl_rows.specs.Inner.{Rowed};
+ghost use Rattle.qjl.specs.Inner.{AtOnce};
 ghost use Rattle.rounding.specs.Rows.{projected as projectedOn};
 ghost use Rattle.turbo_query.specs.Query.{prepareRotatedOf, prepareProjectedOf};
 ghost use Rattle.turbo_query.specs.Inner.{handedChecks, Handed, Queryable};
@@ -133,7 +134,7 @@ fn fill_query(
     ensures { λ _. ⌜ now (projected .exit) ≡ projectedOn dim (length (now (projected .entry))) (now (matrix .entry)) (now (query .entry)) ⌝ }
 {
     rotation::apply(dim, signs, query, rotated);
-    qjl::project(dim, matrix, query, projected);
+    qjl_rows::project(dim, matrix, query, projected);
 }
 
 // Copies the rotated query to the one output and the projected query to the other, unless a value or a length is refused.

@@ -8,7 +8,7 @@ use denote.Ref.{now}
 use lib.IntN.{ℤ}
 use lib.Ieee.{ofBits}
 use Rattle.lists.proofs.Parts.{part-enough}
-use Rattle.qjl.specs.Score.{unitResidual}
+use Rattle.qjl_residual.specs.Residual.{unitResidual}
 use Rattle.packed.specs.Reading.{signsOf}
 use Rattle.packed.proofs.Accepted.{read-header}
 use Rattle.packed.proofs.Parts.{header-projections}

@@ -1,9 +1,9 @@
 -- `turbo_query::fill_query` meets its contract: neither the rotation nor the projection refuses. Assumes nothing.
-use mathlib.Core.Path.{_∙_}
+use mathlib.Core.Path.{refl, _∙_}
 use borrow.Author.Needs.{needs}
 use Rattle.error.proofs.Answers.{after-value}
 use Rattle.rotation.proofs.Applied.{applied-value}
-use Rattle.qjl.proofs.Answers.{project-ready}
+use Rattle.qjl_rows.proofs.Answers.{project-ready}
 use Rattle.turbo_query.proofs.fill_query.Statement.{statement}
 use Rattle.turbo_query.proofs.fill_query.Tie as tie
 
@@ -25,7 +25,7 @@ returns c =
     let a = p .before .before .before .before in
     let s = a .before .before .before .before .before .before .before in (
       a .apply .ensures .1 ∙ after-value _ _ (applied-value (s .args .dim) (s .args .signs .now) (s .args .query .now) _ (s .pre .0)),
-      p .project .ensures .1 ∙ after-value _ _ (project-ready (s .args .dim) (s .args .matrix .now) (s .args .query .now) _ (s .pre .1)),
+      p .project .ensures .1 ∙ after-value _ _ (project-ready (s .args .dim) (s .args .matrix .now) (s .args .query .now) _ refl (s .pre .1)),
     )
 
 pub fill-query-spec : {M : Type 1} → statement M

@@ -1,0 +1,4 @@
+pub mod Rows
+pub mod FiniteSums
+pub mod Answers
+pub mod Examples

@@ -1,0 +1,2 @@
+pub mod Projection
+pub mod Inner
