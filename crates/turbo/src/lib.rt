@@ -256,7 +256,7 @@ fn check_prepared(setup: Setup, directions: &[f32], rotated: &[f32], projected: 
     if let Outcome::Refused { number, place } = scalars {
         return Outcome::Refused { number, place };
     }
-    let table = setup::check_directions(setup, directions);
+    let table = setup_tables::check_directions(setup, directions);
     if let Outcome::Refused { number, place } = table {
         return Outcome::Refused { number, place };
     }

@@ -30,7 +30,7 @@ pub fn decode_approximate(
     ensures said { λ r. ⌜ says r ≡ done (decodeApproximateOf setup (lent (now (signs .entry)) (now (directions .entry)) (now (matrix .entry))) (now (bytes .entry)) (length (now (out .entry)))) ⌝ }
     ensures left { λ _. ⌜ now (out .exit) ≡ after (decodeApproximateOf setup (lent (now (signs .entry)) (now (directions .entry)) (now (matrix .entry))) (now (bytes .entry)) (length (now (out .entry)))) (now (out .entry)) ⌝ }
 {
-    let checked = setup::check_setup(setup, signs, directions, matrix);
+    let checked = setup_tables::check_setup(setup, signs, directions, matrix);
     if let Outcome::Refused { number, place } = checked {
         return Outcome::Refused { number, place };
     }

@@ -1,34 +1,41 @@
--- What follows from a setup whose checks all pass. Assumes nothing.
-use Prim.Native.Nat.{ℕ, _+_, _*_, _^_, _<_}
-use mathlib.Core.Path.{_≡_, sym}
+-- What a setup has whose checks all pass, and what follows from them. Proofs alone speak of these. Assumes nothing.
+use Prim.Native.Nat.{ℕ, _<_}
+use mathlib.Core.Path.{_≡_}
+use mathlib.Core.Bool.{true, false}
 use mathlib.Core.List.{List}
-use native.Mathlib.Nat.{zero-mul}
-use native.Mathlib.Omega.{arith}
 use borrow.Author.Tests.{eqb-true, not-false}
-use lib.ListN.{length}
+use lib.ListN.{length, getD}
 use lib.Ieee.{Float, nan}
+use lib.Ieee.Scale.{finite}
 use Rattle.error.specs.Answer.{first, accepted}
+use Rattle.error.specs.Checks.{badValue}
 use Rattle.error.proofs.Chains.{first-passes, first-accepts, append-left, append-right, append-passed}
 use Rattle.error.proofs.Places.{each-clear}
-use Rattle.rotation.specs.Checks.{badSign}
-use Rattle.setup.specs.declared.Setup.{Setup}
-use Rattle.setup.specs.declared.TurboMode.the-variants.{PolarOnly}
-use Rattle.setup.specs.Lent.{Lent}
-use Rattle.setup.specs.Setups.{polarBitsOf, countedProjectionsOf, directionsNeeded, matrixNeeded}
-use Rattle.setup.specs.Checks.{badDirection, scalarChecks, tableChecks, tableChecksButEntries, entryChecks, setupChecks, setupChecksButEntries, directionChecks}
-use Rattle.error.specs.Checks.{badValue}
-use Rattle.setup.proofs.Usable.{Usable, Directions, AcceptedSetup}
-use Rattle.setup.proofs.Rows.{entry-below}
 use Rattle.error.proofs.Finite.{passes-finite}
+use Rattle.rotation.specs.Checks.{badSign}
+use Rattle.setup.specs.declared.Setup.{Setup}
+use Rattle.setup.specs.Lent.{Lent}
+use Rattle.setup.specs.Setups.{directionsNeeded, matrixNeeded}
+use Rattle.setup.specs.Checks.{scalarChecks}
+use Rattle.setup.proofs.Usable.{Usable}
 use Rattle.setup.proofs.Scalars.{scalars-usable}
+use Rattle.setup_tables.specs.Checks.{badDirection, tableChecks, tableChecksButEntries, entryChecks, setupChecks, setupChecksButEntries, directionChecks}
 
-pub directions-accepted : (s : Setup) (directions : List Float) → first (directionChecks s directions) accepted ≡ accepted → Directions s directions
-directions-accepted s directions e =
-    let k = first-passes (directionChecks s directions) tt e in
-    record {
-      long = eqb-true (length directions) (directionsNeeded s) (not-false _ (k .0));
-      good = each-clear badDirection directions nan (k .1 .0);
-    }
+-- the table of directions
+pub record Directions (s : Setup) (directions : List Float) : Type 0 where
+  pub long : length directions ≡ directionsNeeded s
+  pub good : (i : ℕ) → i < length directions → badDirection (getD directions i nan) ≡ false
+
+-- the scalars and the three tables
+pub record AcceptedSetup (s : Setup) (l : Lent) : Type 0 where
+  pub usable : Usable s
+  pub signs-long : length (l .signs) ≡ s .dim
+  pub signs-good : (i : ℕ) → i < length (l .signs) → badSign (getD (l .signs) i nan) ≡ false
+  pub table : Directions s (l .directions)
+  pub matrix-long : length (l .matrix) ≡ matrixNeeded s
+  pub matrix-finite : (i : ℕ) → i < length (l .matrix) → finite (getD (l .matrix) i nan) ≡ true
+
+-- ---- where all pass
 
 module _ (s : Setup) (l : Lent) where
   pub tables-accepted : Usable s → first (tableChecks s l) accepted ≡ accepted → AcceptedSetup s l
@@ -72,17 +79,3 @@ module _ (s : Setup) (l : Lent) (passed : first (setupChecksButEntries s l) acce
 
   pub but-entries-rest : first (setupChecks s l) accepted ≡ first (entryChecks (l .matrix)) accepted
   but-entries-rest = append-passed (setupChecksButEntries s l) (entryChecks (l .matrix)) tt accepted passed
-
--- ---- what lies within the tables
-
--- 'In `PolarOnly` m counts as 0 and the matrix is empty.'
-pub matrix-empty : (s : Setup) → s .mode ≡ PolarOnly → matrixNeeded s ≡ 0
-matrix-empty s alone = simp (alone, zero-mul)
-
--- both entries of a direction pair
-pub pair-below : (s : Setup) (directions : List Float) → Directions s directions → (i : ℕ) → i < 2 ^ polarBitsOf s → 2 * i + 1 < length directions
-pair-below s directions d i h = let long = d .long in omega (arith, long, h)
-
--- the entry at a row and a column
-pub cell-below : (s : Setup) (l : Lent) → AcceptedSetup s l → (row column : ℕ) → row < countedProjectionsOf s → column < s .dim → row * s .dim + column < length (l .matrix)
-cell-below s l a row column r c = entry-below (countedProjectionsOf s) (s .dim) row column (length (l .matrix)) (sym (a .matrix-long)) r c

@@ -1,9 +1,9 @@
--- `setup::is_bad_direction` meets its contract, by the laws of `Directions`. Assumes nothing.
+-- `setup_tables::is_bad_direction` meets its contract, by the laws of `Directions`. Assumes nothing.
 use mathlib.Core.Path.{sym}
 use lib.Ieee.{ofBits, neg}
-use Rattle.setup.proofs.Directions.{direction-within, direction-below, direction-above}
-use Rattle.setup.proofs.is_bad_direction.Statement.{statement}
-use Rattle.setup.proofs.is_bad_direction.Tie as tie
+use Rattle.setup_tables.proofs.Directions.{direction-within, direction-below, direction-above}
+use Rattle.setup_tables.proofs.is_bad_direction.Statement.{statement}
+use Rattle.setup_tables.proofs.is_bad_direction.Tie as tie
 
 returns : tie.Need-returns
 unfolding ofBits neg

@@ -1,10 +1,10 @@
--- `setup::first_bad_direction` meets its contract: where the pass finds nothing, the place is the length. Assumes nothing.
+-- `setup_tables::first_bad_direction` meets its contract: where the pass finds nothing, the place is the length. Assumes nothing.
 use mathlib.Core.Path.{sym, _∙_}
-use Rattle.setup.specs.Checks.{badDirection}
+use Rattle.setup_tables.specs.Checks.{badDirection}
 use Rattle.error.proofs.Sweep.{clear-place}
 use borrow.Author.Needs.{needs}
-use Rattle.setup.proofs.first_bad_direction.Statement.{statement}
-use Rattle.setup.proofs.first_bad_direction.Tie as tie
+use Rattle.setup_tables.proofs.first_bad_direction.Statement.{statement}
+use Rattle.setup_tables.proofs.first_bad_direction.Tie as tie
 
 all-directions-requires : tie.Need-all-directions-requires
 all-directions-requires c κs = search needs

@@ -1,4 +1,4 @@
--- `setup::all_directions` meets its contract, by the laws of `Sweep`. Assumes nothing.
+-- `setup_tables::all_directions` meets its contract, by the laws of `Sweep`. Assumes nothing.
 use Prim.Native.Nat.{_-_}
 use mathlib.Core.Path.{sym, _∙_}
 use mathlib.Core.Logic.{⊎-elim}
@@ -6,10 +6,10 @@ use native.Mathlib.Omega.{arith}
 use borrow.Author.Needs.{scaled-fits}
 use lib.ListN.{length}
 use lib.Ieee.{nan}
-use Rattle.setup.specs.Checks.{badDirection}
+use Rattle.setup_tables.specs.Checks.{badDirection}
 use Rattle.error.proofs.Sweep.{swept-start, swept-pass, swept-spot, swept-end, Swept}
-use Rattle.setup.proofs.all_directions.Statement.{statement}
-use Rattle.setup.proofs.all_directions.Tie as tie
+use Rattle.setup_tables.proofs.all_directions.Statement.{statement}
+use Rattle.setup_tables.proofs.all_directions.Tie as tie
 
 abbrev Inv-loop : tie.InvT-loop
 Inv-loop directions ok₀ i₀ ok i = Swept badDirection directions i ok

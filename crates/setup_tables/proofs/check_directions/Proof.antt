@@ -1,14 +1,14 @@
--- `setup::check_directions` meets its contract: beyond 60 polar bits no slice is long enough. Assumes nothing.
+-- `setup_tables::check_directions` meets its contract: beyond 60 polar bits no slice is long enough. Assumes nothing.
 use Prim.Native.Nat.{ℕ, _*_, _^_}
 use mathlib.Core.Path.{_≡_, sym, ap, _∙_}
 use borrow.Author.Tests.{ne-eqb}
 use Rattle.error.proofs.Places.{each-offends, each-passes}
 use Rattle.setup.specs.Setups.{directionsNeeded}
-use Rattle.setup.specs.Checks.{badDirection}
-use Rattle.setup.proofs.Lengths.{entries-beyond, length-differs, length-meets}
+use Rattle.setup_tables.specs.Checks.{badDirection}
+use Rattle.setup_tables.proofs.Lengths.{entries-beyond, length-differs, length-meets}
 use borrow.Author.Needs.{needs}
-use Rattle.setup.proofs.check_directions.Statement.{statement}
-use Rattle.setup.proofs.check_directions.Tie as tie
+use Rattle.setup_tables.proofs.check_directions.Statement.{statement}
+use Rattle.setup_tables.proofs.check_directions.Tie as tie
 
 -- what the call of `direction_entries` returned
 entries : (c : tie.After-direction-entries) → c .direction-entries .result ≡ directionsNeeded (c .before .before .before .before .args .setup)

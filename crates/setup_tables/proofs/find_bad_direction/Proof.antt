@@ -1,4 +1,4 @@
--- `setup::find_bad_direction` meets its contract: before i no entry offends. Assumes nothing.
+-- `setup_tables::find_bad_direction` meets its contract: before i no entry offends. Assumes nothing.
 use Prim.Native.Nat.{_+_, _≤_, _-_}
 use mathlib.Core.Path.{_≡_, sym, _∙_}
 use native.Mathlib.Omega.{arith}
@@ -7,9 +7,9 @@ use lib.ListN.{length, drop}
 use lib.Ieee.{nan}
 use Rattle.error.specs.Answer.{place}
 use Rattle.error.proofs.Places.{place-start, place-skip, place-here, place-end}
-use Rattle.setup.specs.Checks.{badDirection}
-use Rattle.setup.proofs.find_bad_direction.Statement.{statement}
-use Rattle.setup.proofs.find_bad_direction.Tie as tie
+use Rattle.setup_tables.specs.Checks.{badDirection}
+use Rattle.setup_tables.proofs.find_bad_direction.Statement.{statement}
+use Rattle.setup_tables.proofs.find_bad_direction.Tie as tie
 
 abbrev Inv-loop : tie.InvT-loop
 Inv-loop directions i₀ i = (i ≤ length directions) × (place badDirection directions ≡ i + place badDirection (drop i directions))

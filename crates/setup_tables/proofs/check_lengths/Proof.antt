@@ -1,4 +1,4 @@
--- `setup::check_lengths` meets its contract: a check that passes leaves the rest of the list, and the scalars bound the lengths that are formed.
+-- `setup_tables::check_lengths` meets its contract: a check that passes leaves the rest of the list, and the scalars bound the lengths that are formed.
 -- Assumes nothing.
 use Prim.Native.Nat.{ℕ, _*_, _^_}
 use mathlib.Core.Path.{_≡_, ap, _∙_}
@@ -7,13 +7,13 @@ use native.Mathlib.Omega.{arith}
 use borrow.Author.Tests.{eq-eqb, ne-eqb}
 use lib.Dec.{eqb}
 use lib.ListN.{length}
 use Rattle.setup.specs.Setups.{directionsNeeded, matrixNeeded}
 use Rattle.setup.proofs.Usable.{Usable}
-use Rattle.setup.proofs.Lengths.{matrix-fits, length-differs, length-meets}
+use Rattle.setup_tables.proofs.Lengths.{matrix-fits, length-differs, length-meets}
 use Rattle.setup.proofs.Scalars.{scalars-usable}
 use borrow.Author.Needs.{needs}
-use Rattle.setup.proofs.check_lengths.Statement.{statement}
-use Rattle.setup.proofs.check_lengths.Tie as tie
+use Rattle.setup_tables.proofs.check_lengths.Statement.{statement}
+use Rattle.setup_tables.proofs.check_lengths.Tie as tie
 
 -- ---- what is known once a check has passed
 

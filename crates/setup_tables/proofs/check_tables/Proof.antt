@@ -1,4 +1,4 @@
--- `setup::check_tables` meets its contract: the checks of the lengths, and then those of the signs and the directions. Assumes nothing.
+-- `setup_tables::check_tables` meets its contract: the checks of the lengths, and then those of the signs and the directions. Assumes nothing.
 use mathlib.Core.Path.{_≡_, sym, ap, _∙_}
 use mathlib.Core.List.{[], _∷_}
 use Rattle.error.specs.Answer.{first, each, accepted}
@@ -6,11 +6,11 @@ use Rattle.error.specs.Outcomes.{says}
 use Rattle.error.proofs.Chains.{append-passed, append-refused}
 use Rattle.error.proofs.Places.{each-offends, each-passes}
 use Rattle.rotation.specs.Checks.{badSign}
 use Rattle.setup.specs.Lent.{lent}
-use Rattle.setup.specs.Checks.{badDirection, tableLengthChecks, tableChecksButEntries}
+use Rattle.setup_tables.specs.Checks.{badDirection, tableLengthChecks, tableChecksButEntries}
 use borrow.Author.Needs.{needs}
-use Rattle.setup.proofs.check_tables.Statement.{statement}
-use Rattle.setup.proofs.check_tables.Tie as tie
+use Rattle.setup_tables.proofs.check_tables.Statement.{statement}
+use Rattle.setup_tables.proofs.check_tables.Tie as tie
 
 check-lengths-requires : tie.Need-check-lengths-requires
 check-lengths-requires c κs = c .before .before .before .pre

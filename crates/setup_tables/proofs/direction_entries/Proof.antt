@@ -1,11 +1,11 @@
--- `setup::direction_entries` meets its contract, by the laws of `Lengths`. Assumes nothing.
+-- `setup_tables::direction_entries` meets its contract, by the laws of `Lengths`. Assumes nothing.
 use Prim.Native.Nat.{ℕ, _*_}
 use mathlib.Core.Path.{ap}
 use native.Mathlib.Omega.{arith}
-use Rattle.setup.proofs.Lengths.{entries-fit, entries-shift}
+use Rattle.setup_tables.proofs.Lengths.{entries-fit, entries-shift}
 use borrow.Author.Needs.{needs}
-use Rattle.setup.proofs.direction_entries.Statement.{statement}
-use Rattle.setup.proofs.direction_entries.Tie as tie
+use Rattle.setup_tables.proofs.direction_entries.Statement.{statement}
+use Rattle.setup_tables.proofs.direction_entries.Tie as tie
 
 shl-result : tie.Need-shl-result
 shl-result c = search needs

@@ -1,13 +1,14 @@
--- `setup::check_but_entries` meets its contract: the scalars' checks, and then the tables'. Assumes nothing.
+-- `setup_tables::check_but_entries` meets its contract: the scalars' checks, and then the tables'. Assumes nothing.
 use mathlib.Core.Path.{sym, ap, _∙_}
 use Rattle.error.specs.Answer.{accepted}
 use Rattle.error.specs.Outcomes.{says}
 use Rattle.setup.specs.Lent.{lent}
-use Rattle.setup.specs.Checks.{scalarChecks, tableChecksButEntries}
+use Rattle.setup.specs.Checks.{scalarChecks}
+use Rattle.setup_tables.specs.Checks.{tableChecksButEntries}
 use Rattle.error.proofs.Chains.{append-passed, append-refused}
 use borrow.Author.Needs.{needs}
-use Rattle.setup.proofs.check_but_entries.Statement.{statement}
-use Rattle.setup.proofs.check_but_entries.Tie as tie
+use Rattle.setup_tables.proofs.check_but_entries.Statement.{statement}
+use Rattle.setup_tables.proofs.check_but_entries.Tie as tie
 
 check-scalars-requires : tie.Need-check-scalars-requires
 check-scalars-requires c κs = search needs

@@ -1,4 +1,4 @@
--- `setup::first_non_finite_entry` meets its contract: before the entry at row and column none offends. Assumes nothing.
+-- `setup_tables::first_non_finite_entry` meets its contract: before the entry at row and column none offends. Assumes nothing.
 use Prim.Native.Nat.{_+_, _*_, _≤_, _<_, _-_}
 use mathlib.Core.Path.{_≡_, refl, sym, _∙_}
 use native.Mathlib.Omega.{arith}
@@ -9,10 +9,10 @@ use lib.Ieee.{nan}
 use Rattle.error.specs.Answer.{place}
 use Rattle.error.proofs.Places.{place-skip, place-here, place-end}
 use Rattle.error.specs.Checks.{badValue}
-use Rattle.setup.proofs.Rows.{entry-below, rows-full, rows-start, row-start, row-end, column-next}
+use Rattle.setup_tables.proofs.Rows.{entry-below, rows-full, rows-start, row-start, row-end, column-next}
 use Rattle.error.proofs.Finite.{finite-passes, not-finite-offends}
-use Rattle.setup.proofs.first_non_finite_entry.Statement.{statement}
-use Rattle.setup.proofs.first_non_finite_entry.Tie as tie
+use Rattle.setup_tables.proofs.first_non_finite_entry.Statement.{statement}
+use Rattle.setup_tables.proofs.first_non_finite_entry.Tie as tie
 
 abbrev Inv-loop : tie.InvT-loop
 Inv-loop matrix rows columns found₀ row column₀ found column = (found ≡ length matrix) × (column ≤ columns) × (place badValue matrix ≡ (row * columns + column) + place badValue (drop (row * columns + column) matrix))

@@ -1,15 +1,15 @@
--- `setup::check_setup` meets its contract: all checks but those of the matrix's entries, and then those. Assumes nothing.
+-- `setup_tables::check_setup` meets its contract: all checks but those of the matrix's entries, and then those. Assumes nothing.
 use Prim.Native.Nat.{ℕ, _*_}
 use mathlib.Core.Path.{_≡_, sym, ap, _∙_}
 use borrow.Author.Needs.{needs}
 use Rattle.error.specs.Answer.{first, accepted}
 use Rattle.error.specs.Outcomes.{says}
 use Rattle.error.proofs.Chains.{append-refused}
 use Rattle.setup.specs.Lent.{lent}
-use Rattle.setup.specs.Checks.{setupChecksButEntries, entryChecks}
-use Rattle.setup.proofs.Accepted.{but-entries-long, but-entries-rest}
-use Rattle.setup.proofs.check_setup.Statement.{statement}
-use Rattle.setup.proofs.check_setup.Tie as tie
+use Rattle.setup_tables.specs.Checks.{setupChecksButEntries, entryChecks}
+use Rattle.setup_tables.proofs.Accepted.{but-entries-long, but-entries-rest}
+use Rattle.setup_tables.proofs.check_setup.Statement.{statement}
+use Rattle.setup_tables.proofs.check_setup.Tie as tie
 
 -- what the checks leave, where they are done
 passed : (c : tie.After-enum-told) → first (setupChecksButEntries (c .before .before .before .before .before .before .args .setup) (lent (c .before .before .before .before .before .before .args .signs .now) (c .before .before .before .before .before .before .args .directions .now) (c .before .before .before .before .before .before .args .matrix .now))) accepted ≡ accepted

@@ -1,9 +1,9 @@
--- `setup::check_entries` meets its contract: the pass says whether an entry offends, and the search where. Assumes nothing.
+-- `setup_tables::check_entries` meets its contract: the pass says whether an entry offends, and the search where. Assumes nothing.
 use borrow.Author.Needs.{needs}
 use Rattle.error.specs.Checks.{badValue}
 use Rattle.error.proofs.Sweep.{clear-passes, clear-offends}
-use Rattle.setup.proofs.check_entries.Statement.{statement}
-use Rattle.setup.proofs.check_entries.Tie as tie
+use Rattle.setup_tables.proofs.check_entries.Statement.{statement}
+use Rattle.setup_tables.proofs.check_entries.Tie as tie
 
 all-finite-requires : tie.Need-all-finite-requires
 all-finite-requires c κs = search needs

@@ -2,15 +2,14 @@
 -- Assumes nothing.
 use Prim.Native.Nat.{ℕ, _+_, _*_}
 use mathlib.Core.Path.{_≡_, refl, sym, _∙_}
-use mathlib.Core.Bool.{Bool, true, false, not, _&&_, _||_, true≢false, false≢true, or-not-self, and-false, or-true}
+use mathlib.Core.Bool.{Bool, true, false, not, _&&_, _||_, false≢true, or-not-self, and-false, or-true}
 use native.Mathlib.Nat.{add-comm}
 use native.Mathlib.Omega.{arith}
 use borrow.Author.Tests.{ltb-true, ltb-false, eqb-true, not-true, not-false, eq-eqb, ne-eqb}
 use lib.Dec.{ltb, eqb}
 use lib.IntN.{ℤ, pos}
 use lib.Ieee.{Float, nan, inf, fin, below, level, lt, le, eq, up, down}
-use lib.Ieee.Scale.{finite}
-use Rattle.setup.specs.Checks.{badDirection}
+use Rattle.setup_tables.specs.Checks.{badDirection}
 
 -- of two numbers, one is less, or they are equal, which e says
 less-or-equal : (a b : ℕ) (e : Bool) → (a ≡ b → e ≡ true) → ((a ≡ b → ⊥) → e ≡ false) → (ltb a b || e) ≡ not (ltb b a)
@@ -77,24 +76,3 @@ unfolding badDirection
 direction-above nan high = refl
 direction-above (inf s) high = refl
 direction-above (fin s m e) high = finite-above s m e high
-
--- and back: what an entry that passes has
-pub direction-low : (x : Float) → badDirection x ≡ false → le (fin true 1 (pos 0)) x ≡ true
-direction-low x good = split (le (fin true 1 (pos 0)) x) refl
-  where
-    split : (b : Bool) → le (fin true 1 (pos 0)) x ≡ b → le (fin true 1 (pos 0)) x ≡ true
-    split true e = e
-    split false e = absurd (true≢false (sym (direction-below x e) ∙ good))
-
-pub direction-high : (x : Float) → badDirection x ≡ false → le x (fin false 1 (pos 0)) ≡ true
-direction-high x good = split (le x (fin false 1 (pos 0))) refl
-  where
-    split : (b : Bool) → le x (fin false 1 (pos 0)) ≡ b → le x (fin false 1 (pos 0)) ≡ true
-    split true e = e
-    split false e = absurd (true≢false (sym (direction-above x e) ∙ good))
-
-pub direction-finite : (x : Float) → badDirection x ≡ false → finite x ≡ true
-unfolding badDirection
-direction-finite nan good = cc
-direction-finite (inf s) good = cc
-direction-finite (fin s m e) good = refl
