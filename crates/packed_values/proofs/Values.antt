@@ -24,13 +24,21 @@ use Rattle.packed.specs.Reading.{radiiOf, indicesOf, signsOf, recordChecks, rea
 use Rattle.packed.proofs.Accepted.{read-accepts, read-header}
 use Rattle.packed.proofs.Headers.{product-most}
 use Rattle.packed.proofs.Parts.{length-radii, length-indices, length-signs}
-use Rattle.packed_parts.specs.AtHeader.{radiiAtOf, indicesAtOf, signsAtOf}
-use Rattle.packed_parts.proofs.Cuts.{places-passed}
+use Rattle.packed_values.specs.AtHeader.{wrongPlaces, radiiAtOf, indicesAtOf, signsAtOf}
+use Rattle.packed_parts.specs.Parts.{badPlaces}
 use Rattle.packed_parts.proofs.Handed.{radii-places, radii-cut, indices-places, indices-cut, signs-places, signs-cut}
 
 -- the answer and the lent memory of a call that answers as another does
 pub both-as : {A : Type 0} {a b : Answer A} (old : A) {new : A} {said : Answer (Unit {0})} → a ≡ b → (said ≡ done a) × (new ≡ after a old) → (said ≡ done b) × (new ≡ after b old)
 both-as {A} old e h = (h .0 ∙ ap done e, h .1 ∙ ap (λ (c : Answer A). after c old) e)
+
+-- the check of the places alone
+module _ (bytes : List ℕ) (from to : ℕ) where
+  pub places-refused : {A : Type 0} (a : Answer A) → badPlaces (length bytes) from to ≡ true → first (wrongPlaces bytes from to ∷ []) a ≡ refused 13 (length bytes)
+  places-refused a e = rw e
+
+  pub places-passed : {A : Type 0} (a : Answer A) → badPlaces (length bytes) from to ≡ false → first (wrongPlaces bytes from to ∷ []) a ≡ a
+  places-passed a e = rw e
 
 -- radii are radiusOf from exactly the bytes that they need, or it is 6
 radii-restored : (t : Bool) (count : ℕ) (range : Range) (payload : List ℕ) (room : ℕ) → let profile = cond t BlockLinearU16 F32 in

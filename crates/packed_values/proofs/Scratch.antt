@@ -20,8 +20,8 @@ use Rattle.packed.specs.Layout.{pairsOf, headerOf}
 use Rattle.packed.specs.Reading.{recordChecks, readRecordOf, radiiOf, indicesOf, signsOf, readRadiiOf, readIndicesOf, readSignsOf}
 use Rattle.packed.proofs.Accepted.{read-accepts, read-header}
 use Rattle.packed.proofs.Parts.{header-pairs, header-projections}
-use Rattle.packed_parts.specs.AtHeader.{radiiAtOf, indicesAtOf, signsAtOf}
-use Rattle.packed_parts.proofs.Values.{radii-at-read, indices-at-read, signs-at-read}
+use Rattle.packed_values.specs.AtHeader.{radiiAtOf, indicesAtOf, signsAtOf}
+use Rattle.packed_values.proofs.Values.{radii-at-read, indices-at-read, signs-at-read}
 
 -- what a call has answered for exactly m entries stands in them
 part-answered : {A : Type 0} (m : ℕ) (xs : List A) → m ≤ length xs → (answer : ℕ → Answer (List A)) (v : List A) → answer m ≡ value v → (ys zs : List A)

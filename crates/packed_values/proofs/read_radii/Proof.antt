@@ -1,12 +1,12 @@
--- `packed_parts::read_radii` meets its contract: the reader's refusal, or the values by the header that was read. Assumes nothing.
+-- `packed_values::read_radii` meets its contract: the reader's refusal, or the values by the header that was read. Assumes nothing.
 use mathlib.Core.Path.{sym, ap, _∙_}
 use denote.Ref.{now}
 use Rattle.error.proofs.Answers.{both-refused}
 use Rattle.packed.specs.Reading.{saysReading}
-use Rattle.packed_parts.proofs.Values.{both-as, radii-at-read, radii-refused}
+use Rattle.packed_values.proofs.Values.{both-as, radii-at-read, radii-refused}
 use borrow.Author.Needs.{needs}
-use Rattle.packed_parts.proofs.read_radii.Statement.{statement}
-use Rattle.packed_parts.proofs.read_radii.Tie as tie
+use Rattle.packed_values.proofs.read_radii.Statement.{statement}
+use Rattle.packed_values.proofs.read_radii.Tie as tie
 
 read-record-requires : tie.Need-read-record-requires
 read-record-requires c κs = search needs

@@ -1,12 +1,12 @@
--- `packed_parts::read_signs` meets its contract: the reader's refusal, or the values by the header that was read. Assumes nothing.
+-- `packed_values::read_signs` meets its contract: the reader's refusal, or the values by the header that was read. Assumes nothing.
 use mathlib.Core.Path.{sym, ap, _∙_}
 use denote.Ref.{now}
 use Rattle.error.proofs.Answers.{both-refused}
 use Rattle.packed.specs.Reading.{saysReading}
-use Rattle.packed_parts.proofs.Values.{both-as, signs-at-read, signs-refused}
+use Rattle.packed_values.proofs.Values.{both-as, signs-at-read, signs-refused}
 use borrow.Author.Needs.{needs}
-use Rattle.packed_parts.proofs.read_signs.Statement.{statement}
-use Rattle.packed_parts.proofs.read_signs.Tie as tie
+use Rattle.packed_values.proofs.read_signs.Statement.{statement}
+use Rattle.packed_values.proofs.read_signs.Tie as tie
 
 read-record-requires : tie.Need-read-record-requires
 read-record-requires c κs = search needs
