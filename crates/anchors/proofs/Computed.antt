@@ -25,7 +25,7 @@ use Rattle.rounding.specs.Butterfly.{from, entry, stage, stages}
 use Rattle.rounding.specs.Rows.{projected, exactProjected, projectedSizes}
 use Rattle.rounding.specs.Sums.{running, products, exactTotal, exactProducts, turnedEach, sum, absoluteSum, weighted}
 use Rattle.rounding.specs.Value.{val}
-use Rattle.setup.specs.Checks.{badDirection}
+use Rattle.setup_tables.specs.Checks.{badDirection}
 use Rattle.turbo.specs.Distance.{distanceSum, cutAtZero, l2DistanceEstimateOf}
 use Rattle.turbo.specs.Estimates.{innerProductEstimateOf}
 use Rattle.turbo_decode.specs.Decode.{decodeApproximateOf}

@@ -26,7 +26,7 @@ use Rattle.setup.specs.declared.Setup.{Setup}
 use Rattle.setup.specs.declared.TurboMode.{TurboMode}
 use Rattle.setup.specs.declared.TurboMode.the-variants.{PolarOnly, PolarWithQjl}
 use Rattle.setup.specs.Setups.{countedProjectionsOf}
-use Rattle.setup.specs.Checks.{setupChecks}
+use Rattle.setup_tables.specs.Checks.{setupChecks}
 use Rattle.rounding.specs.Rows.{projected}
 use Rattle.qjl.specs.Sketch.{vectorChecks, sketchOf}
 use Rattle.qjl_residual.specs.Residual.{unitResidual}

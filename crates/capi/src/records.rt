@@ -93,7 +93,7 @@ pub extern "C" fn foldrima_read_radii(
     ensures answer { λ _. ⌜ said (now (number .exit)) (now (place .exit)) ≡ told (done (readRadiiOf (now (bytes .entry)) (length (now (out .entry))))) ⌝ }
     ensures left { λ _. ⌜ now (out .exit) ≡ after (readRadiiOf (now (bytes .entry)) (length (now (out .entry)))) (now (out .entry)) ⌝ }
 {
-    tell(packed_parts::read_radii(bytes, out), number, place);
+    tell(packed_values::read_radii(bytes, out), number, place);
 }
 
 // The indices of a record.
@@ -107,7 +107,7 @@ pub extern "C" fn foldrima_read_indices(
     ensures answer { λ _. ⌜ said (now (number .exit)) (now (place .exit)) ≡ told (done (readIndicesOf (now (bytes .entry)) (length (now (out .entry))))) ⌝ }
     ensures left { λ _. ⌜ now (out .exit) ≡ after (readIndicesOf (now (bytes .entry)) (length (now (out .entry)))) (now (out .entry)) ⌝ }
 {
-    tell(packed_parts::read_indices(bytes, out), number, place);
+    tell(packed_values::read_indices(bytes, out), number, place);
 }
 
 // The signs of a record.
@@ -121,7 +121,7 @@ pub extern "C" fn foldrima_read_signs(
     ensures answer { λ _. ⌜ said (now (number .exit)) (now (place .exit)) ≡ told (done (readSignsOf (now (bytes .entry)) (length (now (out .entry))))) ⌝ }
     ensures left { λ _. ⌜ now (out .exit) ≡ after (readSignsOf (now (bytes .entry)) (length (now (out .entry)))) (now (out .entry)) ⌝ }
 {
-    tell(packed_parts::read_signs(bytes, out), number, place);
+    tell(packed_values::read_signs(bytes, out), number, place);
 }
 
 // How many bytes a record takes. Without signs the projections are ignored.

@@ -8,7 +8,7 @@ ghost use lib.ListN.{length};
 ghost use Rattle.error.specs.Answer.{first, accepted, done, after};
 ghost use Rattle.rotation.specs.Rotation.{applyOf, applyInverseOf};
 ghost use Rattle.setup.specs.Lent.{lent};
-ghost use Rattle.setup.specs.Checks.{setupChecks};
+ghost use Rattle.setup_tables.specs.Checks.{setupChecks};
 ghost use Rattle.qjl.specs.Sketch.{sketchOf};
 ghost use Rattle.qjl.specs.Score.{sketchScoreOf};
 ghost use Rattle.capi.specs.Told.{said, told};
@@ -67,7 +67,7 @@ pub extern "C" fn foldrima_check_setup(
 {
     let scalars = codes::setup(mode, dim, bits, projections);
     tell(
-        setup::check_setup(scalars, signs, directions, matrix),
+        setup_tables::check_setup(scalars, signs, directions, matrix),
         number,
         place,
     );

@@ -3,16 +3,14 @@
 use Prim.Native.Nat.{ℕ, _-_, _≤_}
 use mathlib.Core.Path.{_≡_, ap, _∙_}
 use mathlib.Core.Bool.{true, false}
-use mathlib.Core.List.{List, [], _∷_}
+use mathlib.Core.List.{List, []}
 use native.Mathlib.Omega.{arith}
 use borrow.Author.Tests.{le-ltb, ltb-false}
 use lib.ListN.{length, drop, length-drop}
 use lib.Seq.{length-take-le}
-use Rattle.error.specs.Answer.{Answer, refused, first}
 use Rattle.error.proofs.Chains.{or-false}
 use Rattle.packed.specs.Layout.{partAt}
 use Rattle.packed_parts.specs.Parts.{badPlaces, cutOf, cutStart}
-use Rattle.packed_parts.specs.AtHeader.{wrongPlaces}
 
 pub places-good : (size from to : ℕ) → from ≤ to → to ≤ size → badPlaces size from to ≡ false
 places-good size from to a b = rw (le-ltb to from a, le-ltb size to b)
@@ -28,12 +26,6 @@ module _ (bytes : List ℕ) (from to : ℕ) where
   pub start-outside : badPlaces (length bytes) from to ≡ true → cutStart bytes from to ≡ 0
   unfolding cutStart
   start-outside e = rw e
-
-  pub places-refused : {A : Type 0} (a : Answer A) → badPlaces (length bytes) from to ≡ true → first (wrongPlaces bytes from to ∷ []) a ≡ refused 13 (length bytes)
-  places-refused a e = rw e
-
-  pub places-passed : {A : Type 0} (a : Answer A) → badPlaces (length bytes) from to ≡ false → first (wrongPlaces bytes from to ∷ []) a ≡ a
-  places-passed a e = rw e
 
   pub cut-inside : badPlaces (length bytes) from to ≡ false → cutOf bytes from to ≡ partAt bytes from (to - from)
   unfolding cutOf

@@ -18,9 +18,8 @@ use Rattle.setup.specs.declared.Setup.{Setup}
 use Rattle.setup.specs.declared.TurboMode.{TurboMode}
 use Rattle.setup.specs.declared.TurboMode.the-variants.{PolarOnly, PolarWithQjl}
 use Rattle.setup.specs.Setups.{byMode, countedProjectionsOf}
-use Rattle.setup.specs.Checks.{setupChecks, setupChecksButEntries}
-use Rattle.setup.proofs.Usable.{AcceptedSetup}
-use Rattle.setup.proofs.Accepted.{setup-accepted, but-entries-usable, but-entries-long, but-entries-rest}
+use Rattle.setup_tables.specs.Checks.{setupChecks, setupChecksButEntries}
+use Rattle.setup_tables.proofs.Accepted.{AcceptedSetup, setup-accepted, but-entries-usable, but-entries-long, but-entries-rest}
 use Rattle.rounding.specs.Rows.{projected}
 use Rattle.qjl_rows.specs.Inner.{Rowed}
 use Rattle.qjl.specs.Sketch.{signOfSum, vectorChecks, sketchOf}

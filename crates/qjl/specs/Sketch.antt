@@ -12,7 +12,7 @@ use Rattle.error.specs.Checks.{wrongInput, wrongRoom, badValue}
 use Rattle.setup.specs.Lent.{Lent}
 use Rattle.setup.specs.declared.Setup.{Setup}
 use Rattle.setup.specs.Setups.{countedProjectionsOf}
-use Rattle.setup.specs.Checks.{setupChecks}
+use Rattle.setup_tables.specs.Checks.{setupChecks}
 use Rattle.rounding.specs.Rows.{projected}
 
 -- 'Sketch: a row's sum at or above zero gives +1; below, or NaN, −1.' `negsuc 0` is −1

@@ -86,7 +86,7 @@ pub fn check_vector(
 ) -> Outcome
     ensures { λ r. ⌜ says r ≡ first (vectorChecks setup (lent (now (signs .entry)) (now (directions .entry)) (now (matrix .entry))) (now (vector .entry))) accepted ⌝ }
 {
-    let checked = setup::check_setup(setup, signs, directions, matrix);
+    let checked = setup_tables::check_setup(setup, signs, directions, matrix);
     if let Outcome::Refused { number, place } = checked {
         return Outcome::Refused { number, place };
     }
@@ -119,7 +119,7 @@ fn sketch_at_once(
 ) -> bool
     ensures { λ r. ⌜ AtOnce (sketchOf setup (lent (now (signs .entry)) (now (directions .entry)) (now (matrix .entry))) (now (vector .entry)) (length (now (out .entry)))) (now (out .entry)) r (now (out .exit)) ⌝ }
 {
-    let checked = setup::check_but_entries(setup, signs, directions, matrix);
+    let checked = setup_tables::check_but_entries(setup, signs, directions, matrix);
     if let Outcome::Refused { number, place } = checked {
         return false;
     }

@@ -103,7 +103,7 @@ fn indices_written(call: u8, case: &[u8; 512], out: &mut [u16]) -> Outcome {
     if call == 18 {
         return bitpack::unpack_indices(bytes, frame::count(case), frame::bits(case), out);
     }
-    packed_parts::read_indices(bytes, out)
+    packed_values::read_indices(bytes, out)
 }
 
 pub(crate) fn signs(call: u8, case: &[u8; 512]) -> bool {
@@ -120,7 +120,7 @@ fn signs_written(call: u8, case: &[u8; 512], out: &mut [i8]) -> Outcome {
     if call == 20 {
         return bitpack_signs::unpack_signs(bytes, frame::count(case), out);
     }
-    packed_parts::read_signs(bytes, out)
+    packed_values::read_signs(bytes, out)
 }
 
 pub(crate) fn floats(call: u8, case: &[u8; 512]) -> bool {
@@ -138,5 +138,5 @@ fn floats_written(call: u8, case: &[u8; 512], out: &mut [f32]) -> Outcome {
         let count = frame::count(case);
         return radius::decompress(frame::profile(case), count, frame::range(case), bytes, out);
     }
-    packed_parts::read_radii(bytes, out)
+    packed_values::read_radii(bytes, out)
 }

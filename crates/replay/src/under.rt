@@ -32,7 +32,10 @@ fn lent(call: u8, case: &[u8; 512], view: &[f32; 128], signs: &[f32], vector: &[
     let matrix = frame::floats(case, view, frame::MATRIX);
     let setup = frame::setup(case);
     match call {
-        27 => same::outcome(case, setup::check_setup(setup, signs, directions, matrix)),
+        27 => same::outcome(
+            case,
+            setup_tables::check_setup(setup, signs, directions, matrix),
+        ),
         28 => sketch(case, setup, signs, directions, matrix, vector),
         29 => prepare_query(case, view, setup, signs, directions, matrix, vector),
         30 => decode(case, view, setup, signs, directions, matrix),

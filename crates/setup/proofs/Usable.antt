@@ -1,20 +1,11 @@
--- What a setup has whose checks all pass: its scalars, then its tables. Proofs alone speak of these. Assumes nothing.
-use Prim.Native.Nat.{ℕ, _%_, _^_, _≤_, _<_}
+-- What a setup has whose scalars' checks all pass. Proofs alone speak of it. Assumes nothing.
+use Prim.Native.Nat.{_%_, _^_, _≤_, _<_}
 use mathlib.Core.Path.{_≡_}
-use mathlib.Core.Bool.{true, false}
-use mathlib.Core.List.{List}
 use lib.Count.{ones, trailingZeros}
-use lib.ListN.{length, getD}
-use lib.Ieee.{Float, nan}
-use lib.Ieee.Scale.{finite}
-use Rattle.rotation.specs.Checks.{badSign}
 use Rattle.setup.specs.declared.Setup.{Setup}
 use Rattle.setup.specs.declared.TurboMode.the-variants.{PolarWithQjl}
-use Rattle.setup.specs.Lent.{Lent}
-use Rattle.setup.specs.Setups.{polarBitsOf, countedProjectionsOf, directionsNeeded, matrixNeeded}
-use Rattle.setup.specs.Checks.{badDirection}
+use Rattle.setup.specs.Setups.{polarBitsOf, countedProjectionsOf}
 
--- the scalars
 pub record Usable (s : Setup) : Type 0 where
   pub above : 0 < s .dim
   pub most : s .dim ≤ 4096
@@ -27,17 +18,3 @@ pub record Usable (s : Setup) : Type 0 where
   pub most-projections : countedProjectionsOf s ≤ 4096
   pub residual-bits : s .mode ≡ PolarWithQjl → polarBitsOf s ≤ 15
   pub residual-projections : s .mode ≡ PolarWithQjl → 0 < countedProjectionsOf s
-
--- the table of directions
-pub record Directions (s : Setup) (directions : List Float) : Type 0 where
-  pub long : length directions ≡ directionsNeeded s
-  pub good : (i : ℕ) → i < length directions → badDirection (getD directions i nan) ≡ false
-
--- the scalars and the three tables
-pub record AcceptedSetup (s : Setup) (l : Lent) : Type 0 where
-  pub usable : Usable s
-  pub signs-long : length (l .signs) ≡ s .dim
-  pub signs-good : (i : ℕ) → i < length (l .signs) → badSign (getD (l .signs) i nan) ≡ false
-  pub table : Directions s (l .directions)
-  pub matrix-long : length (l .matrix) ≡ matrixNeeded s
-  pub matrix-finite : (i : ℕ) → i < length (l .matrix) → finite (getD (l .matrix) i nan) ≡ true

@@ -16,7 +16,8 @@ use Rattle.setup.specs.declared.Setup.{Setup}
 use Rattle.setup.specs.declared.TurboMode.{TurboMode}
 use Rattle.setup.specs.declared.TurboMode.the-variants.{PolarOnly, PolarWithQjl}
 use Rattle.setup.specs.Setups.{byMode, countedProjectionsOf}
-use Rattle.setup.specs.Checks.{scalarChecks, tableChecks, setupChecks, directionChecks}
+use Rattle.setup.specs.Checks.{scalarChecks}
+use Rattle.setup_tables.specs.Checks.{tableChecks, setupChecks, directionChecks}
 use Rattle.qjl_residual.specs.Residual.{unitResidual}
 use Rattle.qjl.specs.Sketch.{vectorChecks}
 use Rattle.packed.specs.Reading.{radiiOf, signsOf}

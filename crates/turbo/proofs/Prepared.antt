@@ -20,8 +20,8 @@ use Rattle.rotation.specs.Rotation.{inverseRoot, scaled, hadamardOf, rotated}
 use Rattle.setup.specs.Lent.{Lent, lent}
 use Rattle.setup.specs.declared.Setup.{Setup}
 use Rattle.setup.specs.Setups.{countedProjectionsOf}
-use Rattle.setup.specs.Checks.{setupChecks}
-use Rattle.setup.proofs.Accepted.{setup-scalars, setup-directions}
+use Rattle.setup_tables.specs.Checks.{setupChecks}
+use Rattle.setup_tables.proofs.Accepted.{setup-scalars, setup-directions}
 use Rattle.qjl.specs.Sketch.{vectorChecks}
 use Rattle.qjl.proofs.Answers.{vector-setup, vector-rowed}
 use Rattle.turbo_query.specs.Query.{rotatedQuery, projectedQuery, finiteChecks, queryChecks, prepareChecks, prepareRotatedOf, prepareProjectedOf}

@@ -9,7 +9,8 @@ use Rattle.error.specs.Checks.{wrongInput, badValue}
 use Rattle.setup.specs.Lent.{Lent}
 use Rattle.setup.specs.declared.Setup.{Setup}
 use Rattle.setup.specs.Setups.{countedProjectionsOf}
-use Rattle.setup.specs.Checks.{scalarChecks, directionChecks}
+use Rattle.setup.specs.Checks.{scalarChecks}
+use Rattle.setup_tables.specs.Checks.{directionChecks}
 use Rattle.turbo_order.specs.Scores.{scoreOf}
 use Rattle.turbo_query.specs.Query.{queryChecks}
 use Rattle.turbo_opening.specs.Opening.{contentOf}

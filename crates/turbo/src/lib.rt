@@ -232,8 +232,8 @@ fn polar_part(
 {
     let pairs = header.dim / 2;
     let mut indices = no_indices();
-    packed_parts::radii_at(bytes, header, &mut radii[0..pairs]);
-    packed_parts::indices_at(bytes, header, &mut indices[0..pairs]);
+    packed_values::radii_at(bytes, header, &mut radii[0..pairs]);
+    packed_values::indices_at(bytes, header, &mut indices[0..pairs]);
     polar::polar_sum(rotated, directions, &indices[0..pairs], &radii[0..pairs])
 }
 
@@ -244,7 +244,7 @@ fn residual_part(projected: &[f32], bytes: &[u8], header: Header) -> f32
 {
     let projections = header.projections;
     let mut signs = no_signs();
-    packed_parts::signs_at(bytes, header, &mut signs[0..projections]);
+    packed_values::signs_at(bytes, header, &mut signs[0..projections]);
     qjl_residual::residual(projections as u16, 1.0, projected, &signs[0..projections])
 }
 
@@ -256,7 +256,7 @@ fn check_prepared(setup: Setup, directions: &[f32], rotated: &[f32], projected: 
     if let Outcome::Refused { number, place } = scalars {
         return Outcome::Refused { number, place };
     }
-    let table = setup::check_directions(setup, directions);
+    let table = setup_tables::check_directions(setup, directions);
     if let Outcome::Refused { number, place } = table {
         return Outcome::Refused { number, place };
     }

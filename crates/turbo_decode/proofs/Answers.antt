@@ -16,8 +16,8 @@ use Rattle.rotation.specs.Rotation.{unrotated, applyInverseOf}
 use Rattle.rotation.proofs.Applied.{inverse-value}
 use Rattle.setup.specs.Lent.{Lent}
 use Rattle.setup.specs.declared.Setup.{Setup}
-use Rattle.setup.specs.Checks.{setupChecks}
-use Rattle.setup.proofs.Accepted.{setup-accepted}
+use Rattle.setup_tables.specs.Checks.{setupChecks}
+use Rattle.setup_tables.proofs.Accepted.{setup-accepted}
 use Rattle.polar.specs.Polar.{decodedPairs, polarPairsOf}
 use Rattle.polar.proofs.Answers.{pairs-value}
 use Rattle.packed.specs.declared.Header.{Header}

@@ -8,7 +8,7 @@ use Rattle.error.specs.Checks.{wrongRoom}
 use Rattle.rotation.specs.Rotation.{unrotated}
 use Rattle.setup.specs.Lent.{Lent}
 use Rattle.setup.specs.declared.Setup.{Setup}
-use Rattle.setup.specs.Checks.{setupChecks}
+use Rattle.setup_tables.specs.Checks.{setupChecks}
 use Rattle.polar.specs.Polar.{decodedPairs}
 use Rattle.packed.specs.Reading.{radiiOf, indicesOf}
 use Rattle.turbo_opening.specs.Opening.{openChecks}

@@ -30,7 +30,7 @@ pub fn decode_approximate(
     ensures said { λ r. ⌜ says r ≡ done (decodeApproximateOf setup (lent (now (signs .entry)) (now (directions .entry)) (now (matrix .entry))) (now (bytes .entry)) (length (now (out .entry)))) ⌝ }
     ensures left { λ _. ⌜ now (out .exit) ≡ after (decodeApproximateOf setup (lent (now (signs .entry)) (now (directions .entry)) (now (matrix .entry))) (now (bytes .entry)) (length (now (out .entry)))) (now (out .entry)) ⌝ }
 {
-    let checked = setup::check_setup(setup, signs, directions, matrix);
+    let checked = setup_tables::check_setup(setup, signs, directions, matrix);
     if let Outcome::Refused { number, place } = checked {
         return Outcome::Refused { number, place };
     }
@@ -69,8 +69,8 @@ fn read_pairs(directions: &[f32], bytes: &[u8], header: Header, values: &mut [f3
     let pairs = header.dim / 2;
     let mut radii = no_radii();
     let mut indices = no_indices();
-    packed_parts::radii_at(bytes, header, &mut radii[0..pairs]);
-    packed_parts::indices_at(bytes, header, &mut indices[0..pairs]);
+    packed_values::radii_at(bytes, header, &mut radii[0..pairs]);
+    packed_values::indices_at(bytes, header, &mut indices[0..pairs]);
     polar::polar_pairs(directions, &indices[0..pairs], &radii[0..pairs], values);
 }
 

@@ -15,7 +15,7 @@ use Rattle.rotation.proofs.Accepted.{Rotatable}
 use Rattle.rotation.proofs.ErrorBound.{rotationCount, rotated-close}
 use Rattle.setup.specs.Lent.{Lent}
 use Rattle.setup.specs.declared.Setup.{Setup}
-use Rattle.setup.proofs.Usable.{AcceptedSetup}
+use Rattle.setup_tables.proofs.Accepted.{AcceptedSetup}
 use Rattle.setup.specs.Setups.{byMode, countedProjectionsOf}
 use Rattle.polar.proofs.Counts.{polar-size-even}
 use Rattle.turbo_order.specs.Scores.{Content, accountOf, polarPartSize, residualPartSize, sizeBy, perStep, perRadius, boundBy, scoreBound}

@@ -26,8 +26,9 @@ use Rattle.setup.specs.declared.Setup.{Setup}
 use Rattle.setup.specs.declared.TurboMode.{TurboMode}
 use Rattle.setup.specs.declared.TurboMode.the-variants.{PolarOnly, PolarWithQjl}
 use Rattle.setup.specs.Setups.{byMode, countedProjectionsOf}
-use Rattle.setup.specs.Checks.{badDirection}
-use Rattle.setup.proofs.Usable.{Usable, Directions}
+use Rattle.setup_tables.specs.Checks.{badDirection}
+use Rattle.setup.proofs.Usable.{Usable}
+use Rattle.setup_tables.proofs.Accepted.{Directions}
 use Rattle.polar.specs.Polar.{valueAt, polarSumOf}
 use Rattle.polar.proofs.Directions.{within-small, missing-small}
 use Rattle.polar.proofs.Counts.{close-polar-most}

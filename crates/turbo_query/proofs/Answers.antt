@@ -16,8 +16,8 @@ use Rattle.rotation.specs.Checks.{rotationChecks}
 use Rattle.setup.specs.Lent.{Lent}
 use Rattle.setup.specs.declared.Setup.{Setup}
 use Rattle.setup.specs.Setups.{countedProjectionsOf}
-use Rattle.setup.specs.Checks.{entryChecks, setupChecks, setupChecksButEntries}
-use Rattle.setup.proofs.Accepted.{but-entries-usable, but-entries-long, but-entries-rest}
+use Rattle.setup_tables.specs.Checks.{entryChecks, setupChecks, setupChecksButEntries}
+use Rattle.setup_tables.proofs.Accepted.{but-entries-usable, but-entries-long, but-entries-rest}
 use Rattle.error.specs.Checks.{wrongInput, badValue}
 use Rattle.qjl_rows.specs.Inner.{Rowed}
 use Rattle.qjl_rows.proofs.FiniteSums.{matrix-finite}

@@ -52,7 +52,7 @@ fn prepare_at_once(
     ensures rotated { λ r. ⌜ AtOnce (prepareRotatedOf setup (lent (now (signs .entry)) (now (directions .entry)) (now (matrix .entry))) (now (query .entry)) (length (now (rotated .entry))) (length (now (projected .entry)))) (now (rotated .entry)) r (now (rotated .exit)) ⌝ }
     ensures projected { λ r. ⌜ AtOnce (prepareProjectedOf setup (lent (now (signs .entry)) (now (directions .entry)) (now (matrix .entry))) (now (query .entry)) (length (now (rotated .entry))) (length (now (projected .entry)))) (now (projected .entry)) r (now (projected .exit)) ⌝ }
 {
-    let checked = setup::check_but_entries(setup, signs, directions, matrix);
+    let checked = setup_tables::check_but_entries(setup, signs, directions, matrix);
     if let Outcome::Refused { number, place } = checked {
         return false;
     }

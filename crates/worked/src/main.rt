@@ -118,7 +118,7 @@ fn record(signs: &[i8], made: &mut [u8], back: &mut [i8]) {
     header(made);
     parts(made);
     values(made);
-    show::signs(packed_parts::read_signs(made, back), back);
+    show::signs(packed_values::read_signs(made, back), back);
 }
 
 // What a record's header says: dimension, bits, projections, and where radii, indices and signs start and the record ends.
@@ -150,7 +150,7 @@ fn parts(made: &[u8]) {
 // The radius and the index of a record that has one of each.
 fn values(made: &[u8]) {
     let mut radius = [0.0f32; 1];
-    show::floats(packed_parts::read_radii(made, &mut radius), &radius);
+    show::floats(packed_values::read_radii(made, &mut radius), &radius);
     let mut index = [0u16; 1];
-    show::indices(packed_parts::read_indices(made, &mut index), &index);
+    show::indices(packed_values::read_indices(made, &mut index), &index);
 }

@@ -13,14 +13,14 @@ use Rattle.packed_parts.proofs.cut.Statement.{statement}
 use Rattle.packed_parts.proofs.cut.Tie as tie
 
 inside : (c : tie.Else1) → let a = c .before .before .before .args in badPlaces (length (now (a .bytes))) (a .from) (a .to) ≡ false
-inside c = sym (c .before .outside .ensures) ∙ c .if1 .left
+inside c = sym (c .before .outside-places .ensures) ∙ c .if1 .left
 
 -- the places lie in order
 order : (c : tie.Else1) → let a = c .before .before .before .args in (a .from ≤ a .to) × (a .to ≤ length (now (a .bytes)))
 order c = let a = c .before .before .before .args in places-order (length (now (a .bytes))) (a .from) (a .to) (inside c)
 
-outside-requires : tie.Need-outside-requires
-outside-requires c κs = search needs
+outside-places-requires : tie.Need-outside-places-requires
+outside-places-requires c κs = search needs
 
 sub-result : tie.Need-sub-result
 sub-result c = search needs
@@ -34,7 +34,7 @@ part-result-end c = search needs
 returns : tie.Need-returns
 returns c =
     let a = c .before .before .before .before .args in
-    let e = sym (c .before .before .outside .ensures) ∙ c .before .if1 .taken in (
+    let e = sym (c .before .before .outside-places .ensures) ∙ c .before .if1 .taken in (
       simp (sub-self, cut-outside (now (a .bytes)) (a .from) (a .to) e),
       record { block = refl; offset = ap (λ (n : ℕ). n + a .bytes .ptr .1) (sym (start-outside (now (a .bytes)) (a .from) (a .to) e)) },
     )
@@ -59,4 +59,4 @@ returns-2 c =
 pub cut-spec : {M : Type 1} → statement M
 cut-spec =
     tie.close
-    (tie.spec outside-requires sub-result part-result-start part-result-end returns sub-result-2 part-result-start-2 part-result-end-2 returns-2)
+    (tie.spec outside-places-requires sub-result part-result-start part-result-end returns sub-result-2 part-result-start-2 part-result-end-2 returns-2)

@@ -4,7 +4,7 @@ use borrow.Author.Needs.{needs}
 use Rattle.error.specs.Answer.{first, accepted}
 use Rattle.error.specs.Outcomes.{says}
 use Rattle.setup.specs.Lent.{lent}
-use Rattle.setup.specs.Checks.{setupChecksButEntries}
+use Rattle.setup_tables.specs.Checks.{setupChecksButEntries}
 use Rattle.qjl.proofs.Answers.{shaped-ready, shaped-value}
 use Rattle.qjl.proofs.AtOnce.{at-once-left, at-once-signs}
 use Rattle.qjl.proofs.sketch_at_once.Statement.{statement}

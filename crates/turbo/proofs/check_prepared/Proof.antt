@@ -3,7 +3,8 @@ use mathlib.Core.Path.{_≡_, sym, ap, _∙_}
 use borrow.Author.Needs.{needs}
 use Rattle.error.specs.Answer.{first, accepted}
 use Rattle.error.specs.Outcomes.{says}
-use Rattle.setup.specs.Checks.{scalarChecks, directionChecks}
+use Rattle.setup.specs.Checks.{scalarChecks}
+use Rattle.setup_tables.specs.Checks.{directionChecks}
 use Rattle.turbo.proofs.Answers.{ready-scalars, ready-directions, ready-rest}
 use Rattle.turbo.proofs.check_prepared.Statement.{statement}
 use Rattle.turbo.proofs.check_prepared.Tie as tie

@@ -11,7 +11,7 @@ use lib.Ieee.{Float}
 use Rattle.lists.proofs.Parts.{part-enough}
 use Rattle.polar.specs.Polar.{polarSumOf}
 use Rattle.packed.specs.Reading.{radiiOf, indicesOf}
-use Rattle.packed_parts.proofs.Scratch.{read-pairs-most, radii-lent, indices-lent}
+use Rattle.packed_values.proofs.Scratch.{read-pairs-most, radii-lent, indices-lent}
 use Rattle.turbo.proofs.Front.{front-put}
 use Rattle.turbo.proofs.polar_part.Statement.{statement}
 use Rattle.turbo.proofs.polar_part.Tie as tie

@@ -12,7 +12,7 @@ use Rattle.qjl_residual.specs.Residual.{unitResidual}
 use Rattle.packed.specs.Reading.{signsOf}
 use Rattle.packed.proofs.Accepted.{read-header}
 use Rattle.packed.proofs.Parts.{header-projections}
-use Rattle.packed_parts.proofs.Scratch.{read-projections-most, signs-lent}
+use Rattle.packed_values.proofs.Scratch.{read-projections-most, signs-lent}
 use borrow.Author.Needs.{needs}
 use Rattle.turbo.proofs.residual_part.Statement.{statement}
 use Rattle.turbo.proofs.residual_part.Tie as tie

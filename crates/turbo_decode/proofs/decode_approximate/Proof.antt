@@ -6,9 +6,9 @@ use Rattle.error.specs.Answer.{value, first, accepted}
 use Rattle.error.specs.Outcomes.{says}
 use Rattle.error.proofs.Answers.{both-refused, both-value}
 use Rattle.setup.specs.Lent.{lent}
-use Rattle.setup.specs.Checks.{setupChecks}
+use Rattle.setup_tables.specs.Checks.{setupChecks}
 use Rattle.packed.specs.Reading.{saysReading}
-use Rattle.setup.proofs.Accepted.{setup-scalars}
+use Rattle.setup_tables.proofs.Accepted.{setup-scalars}
 use Rattle.turbo_opening.specs.Opening.{openRecordOf}
 use Rattle.turbo_opening.specs.Inner.{openedOf}
 use Rattle.turbo_opening.proofs.Answers.{open-usable}

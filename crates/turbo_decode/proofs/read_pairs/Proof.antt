@@ -6,7 +6,7 @@ use borrow.Author.Needs.{needs}
 use borrow.Rule.Slice.PartMut.{postOf}
 use lib.ListN.{length}
 use Rattle.lists.proofs.Parts.{part-enough}
-use Rattle.packed_parts.proofs.Scratch.{read-pairs-most, radii-lent, indices-lent}
+use Rattle.packed_values.proofs.Scratch.{read-pairs-most, radii-lent, indices-lent}
 use Rattle.turbo_decode.proofs.Answers.{paired-values}
 use Rattle.turbo_decode.proofs.read_pairs.Statement.{statement}
 use Rattle.turbo_decode.proofs.read_pairs.Tie as tie

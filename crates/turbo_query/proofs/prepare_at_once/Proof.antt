@@ -6,7 +6,7 @@ use borrow.Author.Needs.{needs}
 use Rattle.error.specs.Answer.{first, accepted}
 use Rattle.error.specs.Outcomes.{says}
 use Rattle.setup.specs.Lent.{lent}
-use Rattle.setup.specs.Checks.{setupChecksButEntries}
+use Rattle.setup_tables.specs.Checks.{setupChecksButEntries}
 use Rattle.rounding.specs.Rows.{projected}
 use Rattle.qjl.proofs.AtOnce.{at-once-left}
 use Rattle.turbo_query.proofs.Answers.{handed-same, shaped-rows, prepare-made, prepare-left}

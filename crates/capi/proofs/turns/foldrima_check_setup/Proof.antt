@@ -2,7 +2,7 @@
 use Rattle.error.specs.Answer.{first, accepted}
 use Rattle.setup.specs.Lent.{lent}
 use Rattle.setup.specs.declared.Setup.{Setup}
-use Rattle.setup.specs.Checks.{setupChecks}
+use Rattle.setup_tables.specs.Checks.{setupChecks}
 use mathlib.Core.Path.{ap, _∙_}
 use denote.Ref.{now}
 use Rattle.capi.proofs.Tell.{told-as}

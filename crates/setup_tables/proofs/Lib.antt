@@ -1,0 +1,4 @@
+mod Directions
+mod Rows
+mod Lengths
+pub mod Accepted
