@@ -32,7 +32,7 @@ use Rattle.packed_parts.proofs.Handed.{radii-places, radii-cut, indices
 pub both-as : {A : Type 0} {a b : Answer A} (old : A) {new : A} {said : Answer (Unit {0})} → a ≡ b → (said ≡ done a) × (new ≡ after a old) → (said ≡ done b) × (new ≡ after b old)
 both-as {A} old e h = (h .0 ∙ ap done e, h .1 ∙ ap (λ (c : Answer A). after c old) e)
 
--- radii are radiusOf from exactly the bytes that they need, or it is 6
+-- radii are restored from exactly the bytes that they need, or it is 6
 radii-restored : (t : Bool) (count : ℕ) (range : Range) (payload : List ℕ) (room : ℕ) → let profile = cond t BlockLinearU16 F32 in
     length payload ≡ widthOf profile * count → restoreOf profile count range payload room ≡ first (wrongRoom room count ∷ []) (value (radiiFor profile count range payload))
 unfolding restoreOf
