@@ -9,7 +9,7 @@ use error::Outcome;
 use error::Scored;
 use packed::Reading;
 use polar::Angle;
-use radius::Compressed;
+use radius_writing::Compressed;
 ghost use mathlib.Core.Path.{_≡_};
 ghost use Rattle.error.specs.Answer.{after};
 ghost use Rattle.error.specs.Outcomes.{says, saysScore};
@@ -17,7 +17,7 @@ ghost use Rattle.error.specs.Lengths.{saysLength};
 ghost use Rattle.codebook.specs.Says.{saysMade, saysCount, saysIndex, saysPoint};
 ghost use Rattle.packed.specs.Reading.{saysReading};
 ghost use Rattle.polar.specs.Angle.{saysAngle};
-ghost use Rattle.radius.specs.Says.{saysRange};
+ghost use Rattle.radius_writing.specs.Says.{saysRange};
 ghost use Rattle.capi.specs.Told.{said, told, part};
 ghost use Rattle.capi.specs.Codes.{minOf, maxOf, headerMode, headerProfile, headerDim, headerBits, headerProjections, headerMin, headerMax};
 

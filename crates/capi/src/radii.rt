@@ -29,7 +29,7 @@ pub extern "C" fn foldrima_compress(
 {
     let chosen = codes::profile(profile);
     tell_range(
-        radius::compress(radii, chosen, out),
+        radius_writing::compress(radii, chosen, out),
         number,
         place,
         min,
@@ -55,7 +55,7 @@ pub extern "C" fn foldrima_decompress(
     let chosen = codes::profile(profile);
     let range = Range { min, max };
     tell(
-        radius::decompress(chosen, count, range, payload, out),
+        radius_reading::decompress(chosen, count, range, payload, out),
         number,
         place,
     );

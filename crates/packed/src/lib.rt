@@ -199,7 +199,7 @@ fn check_payloads(bytes: &[u8], header: Header) -> Outcome
             place: 0,
         };
     }
-    let bad = radius::first_bad_payload(&bytes[radii..indices], profile, range);
+    let bad = radius_reading::first_bad_payload(&bytes[radii..indices], profile, range);
     if bad < header.dim / 2 {
         return Outcome::Refused {
             number: MALFORMED_RADIUS,

@@ -20,8 +20,9 @@ use Rattle.bitpack.specs.Signs.{badSketchSign}
 use Rattle.lists.proofs.Chunks.{chunks-joined}
 use Rattle.radius.specs.Codec.{badProfile}
 use Rattle.radius.specs.Firsts.{readBack}
-use Rattle.radius.specs.Linear.{quantized, spanOf, linearBytes, linearRadius}
+use Rattle.radius.specs.Linear.{quantizeRadiusOf, spanOf, linearBytes, linearRadius}
 use Rattle.radius.specs.Radii.{badRadius, rangeOf}
+use Rattle.radius.proofs.Linear.{length-linearBytes}
 use Rattle.radius.specs.declared.Range.{Range}
 use Rattle.radius.specs.declared.RadiusCodecProfileV1.{RadiusCodecProfileV1}
 use Rattle.radius.specs.declared.RadiusCodecProfileV1.the-variants.{F32, BlockLinearU16, BlockLogU8}
@@ -42,15 +43,11 @@ map-at f (x ∷ xs) (suc i) d e h = map-at f xs i d e (le-of-suc-le-suc h)
 
 -- ---- linear radii
 
--- the two bytes of a radius
-length-linearBytes : (range : Range) (r : Float) → length (linearBytes range r) ≡ 2
-unfolding linearBytes
-length-linearBytes range r = length-digits 256 2 (quantized (range .min) (spanOf range) r)
-
+-- the number of a radius, from its two bytes
 linear-small : (range : Range) (r : Float) → number 256 (linearBytes range r) ≤ 65535
 unfolding linearBytes
 linear-small range r =
-    let n = quantized (range .min) (spanOf range) r in
+    let n = quantizeRadiusOf (range .min) (spanOf range) r in
     let small : number 256 (linearBytes range r) < 256 ^ 2 = subst (λ (k : ℕ). number 256 (linearBytes range r) < 256 ^ k) (length-digits 256 2 n) (number-lt 256 (linearBytes range r) (digits-below 256 2 n (omega arith))) in
     omega (arith, small)
 

@@ -13,7 +13,6 @@ ghost use mathlib.Core.Path.{_≡_};
 ghost use Rattle.error.specs.Answer.{first, accepted};
 ghost use Rattle.error.specs.Lengths.{saysLength};
 ghost use Rattle.error.specs.Outcomes.{says};
-ghost use Rattle.radius.specs.Codec.{badProfile};
 ghost use Rattle.setup.specs.Setups.{byMode};
 ghost use Rattle.packed_size.specs.Size.{byProfile, mapFor, codeChecks, recordSizeOf};
 
@@ -50,7 +49,7 @@ pub fn check_code(code: Code) -> Outcome
     let profile = code.profile;
     let mode = code.mode;
     let projections = code.projections;
-    if is_log(profile) {
+    if radius::is_bad_profile(profile) {
         return Outcome::Refused {
             number: UNDEFINED_PROFILE,
             place: 0,
@@ -93,16 +92,5 @@ fn signs_bit(mode: TurboMode) -> u8
     match mode {
         TurboMode::PolarOnly => 0,
         TurboMode::PolarWithQjl => 2,
-    }
-}
-
-// Whether a profile is the one that is refused.
-fn is_log(profile: RadiusCodecProfileV1) -> bool
-    ensures { λ r. ⌜ r ≡ badProfile profile ⌝ }
-{
-    match profile {
-        RadiusCodecProfileV1::F32 => false,
-        RadiusCodecProfileV1::BlockLinearU16 => false,
-        RadiusCodecProfileV1::BlockLogU8 => true,
     }
 }

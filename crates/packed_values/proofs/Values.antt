@@ -40,7 +40,7 @@ module _ (bytes : List ℕ) (from to : ℕ) where
   pub places-passed : {A : Type 0} (a : Answer A) → badPlaces (length bytes) from to ≡ false → first (wrongPlaces bytes from to ∷ []) a ≡ a
   places-passed a e = rw e
 
--- radii are radiusOf from exactly the bytes that they need, or it is 6
+-- radii are restored from exactly the bytes that they need, or it is 6
 radii-restored : (t : Bool) (count : ℕ) (range : Range) (payload : List ℕ) (room : ℕ) → let profile = cond t BlockLinearU16 F32 in
     length payload ≡ widthOf profile * count → restoreOf profile count range payload room ≡ first (wrongRoom room count ∷ []) (value (radiiFor profile count range payload))
 unfolding restoreOf

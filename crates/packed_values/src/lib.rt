@@ -58,7 +58,7 @@ pub fn radii_at(bytes: &[u8], header: Header, out: &mut [f32]) -> Outcome
     let profile = header.profile;
     let range = header.range;
     let payload = packed_parts::cut(bytes, header.radii_start, header.indices_start);
-    radius::restore(profile, header.dim / 2, range, payload, out)
+    radius_reading::restore(profile, header.dim / 2, range, payload, out)
 }
 
 // The indices of a record by the header that was read from it.

@@ -12,7 +12,7 @@ use Rattle.float.specs.Rounding.{clamped, roundUnsigned}
 use Rattle.lists.specs.Chunks.{chunks}
 use Rattle.float.specs.Constants.{one}
 use Rattle.radius.specs.Radii.{least, greatest, rangeOf}
-use Rattle.radius.specs.Linear.{spanOf, quantized, linearBytes, radiusOf, linearRadius}
+use Rattle.radius.specs.Linear.{spanOf, quantizeRadiusOf, linearBytes, radiusOf, linearRadius}
 use Rattle.radius.specs.declared.RadiusCodecProfileV1.the-variants.{F32, BlockLinearU16}
 use Rattle.setup.specs.declared.TurboMode.the-variants.{PolarOnly, PolarWithQjl}
 use Rattle.packed.proofs.Examples.{bytes12, bytes13}
@@ -29,7 +29,7 @@ p13-written = refl
 
 -- 'A linear radius that reads as infinite is 16 in reading and in writing': 1.5 × 2^104 and the largest f32, of which the second reads as infinite
 pub infinite-written : writeRecordOf (record { profile = BlockLinearU16; mode = PolarOnly; dim = 4; bits = 1; projections = 0 }) (ofBits binary32 0x73C0_0000 ∷ ofBits binary32 0x7F7F_FFFF ∷ []) (0 ∷ 0 ∷ []) [] 19 ≡ refused 16 1
-unfolding writeRecordOf readBack ones onesIn place chunks flatMap number digits ofBits lt least greatest rangeOf roundUnsigned clamped spanOf quantized linearBytes radiusOf linearRadius add sub mul div ofInt
+unfolding writeRecordOf readBack ones onesIn place chunks flatMap number digits ofBits lt least greatest rangeOf roundUnsigned clamped spanOf quantizeRadiusOf linearBytes radiusOf linearRadius add sub mul div ofInt
 infinite-written = refl
 
 -- '16 is refused beside signs', before 8 and 5

@@ -18,7 +18,7 @@ use Rattle.radius.specs.declared.Range.{Range}
 use Rattle.radius.specs.declared.RadiusCodecProfileV1.{RadiusCodecProfileV1}
 use Rattle.radius.specs.declared.RadiusCodecProfileV1.the-variants.{F32, BlockLinearU16, BlockLogU8}
 use Rattle.lists.proofs.Chunks.{length-joined}
-use Rattle.radius.proofs.Scan.{length-linearBytes}
+use Rattle.radius.proofs.Linear.{length-linearBytes}
 use Rattle.setup.specs.declared.TurboMode.{TurboMode}
 use Rattle.setup.specs.declared.TurboMode.the-variants.{PolarOnly, PolarWithQjl}
 use Rattle.packed.specs.declared.Code.{Code}

@@ -7,9 +7,9 @@ use error::MALFORMED_SIGN;
 use error::OUTPUT_LENGTH;
 use error::Outcome;
 use packed::Code;
-use radius::Compressed;
 use radius::RadiusCodecProfileV1;
 use radius::Range;
+use radius_writing::Compressed;
 use setup::Setup;
 use setup::TurboMode;
 ghost use Prim.Native.Nat.{_+_, _-_, _≤_};
@@ -135,7 +135,7 @@ fn check_values(
             place: bad,
         };
     }
-    let lost = radius::first_bad_read_back(radii, profile);
+    let lost = radius_writing::first_bad_read_back(radii, profile);
     if lost < radii.len() {
         return Outcome::Refused {
             number: MALFORMED_RADIUS,
@@ -200,7 +200,7 @@ fn put_radii(radii: &[f32], profile: RadiusCodecProfileV1, out: &mut [u8]) -> Ra
     ensures is { λ r. ⌜ r ≡ rangeFor profile (now (radii .entry)) ⌝ }
     ensures left { λ r. ⌜ now (out .exit) ≡ payloadFor profile (now (radii .entry)) ⌝ }
 {
-    match radius::compress(radii, profile, out) {
+    match radius_writing::compress(radii, profile, out) {
         Compressed::Made(range) => range,
         Compressed::Refused {
             number: _,

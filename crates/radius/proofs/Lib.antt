@@ -1,6 +1,6 @@
 pub mod Radii
-pub mod Checks
+pub mod Widths
+pub mod Linear
 pub mod Accepted
 pub mod RoundTrip
-pub mod Scan
 pub mod Examples

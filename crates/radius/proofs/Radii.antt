@@ -16,32 +16,32 @@ use Rattle.radius.specs.Radii.{badRadius, least, greatest, rangeOf}
 use Rattle.radius.specs.declared.Range.{Range}
 
 -- the range of what was passed, with these two the least and the greatest of it, and of what is left
-abbrev pub rangeFrom : Float → Float → List Float → Range
-rangeFrom lo hi rs = record { min = least lo rs; max = greatest hi rs }
+abbrev pub rangeOnward : Float → Float → List Float → Range
+rangeOnward lo hi rs = record { min = least lo rs; max = greatest hi rs }
 
 pub range-none : (rs : List Float) → length rs ≡ 0 → rangeOf rs ≡ record { min = posZero; max = posZero }
 unfolding rangeOf
 range-none [] e = refl
 range-none (r ∷ rs) e = absurd (omega (arith, e))
 
-pub range-start : (rs : List Float) (d : Float) → 0 < length rs → rangeOf rs ≡ rangeFrom (getD rs 0 d) (getD rs 0 d) (drop 1 rs)
+pub range-start : (rs : List Float) (d : Float) → 0 < length rs → rangeOf rs ≡ rangeOnward (getD rs 0 d) (getD rs 0 d) (drop 1 rs)
 unfolding rangeOf
 range-start [] d h = absurd (not-suc-le-zero h)
 range-start (r ∷ rs) d h = refl
 
-range-cons : (lo hi r : Float) (rs : List Float) → rangeFrom lo hi (r ∷ rs) ≡ rangeFrom (cond (lt r lo) r lo) (cond (lt hi r) r hi) rs
+range-cons : (lo hi r : Float) (rs : List Float) → rangeOnward lo hi (r ∷ rs) ≡ rangeOnward (cond (lt r lo) r lo) (cond (lt hi r) r hi) rs
 unfolding least greatest
 range-cons lo hi r rs = refl
 
-pub range-step : (rs : List Float) (i : ℕ) (d lo hi : Float) → i < length rs → let r = getD rs i d in rangeFrom lo hi (drop i rs) ≡ rangeFrom (cond (lt r lo) r lo) (cond (lt hi r) r hi) (drop (i + 1) rs)
+pub range-step : (rs : List Float) (i : ℕ) (d lo hi : Float) → i < length rs → let r = getD rs i d in rangeOnward lo hi (drop i rs) ≡ rangeOnward (cond (lt r lo) r lo) (cond (lt hi r) r hi) (drop (i + 1) rs)
 range-step rs i d lo hi h = rw (add-one, drop-cons rs i d h) (range-cons lo hi (getD rs i d) (drop (suc i) rs))
 
-range-nil : (lo hi : Float) → rangeFrom lo hi [] ≡ record { min = lo; max = hi }
+range-nil : (lo hi : Float) → rangeOnward lo hi [] ≡ record { min = lo; max = hi }
 unfolding least greatest
 range-nil lo hi = refl
 
-pub range-end : (rs : List Float) (i : ℕ) (lo hi : Float) → length rs ≤ i → rangeFrom lo hi (drop i rs) ≡ record { min = lo; max = hi }
-range-end rs i lo hi h = ap (rangeFrom lo hi) (drop-of-length-le rs h) ∙ range-nil lo hi
+pub range-end : (rs : List Float) (i : ℕ) (lo hi : Float) → length rs ≤ i → rangeOnward lo hi (drop i rs) ≡ record { min = lo; max = hi }
+range-end rs i lo hi h = ap (rangeOnward lo hi) (drop-of-length-le rs h) ∙ range-nil lo hi
 
 -- ---- an accepted radius
 

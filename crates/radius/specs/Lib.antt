@@ -1,6 +1,4 @@
 pub mod Radii
 pub mod Linear
 pub mod Codec
-pub mod Says
 pub mod Firsts
-pub mod Inner

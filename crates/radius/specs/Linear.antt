@@ -15,17 +15,17 @@ unfoldable pub spanOf : Range → Float
 spanOf range = let width = sub binary32 (range .max) (range .min) in cond (lt epsilonFloat width) width epsilonFloat
 
 -- 'the product with 65,535 is rounded half away from zero'
-unfoldable pub quantized : Float → Float → Float → ℕ
-quantized lo span r = roundUnsigned 16 (mul binary32 (clamped posZero (one false) (div binary32 (sub binary32 r lo) span)) topFloat)
+unfoldable pub quantizeRadiusOf : Float → Float → Float → ℕ
+quantizeRadiusOf lo span r = roundUnsigned 16 (mul binary32 (clamped posZero (one false) (div binary32 (sub binary32 r lo) span)) topFloat)
 
 -- its two bytes, the least significant first
 unfoldable pub linearBytes : Range → Float → List ℕ
-linearBytes range r = digits 256 2 (quantized (range .min) (spanOf range) r)
+linearBytes range r = digits 256 2 (quantizeRadiusOf (range .min) (spanOf range) r)
 
 -- 'Decompress multiplies by max − min itself.'
-unfoldable pub radiusOf : Float → Float → ℕ → Float
-radiusOf lo width n = add binary32 lo (mul binary32 width (div binary32 (ofInt binary32 (pos n)) topFloat))
+unfoldable pub radiusOf : Range → ℕ → Float
+radiusOf range n = add binary32 (range .min) (mul binary32 (sub binary32 (range .max) (range .min)) (div binary32 (ofInt binary32 (pos n)) topFloat))
 
 -- the radius that two bytes stand for
 unfoldable pub linearRadius : Range → List ℕ → Float
-linearRadius range bytes = radiusOf (range .min) (sub binary32 (range .max) (range .min)) (number 256 bytes)
+linearRadius range bytes = radiusOf range (number 256 bytes)

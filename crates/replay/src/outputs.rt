@@ -5,7 +5,7 @@ use super::frame;
 use super::same;
 use error::Outcome;
 use packed::Code;
-use radius::Compressed;
+use radius_writing::Compressed;
 
 // Outputs as they are lent: each element is a mark that no call writes.
 pub(crate) fn marked_floats() -> [f32; 64] {
@@ -56,7 +56,7 @@ fn pack_signs(case: &[u8; 512], out: &mut [u8]) -> bool {
 
 fn compress(case: &[u8; 512], out: &mut [u8]) -> bool {
     let view = frame::float_view(case);
-    match radius::compress(
+    match radius_writing::compress(
         frame::floats(case, &view, frame::VECTOR),
         frame::profile(case),
         out,
@@ -136,7 +136,13 @@ fn floats_written(call: u8, case: &[u8; 512], out: &mut [f32]) -> Outcome {
     let bytes = frame::bytes(case, frame::BYTES);
     if call == 22 {
         let count = frame::count(case);
-        return radius::decompress(frame::profile(case), count, frame::range(case), bytes, out);
+        return radius_reading::decompress(
+            frame::profile(case),
+            count,
+            frame::range(case),
+            bytes,
+            out,
+        );
     }
     packed_values::read_radii(bytes, out)
 }

@@ -3,7 +3,7 @@ use Rattle.bitpack.proofs.Examples.{p1, p2, p3, p4, p5, p6, p7}
 use Rattle.rotation.proofs.Examples.{p8}
 use Rattle.float.proofs.Examples.{root-of-two}
 use Rattle.polar.proofs.Examples.{p10}
-use Rattle.radius.proofs.Examples.{compress-halves}
+use Rattle.radius_writing.proofs.Examples.{compress-halves}
 use Rattle.packed.proofs.Examples.{p12, p12-radii, p12-indices, p12-signs, p13, p13-radii, p13-indices, p13-signs}
 use Rattle.packed_writing.proofs.Examples.{p12-written, p13-written}
 use Rattle.table.specs.Table.{Table}

@@ -4,9 +4,9 @@ mod archive;
 mod show;
 
 use packed::Reading;
-use radius::Compressed;
 use radius::RadiusCodecProfileV1;
 use radius::Range;
+use radius_writing::Compressed;
 
 fn main() {
     packing();
@@ -83,7 +83,7 @@ fn radii() {
 
 // Compresses radii as linear ones, and decompresses what came out.
 fn linear(radii: &[f32], payload: &mut [u8], back: &mut [f32]) {
-    match radius::compress(radii, RadiusCodecProfileV1::BlockLinearU16, payload) {
+    match radius_writing::compress(radii, RadiusCodecProfileV1::BlockLinearU16, payload) {
         Compressed::Made(range) => decompressed(range, payload, back),
         Compressed::Refused { number, place } => show::refusal(number, place),
     }
@@ -94,7 +94,7 @@ fn decompressed(range: Range, payload: &[u8], back: &mut [f32]) {
     let linear = RadiusCodecProfileV1::BlockLinearU16;
     let count = back.len();
     show::floats(
-        radius::decompress(linear, count, range, payload, back),
+        radius_reading::decompress(linear, count, range, payload, back),
         back,
     );
 }

@@ -9,7 +9,7 @@ use borrow.Author.Needs.{needs}
 use lib.ListN.{length}
 use Rattle.error.specs.Answer.{place}
 use Rattle.radius.specs.Radii.{badRadius}
-use Rattle.radius.proofs.Scan.{first-bad-whole}
+use Rattle.radius_reading.proofs.Scan.{first-bad-whole}
 use Rattle.packed.specs.Fields.{mapOf, profileOf, boundsOf}
 use Rattle.packed.specs.Layout.{pairsOf, recordLength}
 use Rattle.packed.specs.Radii.{badBoundsFor}

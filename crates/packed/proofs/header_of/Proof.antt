@@ -8,7 +8,7 @@ use Rattle.error.specs.Answer.{accepted}
 use Rattle.packed.specs.Fields.{dimOf}
 use Rattle.packed.specs.Layout.{headerOf}
 use Rattle.packed.proofs.Headers.{word-run, header-usable, bits-most, projections-most, product-most}
-use Rattle.radius.proofs.Checks.{width-most}
+use Rattle.radius.proofs.Widths.{width-most}
 use borrow.Author.Needs.{needs}
 use Rattle.packed.proofs.header_of.Statement.{statement}
 use Rattle.packed.proofs.header_of.Tie as tie

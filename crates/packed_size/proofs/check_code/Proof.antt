@@ -12,14 +12,14 @@ use Rattle.packed_size.proofs.check_code.Tie as tie
 
 -- the profile is one that a record has
 known : (c : tie.Else1) → badProfile (c .before .before .args .code .profile) ≡ false
-known c = sym (c .before .is-log .ensures) ∙ c .if1 .left
+known c = sym (c .before .is-bad-profile .ensures) ∙ c .if1 .left
 
 -- the dimension and the bits have passed
 shaped : (c : tie.After-enum-told) → let code = c .before .before .before .before .before .args .code in first (shapeChecks (code .mode) (code .dim) (code .bits)) accepted ≡ accepted
 shaped c = sym (c .before .before .check-shape .ensures) ∙ ap says (c .enum-told .given .1)
 
-is-log-requires : tie.Need-is-log-requires
-is-log-requires c κs = search needs
+is-bad-profile-requires : tie.Need-is-bad-profile-requires
+is-bad-profile-requires c κs = search needs
 
 returns : tie.Need-returns
 returns c = search needs
@@ -49,7 +49,7 @@ pub check-code-spec : {M : Type 1} → statement M
 check-code-spec =
     tie.close
     (tie.spec
-    is-log-requires
+    is-bad-profile-requires
     returns
     check-shape-requires
     enum-known-number

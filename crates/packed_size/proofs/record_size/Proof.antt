@@ -9,7 +9,7 @@ use Rattle.bitpack.specs.Padding.{bytesFor}
 use Rattle.radius.specs.Codec.{widthOf}
 use Rattle.packed.specs.declared.Code.{Code}
 use Rattle.packed.specs.Layout.{headerLength}
-use Rattle.radius.proofs.Checks.{width-most}
+use Rattle.radius.proofs.Widths.{width-most}
 use Rattle.packed.proofs.Headers.{product-most}
 use Rattle.packed_size.specs.Size.{mapFor, neededFor, codeChecks, recordSizeOf}
 use Rattle.packed_size.proofs.Scalars.{code-small}

@@ -8,7 +8,7 @@ use lib.ListN.{length}
 use Rattle.radius.specs.Codec.{payloadFor}
 use Rattle.packed_writing.specs.Inner.{CodesReady}
 use Rattle.packed.proofs.Headers.{product-most}
-use Rattle.radius.proofs.Checks.{width-most}
+use Rattle.radius.proofs.Widths.{width-most}
 use Rattle.lists.proofs.Stores.{lent-back, front-again, store-both}
 use Rattle.packed_writing.proofs.Writing.{radii-pass}
 use borrow.Author.Needs.{needs}

@@ -8,7 +8,7 @@ use lib.Ieee.{Float}
 use Rattle.error.specs.Answer.{Answer, value, first, accepted, after}
 use Rattle.error.proofs.Chains.{first-passed, value-not-refused}
 use Rattle.radius.specs.Codec.{compressChecks, rangeFor, payloadFor, compressRangeOf, compressBytesOf}
-use Rattle.radius.specs.Says.{saysRange}
+use Rattle.radius_writing.specs.Says.{saysRange}
 use Rattle.radius.specs.declared.Range.{Range}
 use Rattle.radius.specs.declared.RadiusCodecProfileV1.{RadiusCodecProfileV1}
 use borrow.Author.Needs.{needs}

@@ -16,7 +16,7 @@ use Rattle.packed.specs.Layout.{headerLength}
 use Rattle.packed_size.specs.Size.{mapFor, neededFor}
 use Rattle.packed_writing.specs.Writing.{headerBytes, recordOf, fieldChecks, valueChecks}
 use Rattle.packed.proofs.Headers.{product-most}
-use Rattle.radius.proofs.Checks.{width-most}
+use Rattle.radius.proofs.Widths.{width-most}
 use Rattle.lists.proofs.Stores.{lent-back, front-again, store-both}
 use Rattle.packed_writing.proofs.Written.{Sized, fields-sized, fields-needed, write-fields, write-values, write-no-room, write-value}
 use borrow.Author.Needs.{needs}

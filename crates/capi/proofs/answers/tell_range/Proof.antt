@@ -1,7 +1,7 @@
 -- `capi::answers::tell_range` meets its contract. Assumes nothing.
 use mathlib.Core.Path.{ap}
 use denote.Ref.{now}
-use Rattle.radius.specs.Says.{saysRange}
+use Rattle.radius_writing.specs.Says.{saysRange}
 use Rattle.capi.specs.Codes.{minOf, maxOf}
 use Rattle.capi.proofs.Tell.{told-value, told-refused, part-value, part-refused}
 use borrow.Author.Needs.{needs}
