@@ -14,3 +14,4 @@ pub mod LinearRecord
 pub mod Infinite
 pub mod EmptyParts
 pub mod Promised
+pub mod Examples

@@ -2,9 +2,9 @@
 -- BlockLogU8, 2, 3, 4, 1 (16 is refused beside signs), 8, ..'. Assumes nothing.
 use Prim.Native.Nat.{ℕ, _+_, _*_, _/_}
 use mathlib.Core.List.{List, [], _∷_, _++_}
-use Rattle.error.specs.Answer.{Answer, value, Check, check, first}
+use Rattle.error.specs.Answer.{Answer, value, Check, first}
 use Rattle.bitpack.specs.Padding.{bytesFor}
-use Rattle.radius.specs.Codec.{badProfile, widthOf}
+use Rattle.radius.specs.Codec.{wrongProfile, widthOf}
 use Rattle.radius.specs.declared.RadiusCodecProfileV1.{RadiusCodecProfileV1}
 use Rattle.radius.specs.declared.RadiusCodecProfileV1.the-variants.{F32, BlockLinearU16, BlockLogU8}
 use Rattle.setup.specs.Checks.{wrongProjections}
@@ -35,7 +35,7 @@ neededFor code =
 -- These are the writer's checks of the scalars: '18 for BlockLogU8, 2, 3, 4, 1 (16 is refused beside signs), 8'.
 abbrev pub codeChecks : Code → List Check
 codeChecks code =
-    check (badProfile (code .profile)) 18 0
+    wrongProfile (code .profile)
     ∷ shapeChecks (code .mode) (code .dim) (code .bits)
     ++ (wrongProjections (code .mode) (code .projections) ∷ [])
 

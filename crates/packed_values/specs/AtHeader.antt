@@ -1,4 +1,4 @@
--- The values of a record by a header at hand: those of the bytes between the header's own places, by the codecs' own calls. For the header that the reader
+-- These are the values of a record by a header at hand: those of the bytes between the header's own places, by the codecs' own calls. For the header that the reader
 -- answered they are the record's values. Assumes nothing.
 use Prim.Native.Nat.{ℕ, _/_}
 use mathlib.Core.List.{List, [], _∷_}
@@ -13,11 +13,11 @@ use Rattle.packed.specs.declared.Header.{Header}
 use Rattle.packed.specs.Reading.{wrongSize}
 use Rattle.packed_parts.specs.Parts.{badPlaces, cutOf}
 
--- '13: byte length wrong. Place: the length found.' Here the bytes are too short for the places, or these are not in order
+-- '13: byte length wrong. Place: the length found.' Here the bytes are too short for the places, or these are not in order.
 abbrev pub wrongPlaces : List ℕ → ℕ → ℕ → Check
 wrongPlaces bytes from to = wrongSize (badPlaces (length bytes) from to) bytes
 
--- `room` is the output's length. The radii are not judged
+-- These three are what `radii_at`, `indices_at` and `signs_at` answer. `room` is the output's length. The radii are not judged again.
 unfoldable pub radiiAtOf : List ℕ → Header → ℕ → Answer (List Float)
 radiiAtOf bytes header room =
     first

@@ -1,4 +1,4 @@
--- What a call that scores a sketch answers: its checks, and the residual of the projected query. Quotes are document 01's. Assumes nothing.
+-- This is what `sketch_score` answers: its checks, and the residual of the projected query. Quotes are document 01's. Assumes nothing.
 use Prim.Native.Nat.{ℕ}
 use mathlib.Core.List.{List, [], _∷_}
 use lib.IntN.{ℤ}
@@ -16,15 +16,15 @@ use Rattle.setup.specs.declared.TurboMode.{TurboMode}
 use Rattle.setup.specs.declared.TurboMode.the-variants.{PolarOnly, PolarWithQjl}
 use Rattle.qjl.specs.Sketch.{vectorChecks}
 
--- 'projected 11, 5 and 10 for the signs, 12': what follows the checks of the query; m signs are asked for
+-- 'projected 11, 5 and 10 for the signs, 12': these follow the checks of the query, and m signs are asked for.
 abbrev pub signedChecks : ℕ → List Float → List ℤ → Float → List Check
 signedChecks m values signs score = each badValue 11 values ∷ wrongInput (length signs) m ∷ each badSketchSign 10 signs ∷ wrongScore score ∷ []
 
--- the score from a projected query in residual mode
+-- This is the score from a projected query in residual mode.
 unfoldable pub signedScore : ℕ → List Float → List ℤ → Answer Float
 signedScore m values signs = first (signedChecks m values signs (unitResidual m values signs)) (value (unitResidual m values signs))
 
--- 'in `PolarOnly` it is 0': no row is projected, and the signs must be empty
+-- 'in `PolarOnly` it is 0': no row is projected, and the signs must be empty.
 unfoldable pub modeScore : TurboMode → ℕ → ℕ → List Float → List Float → List ℤ → Answer Float
 modeScore PolarOnly n m matrix query signs = first (wrongInput (length signs) 0 ∷ []) (value posZero)
 modeScore PolarWithQjl n m matrix query signs = signedScore m (projected n m matrix query) signs

@@ -1,4 +1,4 @@
--- The residual without rounding, and the sum of absolute values that bounds it. Quotes are document 01's. Assumes nothing.
+-- This is the residual without rounding, and the sum of absolute values that bounds it. Quotes are document 01's. Assumes nothing.
 use Prim.Native.Nat.{ℕ, _*_}
 use mathlib.Core.List.{List, map}
 use lib.IntN.{ℤ}
@@ -10,10 +10,10 @@ use Rattle.rounding.specs.Sums.{exactTotal, turnedEach, sum}
 use Rattle.rounding.specs.Rows.{exactProjected, projectedSizes}
 use Rattle.bitpack.specs.Signs.{isMinus}
 
--- 'K × the sum over rows of the record's sign × projected value', in units of 2^−447
+-- 'K × the sum over rows of the record's sign × projected value', as a whole number of 2^−447: three factors of 2^−149 each.
 unfoldable pub exactResidual : Float → ℕ → ℕ → List Float → List Float → List ℤ → Diff
 exactResidual scale n m matrix query signs = val scale ⊠ exactTotal (turnedEach (map isMinus signs) (exactProjected n m matrix query))
 
--- 'K × the sum of all |matrix entry × query entry|'
+-- 'K × the sum of all |matrix entry × query entry|', at the same scale.
 unfoldable pub residualSize : Float → ℕ → ℕ → List Float → List Float → ℕ
 residualSize scale n m matrix query = mag scale * sum (projectedSizes n m matrix query)

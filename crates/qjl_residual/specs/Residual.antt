@@ -1,4 +1,4 @@
--- The residual: a scale times the sum of sign times projected value. Quotes are document 01's. Assumes nothing.
+-- This is the residual: a scale times the sum of sign times projected value. Quotes are document 01's. Assumes nothing.
 use Prim.Native.Nat.{ℕ}
 use mathlib.Core.Bool.{false}
 use mathlib.Core.List.{List, map}
@@ -8,22 +8,22 @@ use Rattle.float.specs.SquareRoot.{squareRoot}
 use Rattle.float.specs.Constants.{one, two, pi}
 use Rattle.rounding.specs.Sums.{dot}
 
--- 'PI is 40490FDB'; root(PI / 2), quotient and root each rounded once
+-- This is root(PI / 2), with 'PI is 40490FDB'; quotient and root are each rounded once.
 unfoldable pub root : Float
 root = squareRoot (div binary32 pi two)
 
--- 'the scale K is root(PI / 2) × 1.0 / m', with the norm in the place of 1.0
+-- 'the scale K is root(PI / 2) × 1.0 / m', with the norm in the place of 1.0.
 unfoldable pub scaleOf : ℕ → Float → Float
 scaleOf m norm = div binary32 (mul binary32 root norm) (ofInt binary32 (pos m))
 
--- 'the sum of sign times projected value'; 'Sums run in index order from +0.0.' It ends with the shorter list, and a sign counts by its value
+-- 'the sum of sign times projected value'; 'Sums run in index order from +0.0.' It ends with the shorter list, and a sign counts by its value.
 unfoldable pub signSumOf : List ℤ → List Float → Float
 signSumOf signs values = dot (map (ofInt binary32) signs) values
 
--- 'Residual: scale times the sum of sign times projected value'
+-- 'Residual: scale times the sum of sign times projected value'.
 unfoldable pub residualOf : ℕ → Float → List Float → List ℤ → Float
 residualOf m norm values signs = mul binary32 (scaleOf m norm) (signSumOf signs values)
 
--- the residual of a projected query and lent signs, with the norm 1.0
+-- This is the residual of a projected query and lent signs, with the norm 1.0.
 abbrev pub unitResidual : ℕ → List Float → List ℤ → Float
 unitResidual m values signs = residualOf m (one false) values signs

@@ -1,4 +1,4 @@
--- What is lent beside the scalars of a setup. Document 01: 'A setup is mode .., dimension n, total bits, projections m, n signs, a direction table and a
+-- These lists are lent beside the scalars of a setup. Document 01: 'A setup is mode .., dimension n, total bits, projections m, n signs, a direction table and a
 -- matrix.' Assumes nothing.
 use mathlib.Core.List.{List}
 use lib.Ieee.{Float}
@@ -8,6 +8,6 @@ pub record Lent : Type 0 where
   pub directions : List Float
   pub matrix : List Float
 
--- what is lent, put together from its three lists: contracts write it so
+-- Contracts put what is lent together so, from its three lists.
 abbrev pub lent : List Float → List Float → List Float → Lent
 lent signs directions matrix = record { signs = signs; directions = directions; matrix = matrix }

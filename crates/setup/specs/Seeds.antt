@@ -1,4 +1,4 @@
--- The seeds of the host's two generators. Document 01: 'the Hadamard generator gets seed + A11CE55ED5A5EED5, the matrix generator
+-- These are the seeds of the host's two generators. Document 01: 'the Hadamard generator gets seed + A11CE55ED5A5EED5, the matrix generator
 -- seed + CAFEBABE00000001 + DEADBEEF12345678, both sums modulo 2^64; the port supplies these.' Assumes nothing.
 use Prim.Native.Nat.{ℕ, _+_, _%_, _^_}
 

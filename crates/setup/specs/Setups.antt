@@ -1,16 +1,15 @@
--- What the scalars of a setup come to: its polar bits, the projections that count, and the lengths of the tables lent beside it.
--- Assumes nothing.
+-- The scalars of a setup come to these: its polar bits, the projections that count, and the lengths of the tables lent beside it. Assumes nothing.
 use Prim.Native.Nat.{ℕ, _-_, _*_, _^_}
 use Rattle.setup.specs.declared.Setup.{Setup}
 use Rattle.setup.specs.declared.TurboMode.{TurboMode}
 use Rattle.setup.specs.declared.TurboMode.the-variants.{PolarOnly, PolarWithQjl}
 
--- by mode: the first without residual, the second with it
+-- This is the first value without residual, the second with it.
 abbrev pub byMode : {A : Type 0} → TurboMode → A → A → A
 byMode PolarOnly alone residual = alone
 byMode PolarWithQjl alone residual = residual
 
--- 'Polar bits are total bits, less 1 in residual mode.'
+-- 'Polar bits are total bits, less 1 in residual mode.' Of 0 bits there are 0.
 abbrev pub polarBitsOf : Setup → ℕ
 polarBitsOf s = byMode (s .mode) (s .bits) (s .bits - 1)
 

@@ -1,4 +1,4 @@
--- The checks of the tables lent beside a setup's scalars, and of the whole setup, in document 01's order: 'Setup: 2, 3, 1, 8, 4, then 5 for signs,
+-- These are the checks of the tables lent beside a setup's scalars, and of the whole setup, in document 01's order: 'Setup: 2, 3, 1, 8, 4, then 5 for signs,
 -- directions, matrix, then 10, 7, 9.' Assumes nothing.
 use Prim.Native.Nat.{ℕ}
 use mathlib.Core.Bool.{Bool, true, false, not, _||_}
@@ -19,11 +19,11 @@ use Rattle.setup.specs.Checks.{scalarChecks}
 unfoldable pub badDirection : Float → Bool
 badDirection x = not (finite x) || lt x (one true) || lt (one false) x
 
--- the index of the first direction entry that offends, or their number where there is none
+-- This is the index of the first direction entry that offends, or how many entries there are where none does.
 abbrev pub firstBadDirectionOf : List Float → ℕ
 firstBadDirectionOf directions = place badDirection directions
 
--- '.. then 5 for signs, directions, matrix, ..': the lengths of the tables
+-- 'then 5 for signs, directions, matrix': these are the checks of the tables' lengths.
 abbrev pub tableLengthChecks : Setup → Lent → List Check
 tableLengthChecks s l =
     wrongInput (length (l .signs)) (s .dim)
@@ -31,25 +31,27 @@ tableLengthChecks s l =
     ∷ wrongInput (length (l .matrix)) (matrixNeeded s)
     ∷ []
 
--- '.. then 10, 7, ..': the tables, but for the matrix's entries
+-- 'then 10, 7': these are the checks of the tables, but for the matrix's entries.
 abbrev pub tableChecksButEntries : Setup → Lent → List Check
 tableChecksButEntries s l = tableLengthChecks s l ++ (each badSign 10 (l .signs) ∷ each badDirection 7 (l .directions) ∷ [])
 
 -- '.. 9: a matrix entry is not finite. Place: its index.' 'The first matrix entry, row by row, that is not finite is named': the matrix is lent row by row, so the
--- entry at row r and column c has index r × n + c
+-- entry at row r and column c has index r × n + c.
 abbrev pub entryChecks : List Float → List Check
 entryChecks matrix = each badValue 9 matrix ∷ []
 
+-- These are all checks of the tables.
 abbrev pub tableChecks : Setup → Lent → List Check
 tableChecks s l = tableChecksButEntries s l ++ entryChecks (l .matrix)
 
+-- 'Setup: 2, 3, 1, 8, 4, then 5 for signs, directions, matrix, then 10, 7, 9.'
 abbrev pub setupChecks : Setup → Lent → List Check
 setupChecks s l = scalarChecks s ++ tableChecks s l
 
--- all of them but those of the matrix's entries, which come last
+-- These are all of them but those of the matrix's entries, which come last.
 abbrev pub setupChecksButEntries : Setup → Lent → List Check
 setupChecksButEntries s l = scalarChecks s ++ tableChecksButEntries s l
 
--- of the table of directions alone, where no signs and no matrix are lent
+-- The table of directions is checked alone where no signs and no matrix are lent.
 abbrev pub directionChecks : Setup → List Float → List Check
 directionChecks s directions = wrongInput (length directions) (directionsNeeded s) ∷ each badDirection 7 directions ∷ []
