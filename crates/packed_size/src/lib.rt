@@ -43,7 +43,7 @@ pub fn record_size(code: Code) -> Length
 }
 
 // The checks of the scalars that a record is written with.
-pub fn check_code(code: Code) -> Outcome
+fn check_code(code: Code) -> Outcome
     ensures { λ r. ⌜ says r ≡ first (codeChecks code) accepted ⌝ }
 {
     let profile = code.profile;

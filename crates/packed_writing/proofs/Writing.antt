@@ -10,7 +10,7 @@ use lib.ListN.{length, length-append}
 use Rattle.float.specs.Bytes.{toLeBytes}
 use Rattle.float.proofs.Bytes.{length-toLeBytes}
 use lib.Ieee.{Float}
-use Rattle.error.specs.Answer.{value, refused, place, first, each, accepted}
+use Rattle.error.specs.Answer.{Answer, value, refused, place, first, each, accepted}
 use Rattle.error.proofs.Chains.{append-refused, append-passed}
 use Rattle.bitpack.specs.Padding.{bytesFor}
 use Rattle.error.specs.Checks.{badIndex}
@@ -41,12 +41,12 @@ header-long BlockLogU8 PolarWithQjl = refl
 
 -- ---- the scalars' checks leave those of the lengths
 
-module _ (code : Code) (radii indices signs : ℕ) where
-  pub fields-code : {n p : ℕ} → first (codeChecks code) accepted ≡ refused n p → first (fieldChecks code radii indices signs) accepted ≡ refused n p
-  fields-code e = append-refused (codeChecks code) (lengthChecks (code .dim / 2) (counted (code .mode) (code .projections)) radii indices signs) tt accepted e
+module _ {A : Type 0} (code : Code) (radii indices signs : ℕ) (size : ℕ) (b : Answer A) where
+  pub fields-code : {n p : ℕ} → first (codeChecks code) (value size) ≡ refused n p → first (fieldChecks code radii indices signs) b ≡ refused n p
+  fields-code e = append-refused (codeChecks code) (lengthChecks (code .dim / 2) (counted (code .mode) (code .projections)) radii indices signs) size b e
 
-  pub fields-rest : first (codeChecks code) accepted ≡ accepted → first (fieldChecks code radii indices signs) accepted ≡ first (lengthChecks (code .dim / 2) (counted (code .mode) (code .projections)) radii indices signs) accepted
-  fields-rest e = append-passed (codeChecks code) (lengthChecks (code .dim / 2) (counted (code .mode) (code .projections)) radii indices signs) tt accepted e
+  pub fields-rest : {n : ℕ} → first (codeChecks code) (value size) ≡ value n → first (fieldChecks code radii indices signs) b ≡ first (lengthChecks (code .dim / 2) (counted (code .mode) (code .projections)) radii indices signs) b
+  fields-rest e = append-passed (codeChecks code) (lengthChecks (code .dim / 2) (counted (code .mode) (code .projections)) radii indices signs) size b e
 
 -- ---- radii
 

@@ -1,6 +1,7 @@
 // Writing the record that `packed` reads: a polar code and, beside it, a residual sketch, as bytes. Ported from turbo-quant/src/packed.rs and
 // changed: the byte layout is this port's own, inputs and output are lent, refusals are numbers.
 use error::DIMENSION_MISMATCH;
+use error::Length;
 use error::MALFORMED_INDEX;
 use error::MALFORMED_RADIUS;
 use error::MALFORMED_SIGN;
@@ -18,13 +19,14 @@ ghost use mathlib.Core.Bool.{false};
 ghost use mathlib.Core.List.{_++_};
 ghost use lib.ListN.{length, take, drop};
 ghost use Rattle.error.specs.Answer.{value, first, accepted, done, after};
+ghost use Rattle.error.specs.Lengths.{saysLength};
 ghost use Rattle.error.specs.Outcomes.{says};
 ghost use Rattle.bitpack.specs.Packing.{packIndicesOf, indexBytes};
 ghost use Rattle.bitpack.specs.Signs.{packSignsOf, signBytes};
 ghost use Rattle.setup.specs.Setups.{byMode};
 ghost use Rattle.radius.specs.Codec.{badProfile, compressChecks, rangeFor, payloadFor};
 ghost use Rattle.packed.specs.Layout.{headerLength};
-ghost use Rattle.packed_size.specs.Size.{byProfile, mapFor};
+ghost use Rattle.packed_size.specs.Size.{byProfile, mapFor, neededFor};
 ghost use Rattle.packed_writing.specs.Writing.{itemChecks, rangeBytes, projectionBytes, headerBytes, lengthChecks, fieldChecks, valueChecks, writeRecordOf};
 ghost use Rattle.packed_writing.specs.Inner.{CodesReady, Payloads};
 
@@ -39,41 +41,50 @@ pub fn write_record(
     ensures said { λ r. ⌜ says r ≡ done (writeRecordOf code (now (radii .entry)) (now (indices .entry)) (now (signs .entry)) (length (now (out .entry)))) ⌝ }
     ensures left { λ r. ⌜ now (out .exit) ≡ after (writeRecordOf code (now (radii .entry)) (now (indices .entry)) (now (signs .entry)) (length (now (out .entry)))) (now (out .entry)) ⌝ }
 {
-    if let Outcome::Refused { number, place } = check_fields(
-        code,
-        radii.len(),
-        indices.len(),
-        signs.len(),
-    ) {
-        return Outcome::Refused { number, place };
+    match check_fields(code, radii.len(), indices.len(), signs.len()) {
+        Length::Bytes(need) => write_sized(code, need, radii, indices, signs, out),
+        Length::Refused { number, place } => Outcome::Refused { number, place },
     }
+}
+
+// The same for scalars and lengths that have passed, of a record that takes `need` bytes.
+fn write_sized(
+    code: Code,
+    need: usize,
+    radii: &[f32],
+    indices: &[u16],
+    signs: &[i8],
+    out: &mut [u8],
+) -> Outcome
+    requires { ⌜ (first (fieldChecks code (length (now radii)) (length (now indices)) (length (now signs))) accepted ≡ accepted) × (need ≡ neededFor code) ⌝ }
+    ensures said { λ r. ⌜ says r ≡ done (writeRecordOf code (now (radii .entry)) (now (indices .entry)) (now (signs .entry)) (length (now (out .entry)))) ⌝ }
+    ensures left { λ r. ⌜ now (out .exit) ≡ after (writeRecordOf code (now (radii .entry)) (now (indices .entry)) (now (signs .entry)) (length (now (out .entry)))) (now (out .entry)) ⌝ }
+{
     let profile = code.profile;
     let mode = code.mode;
     let bits = code.bits;
     if let Outcome::Refused { number, place } = check_values(profile, bits, radii, indices, signs) {
         return Outcome::Refused { number, place };
     }
-    let head = packed::header_length(packed_size::map_for(profile, mode));
-    let body = radius::width_of(profile) * radii.len();
-    let codes = (indices.len() * (bits as usize) + 7) / 8;
-    let need = head + body + codes + (signs.len() + 7) / 8;
     if out.len() != need {
         return Outcome::Refused {
             number: OUTPUT_LENGTH,
             place: need,
         };
     }
+    let head = packed::header_length(packed_size::map_for(profile, mode));
     let range = put_payloads(radii, profile, indices, bits, signs, &mut out[head..]);
     put_header(code, range, &mut out[0..head]);
     Outcome::Done
 }
 
-// The checks of what is to be written but for the values: the scalars, then the lengths.
-fn check_fields(code: Code, radii: usize, indices: usize, signs: usize) -> Outcome
-    ensures { λ r. ⌜ says r ≡ first (fieldChecks code radii indices signs) accepted ⌝ }
+// How many bytes the record takes, or the first check that offends but for those of the values: the scalars', then those of the lengths.
+fn check_fields(code: Code, radii: usize, indices: usize, signs: usize) -> Length
+    ensures { λ r. ⌜ saysLength r ≡ first (fieldChecks code radii indices signs) (value (neededFor code)) ⌝ }
 {
-    if let Outcome::Refused { number, place } = packed_size::check_code(code) {
-        return Outcome::Refused { number, place };
+    let size = packed_size::record_size(code);
+    if let Length::Refused { number, place } = size {
+        return Length::Refused { number, place };
     }
     let mode = code.mode;
     let dim = code.dim;
@@ -83,7 +94,11 @@ fn check_fields(code: Code, radii: usize, indices: usize, signs: usize) -> Outco
         bits: code.bits,
         projections: code.projections,
     });
-    check_lengths(dim / 2, needed, radii, indices, signs)
+    let lengths = check_lengths(dim / 2, needed, radii, indices, signs);
+    if let Outcome::Refused { number, place } = lengths {
+        return Length::Refused { number, place };
+    }
+    size
 }
 
 // The checks of the lengths of radii, indices and signs: a radius and an index for each pair, and a sign for each projection.
