@@ -11,8 +11,8 @@ use Rattle.error.specs.Checks.{badValue}
 use Rattle.qjl.specs.Sketch.{signOfSum}
 use Rattle.qjl.specs.Inner.{JudgedSigns, AtOnce}
 
-pub signs-left : (judged : Bool) (values : List Float) (old : List ℤ) → judged ≡ true → JudgedSigns judged values old false old
-signs-left judged values old is = record { whole = λ e. absurd (true≢false (sym is ∙ e)); clean = λ j e. absurd (false≢true e); signs = λ e. absurd (false≢true e); kept = λ e. refl }
+pub judged-left : (judged : Bool) (values : List Float) (old : List ℤ) → judged ≡ true → JudgedSigns judged values old false old
+judged-left judged values old is = record { whole = λ e. absurd (true≢false (sym is ∙ e)); clean = λ j e. absurd (false≢true e); signs = λ e. absurd (false≢true e); kept = λ e. refl }
 
 pub signs-made : (judged : Bool) (values : List Float) (old new : List ℤ) → (judged ≡ true → ltb (place badValue values) (length values) ≡ false) → new ≡ map signOfSum values → JudgedSigns judged values old true new
 signs-made judged values old new c s = record { whole = λ e. refl; clean = λ j e. c j; signs = λ e. s; kept = λ e. absurd (true≢false e) }

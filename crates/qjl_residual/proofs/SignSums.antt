@@ -33,9 +33,9 @@ module _ (signs : List ℤ) (values : List Float) (i : ℕ) (acc : Float) where
       rw (drop-cons (map (ofInt binary32) signs) i (ofInt binary32 (pos 0)), List·getD-map (ofInt binary32) signs i (pos 0), drop-cons values i nan, add-one i)
 
   -- the signs are through
-  pub sign-end : length signs ≤ i → running acc (products (drop i (map (ofInt binary32) signs)) (drop i values)) ≡ acc
+  pub sign-sum-end : length signs ≤ i → running acc (products (drop i (map (ofInt binary32) signs)) (drop i values)) ≡ acc
   unfolding running products
-  sign-end h =
+  sign-sum-end h =
       let l : length (map (ofInt binary32) signs) ≤ i = simp length-map h in
       rw (drop-of-length-le (map (ofInt binary32) signs) l)
 

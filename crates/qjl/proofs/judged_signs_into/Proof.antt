@@ -4,7 +4,7 @@ use mathlib.Core.Logic.{⊎-elim}
 use mathlib.Core.Bool.{true≢false}
 use borrow.Author.Tests.{not-true, not-false}
 use borrow.Author.Needs.{needs}
-use Rattle.qjl.proofs.AtOnce.{signs-left, signs-made}
+use Rattle.qjl.proofs.AtOnce.{judged-left, signs-made}
 use Rattle.qjl.proofs.judged_signs_into.Statement.{statement}
 use Rattle.qjl.proofs.judged_signs_into.Tie as tie
 
@@ -12,7 +12,7 @@ all-finite-requires : tie.Need-all-finite-requires
 all-finite-requires c κs = search needs
 
 returns : tie.Need-returns
-returns c = signs-left _ _ _ (c .before .before .if1 .taken)
+returns c = judged-left _ _ _ (c .before .before .if1 .taken)
 
 signs-into-requires : tie.Need-signs-into-requires
 signs-into-requires c κs = search needs

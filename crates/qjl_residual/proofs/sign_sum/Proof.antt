@@ -11,7 +11,7 @@ use lib.Ieee.{Float, nan, binary32, add, mul, ofInt, ofBits}
 use Rattle.rounding.specs.Sums.{running, products}
 use Rattle.qjl_residual.specs.Residual.{signSumOf}
 use Rattle.bitpack_signs.proofs.Signs.{signed-at}
-use Rattle.qjl_residual.proofs.SignSums.{sign-more, sign-end, value-end}
+use Rattle.qjl_residual.proofs.SignSums.{sign-more, sign-sum-end, value-end}
 use Rattle.qjl_residual.proofs.sign_sum.Statement.{statement}
 use Rattle.qjl_residual.proofs.sign_sum.Tie as tie
 
@@ -57,7 +57,7 @@ returns : tie.Need-returns Inv-loop μ-loop
 returns c = sym (c .before .before .loop .inv .1 ∙ value-end (c .before .before .before .before .args .signs .now) (c .before .before .before .before .args .projected .now) _ _ (ltb-false _ _ (c .if1 .left)))
 
 returns-2 : tie.Need-returns-2 Inv-loop μ-loop
-returns-2 c = sym (c .before .loop .inv .1 ∙ sign-end (c .before .before .before .args .signs .now) (c .before .before .before .args .projected .now) _ _ (c .loop-test .left))
+returns-2 c = sym (c .before .loop .inv .1 ∙ sign-sum-end (c .before .before .before .args .signs .now) (c .before .before .before .args .projected .now) _ _ (c .loop-test .left))
 
 pub sign-sum-spec : {M : Type 1} → statement M
 sign-sum-spec =
