@@ -51,6 +51,7 @@ anchors = record {
   not-near-turned = λ n. omega (arith, n .below);
   under = record { strict = omega arith };
   not-under = λ u. omega (arith, u .strict);
+  not-under-turned = λ u. omega (arith, u .strict);
   same = record { even = refl };
   not-same = λ s. omega (arith, s .even);
   per-unit = refl;

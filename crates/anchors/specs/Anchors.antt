@@ -80,13 +80,14 @@ pub record Anchors : Type 0 where
   -- 1 + 1 − 2 × score is below zero, so it is cut
   pub p13-distance : l2DistanceEstimateOf residualSetup residualLent queryLent withSigns ≡ value posZero
   pub p13-decoded : decodeApproximateOf residualSetup residualLent withSigns 2 ≡ value (ofBits binary32 0x3F35_04F3 ∷ ofBits binary32 0x3F35_04F3 ∷ [])
-  -- ---- what demand 3 compares with: 5 and 3 are 2 apart and not 1, 3 is below 5 by more than 1 and not by more than 2, and 5 − 2 is 3 − 0
+  -- ---- what demand 3 compares with: 5 and 3 are 2 apart and not 1, 3 is below 5 by more than 1 and not by more than 2, 5 is not below 3, and 5 − 2 is 3 − 0
   pub near : Near (whole 5) (whole 3) 2
   pub near-turned : Near (whole 3) (whole 5) 2
   pub not-near : Near (whole 5) (whole 3) 1 → ⊥
   pub not-near-turned : Near (whole 3) (whole 5) 1 → ⊥
   pub under : Under 1 (whole 3) (whole 5)
   pub not-under : Under 2 (whole 3) (whole 5) → ⊥
+  pub not-under-turned : Under 0 (whole 5) (whole 3) → ⊥
   pub same : Same (record { plus = 5; minus = 2 }) (whole 3)
   pub not-same : Same (whole 5) (whole 3) → ⊥
   -- ---- how many of 2^−619 make 2^−149, 1 / 2^146 and 2^−149 / 2^146

@@ -6,7 +6,7 @@ use lib.ListN.{length, getD, take, drop}
 use Rattle.digits.specs.Digits.{number, digits}
 use Rattle.bitpack.specs.Padding.{bytesFor}
 
--- The indices have passed every check of packing; `room` is the output's length.
+-- The indices have passed every check of packing but 19; `room` is the output's length.
 pub record Packable (indices : List ℕ) (bits room : ℕ) : Type 0 where
   pub wide : 1 ≤ bits
   pub narrow : bits ≤ 16

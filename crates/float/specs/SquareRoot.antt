@@ -13,7 +13,7 @@ square a = a * a
 -- In units of 2 ^ -149 the root of x is the real number whose square is `mag x * 2 ^ 149`. Of two floats r and y, r is nearer to the root exactly where the root
 -- lies on r's side of the midpoint (r + y) / 2: for y below r, where (r + y) ^ 2 is below 4 * mag x * 2 ^ 149, and for y above r the other way round. Here r is a
 -- finite f32 that is not negative, and it is nearer than every other such y. Nearer is strict: the midpoint of two neighbours ends one binary place below an f32's
--- last, so its square has more digits than an f32 holds, a tie can't occur, and 'ties to even' never has to be asked. Of x only its size counts here: it is cited
+-- last, so its square has more digits than an f32 holds, a tie can't occur, and how a tie is rounded never has to be asked. Of x only its size counts here: it is cited
 -- for an x that is finite and not negative.
 pub record NearestRoot (x r : Float) : Type 0 where
   pub fit : T (fits binary32 r)

@@ -1,6 +1,6 @@
 -- This is promised of the leaves beyond their contracts: where each bit of an index and of a sign stands, that indices, signs and F32 radii come back from their
 -- bytes and bytes from them, that a square root is the nearest and the only one, and which dimensions are powers of two. Of what is given only this is asked: a byte
--- is below 256, and a float is an f32. Assumes nothing.
+-- is below 256, a float is an f32, and a dimension is below 2^64. Assumes nothing.
 use Prim.Native.Nat.{ℕ, suc, _/_, _%_, _^_, _<_}
 use mathlib.Core.Path.{_≡_}
 use mathlib.Core.Bool.{Bool, true, false, not}
