@@ -8,5 +8,6 @@ pub mod RootPattern
 pub mod Round
 pub mod SquareRoot
 pub mod Levels
+pub mod Nan
 pub mod Copying
 pub mod Units

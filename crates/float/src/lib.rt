@@ -5,7 +5,7 @@ ghost use mathlib.Core.Path.{_≡_};
 ghost use mathlib.Core.List.{[], _∷_};
 ghost use Prim.Native.Nat.{_+_, _*_, _^_, _<_};
 ghost use lib.Dec.{T};
-ghost use lib.Ieee.{binary32, ofBits, toBits};
+ghost use lib.Ieee.{binary32, ofBits, toBits, isNan};
 ghost use lib.Ieee.Scale.{finite};
 ghost use Rattle.float.specs.Bytes.{ofLeBytes, putF32Of};
 ghost use Rattle.float.specs.Copying.{copyIntoOf};
@@ -25,6 +25,13 @@ pub fn is_finite(x: f32) -> bool
     }
 }
 
+// Whether x is a NaN.
+pub fn is_nan(x: f32) -> bool
+    ensures { λ r. ⌜ r ≡ isNan x ⌝ }
+{
+    x != x
+}
+
 // The float of a pattern; every NaN's pattern gives a NaN.
 pub fn from_bits(bits: u32) -> f32
     ensures { λ r. ⌜ r ≡ ofBits binary32 bits ⌝ }
@@ -40,7 +47,11 @@ pub fn from_bits(bits: u32) -> f32
 pub fn to_bits(x: f32) -> u32
     ensures { λ r. ⌜ r ≡ toBits binary32 x ⌝ }
 {
-    if x != x { 0x7FC0_0000 } else { f32::to_bits(x) }
+    if is_nan(x) {
+        0x7FC0_0000
+    } else {
+        f32::to_bits(x)
+    }
 }
 
 // The float of four bytes, the least significant first.
