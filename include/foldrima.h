@@ -174,7 +174,8 @@ void foldrima_inner_product_estimate_prepared(uint8_t mode, size_t dim, uint8_t 
                                               size_t projected_len, const uint8_t *bytes, size_t bytes_len, uint32_t *number, size_t *place,
                                               float *value);
 
-/* The squared distance of a record from a query: the score's refusals, then 12 of its own. It is 0 where it would be below zero or NaN. */
+/* The squared distance of a record from a query: the score's refusals, then 12 of its own, where its sum (both squared norms, less twice the score) is
+ * NaN or plus infinity. It is 0 where the sum is not greater than zero, minus infinity included. */
 void foldrima_l2_distance_estimate(uint8_t mode, size_t dim, uint8_t bits, size_t projections, const float *signs, size_t signs_len,
                                    const float *directions, size_t directions_len, const float *matrix, size_t matrix_len, const float *query,
                                    size_t query_len, const uint8_t *bytes, size_t bytes_len, uint32_t *number, size_t *place, float *value);

@@ -2,7 +2,7 @@
 use mathlib.Core.Path.{refl}
 use native.Mathlib.Omega.{arith}
 use lib.Count.{ones, onesIn, trailingZeros}
-use lib.Ieee.{ofBits, add, sub, mul, div, lt, le, ne, ofInt}
+use lib.Ieee.{ofBits, add, sub, mul, div, lt, le, ne, ofInt, isNan}
 use Rattle.bitpack.specs.Padding.{badPadding}
 use Rattle.digits.specs.Digits.{number, digits}
 use Rattle.error.specs.Answer.{place}
@@ -26,14 +26,16 @@ use Rattle.rounding.specs.Rows.{projected, exactProjected, projectedSizes}
 use Rattle.rounding.specs.Sums.{running, products, exactTotal, exactProducts, turnedEach, sum, absoluteSum, weighted}
 use Rattle.rounding.specs.Value.{val}
 use Rattle.setup_tables.specs.Checks.{badDirection}
-use Rattle.turbo.specs.Distance.{distanceSum, cutAtZero, l2DistanceEstimateOf}
+use Rattle.turbo_distance.specs.Distance.{distanceSum, cutAtZero, distanceBySum}
+use Rattle.turbo.specs.Distance.{l2DistanceEstimateOf}
+use Rattle.turbo_laws.specs.Amended.{formerDistanceOf}
 use Rattle.turbo.specs.Estimates.{innerProductEstimateOf}
 use Rattle.turbo_decode.specs.Decode.{decodeApproximateOf}
 use Rattle.turbo_order.specs.Scores.{scoreFrom, exactBy, sizeBy, perUnit, perStep, perRadius, boundBy, scoreOf}
 use Rattle.anchors.specs.Anchors.{Anchors}
 
 pub anchors : Anchors
-unfolding ne ones onesIn trailingZeros ofBits add sub mul div lt le ofInt badPadding number digits place badValue ofLeBytes pi rootBits nearestRoot dropped rootPattern squareRoot unit mag chunks boundsOf projectionsOf radiiBytes indicesBytes signsBytes radiiOf indicesOf signsOf exactTerm exactPolar sizeTerm polarSize directionTerm directionSum term polarSumOf laid decodedPairs exactResidual residualSize root scaleOf signSumOf residualOf exactRotated inverseRoot scaled hadamardOf rotated unrotated from entry stage stages projected exactProjected projectedSizes running products exactTotal exactProducts turnedEach sum absoluteSum weighted val badDirection distanceSum cutAtZero l2DistanceEstimateOf innerProductEstimateOf decodeApproximateOf scoreFrom exactBy sizeBy perUnit perStep perRadius boundBy scoreOf
+unfolding ne ones onesIn trailingZeros ofBits add sub mul div lt le ofInt badPadding number digits place badValue ofLeBytes pi rootBits nearestRoot dropped rootPattern squareRoot unit mag chunks boundsOf projectionsOf radiiBytes indicesBytes signsBytes radiiOf indicesOf signsOf exactTerm exactPolar sizeTerm polarSize directionTerm directionSum term polarSumOf laid decodedPairs exactResidual residualSize root scaleOf signSumOf residualOf exactRotated inverseRoot scaled hadamardOf rotated unrotated from entry stage stages projected exactProjected projectedSizes running products exactTotal exactProducts turnedEach sum absoluteSum weighted val badDirection isNan distanceSum cutAtZero distanceBySum l2DistanceEstimateOf formerDistanceOf innerProductEstimateOf decodeApproximateOf scoreFrom exactBy sizeBy perUnit perStep perRadius boundBy scoreOf
 anchors = record {
   p12-score = refl;
   p12-exact = record { even = refl };
@@ -45,6 +47,15 @@ anchors = record {
   p13-bound = refl;
   p13-distance = refl;
   p13-decoded = refl;
+  huge-score = refl;
+  huge-sum = refl;
+  huge-distance = refl;
+  huge-former = refl;
+  turned-score = refl;
+  turned-sum = refl;
+  turned-distance = refl;
+  large-sum = refl;
+  large-distance = refl;
   near = record { above = omega arith; below = omega arith };
   near-turned = record { above = omega arith; below = omega arith };
   not-near = λ n. omega (arith, n .above);

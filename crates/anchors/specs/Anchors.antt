@@ -1,12 +1,13 @@
 -- Score, exact score, bound, distance and decoding of document 01's records P12 and P13 stand here as numbers, and beside them each exact form and each size that a
--- bound is made of. A definition that stands on the generous side of an inequality could grow without any proof failing: these lines pin it. Assumes nothing.
+-- bound is made of; then distances near the top of f32. A definition that stands on the generous side of an inequality could grow without any proof failing:
+-- these lines pin it. Assumes nothing.
 use Prim.Native.Nat.{ℕ, _+_, _-_, _*_, _^_}
 use mathlib.Core.Path.{_≡_}
 use mathlib.Core.Bool.{true, false}
 use mathlib.Core.List.{List, [], _∷_}
 use lib.IntN.{pos, negsuc}
-use lib.Ieee.{Float, fin, binary32, ofBits}
-use Rattle.error.specs.Answer.{value}
+use lib.Ieee.{Float, nan, inf, fin, binary32, ofBits}
+use Rattle.error.specs.Answer.{value, refused}
 use Rattle.float.specs.Constants.{posZero, one}
 use Rattle.rounding.specs.Signed.{Diff, Near, Same, Under, signed}
 use Rattle.rounding.specs.Sums.{exactTotal, absoluteSum}
@@ -22,6 +23,7 @@ use Rattle.turbo_order.specs.Scores.{unitScale, perUnit, perStep, perRadius, ac
 use Rattle.turbo.specs.Estimates.{innerProductEstimateOf}
 use Rattle.turbo.specs.Distance.{l2DistanceEstimateOf}
 use Rattle.turbo.specs.Order.{exactOf, boundFor}
+use Rattle.turbo_laws.specs.Amended.{recordSum, formerDistanceOf}
 use Rattle.turbo_decode.specs.Decode.{decodeApproximateOf}
 use Rattle.table.specs.Table.{withoutSigns, withSigns}
 
@@ -61,6 +63,26 @@ slanted = one false ∷ one true ∷ []
 abbrev pub steep : List Float
 steep = one false ∷ fin true 1 (pos 1) ∷ []
 
+-- This record is P12 with the radius 2^64, and with the index 0 it points the other way; the query is (2^64, 0).
+abbrev pub huge : List ℕ
+huge = 0x00 ∷ 0x02 ∷ 0x00 ∷ 0x00 ∷ 0x00 ∷ 0x01 ∷ 0x00 ∷ 0x00 ∷ 0x80 ∷ 0x5F ∷ 0x01 ∷ []
+
+abbrev pub hugeTurned : List ℕ
+hugeTurned = 0x00 ∷ 0x02 ∷ 0x00 ∷ 0x00 ∷ 0x00 ∷ 0x01 ∷ 0x00 ∷ 0x00 ∷ 0x80 ∷ 0x5F ∷ 0x00 ∷ []
+
+abbrev pub hugeQuery : List Float
+hugeQuery = fin false 1 (pos 64) ∷ posZero ∷ []
+
+-- This record has the radius 5 × 2^61, the query is (5 × 2^61, 0), and the direction of index 1 is (1, 1).
+abbrev pub large : List ℕ
+large = 0x00 ∷ 0x02 ∷ 0x00 ∷ 0x00 ∷ 0x00 ∷ 0x01 ∷ 0x00 ∷ 0x00 ∷ 0x20 ∷ 0x5F ∷ 0x01 ∷ []
+
+abbrev pub largeQuery : List Float
+largeQuery = fin false 5 (pos 61) ∷ posZero ∷ []
+
+abbrev pub diagonalLent : Lent
+diagonalLent = lent signsLent (one true ∷ posZero ∷ one false ∷ one false ∷ []) []
+
 -- This is n as a whole number with a sign.
 abbrev pub whole : ℕ → Diff
 whole n = signed false n
@@ -80,6 +102,19 @@ pub record Anchors : Type 0 where
   -- 1 + 1 − 2 × score is below zero, so it is cut
   pub p13-distance : l2DistanceEstimateOf residualSetup residualLent queryLent withSigns ≡ value posZero
   pub p13-decoded : decodeApproximateOf residualSetup residualLent withSigns 2 ≡ value (ofBits binary32 0x3F35_04F3 ∷ ofBits binary32 0x3F35_04F3 ∷ [])
+  -- ---- near the top of f32: the score of the huge record is 11863283 × 2^104, and both norms and twice the score are plus infinity, so the sum is NaN
+  pub huge-score : innerProductEstimateOf plainSetup plainLent hugeQuery huge ≡ value (ofBits binary32 0x7F35_04F3)
+  pub huge-sum : recordSum plainSetup plainLent hugeQuery huge ≡ nan
+  pub huge-distance : l2DistanceEstimateOf plainSetup plainLent hugeQuery huge ≡ refused 12 0
+  -- It was 0 before request e) of document 02.
+  pub huge-former : formerDistanceOf plainSetup plainLent hugeQuery huge ≡ value posZero
+  -- Turned, twice the score is minus infinity, and the sum plus infinity.
+  pub turned-score : innerProductEstimateOf plainSetup plainLent hugeQuery hugeTurned ≡ value (ofBits binary32 0xFF35_04F3)
+  pub turned-sum : recordSum plainSetup plainLent hugeQuery hugeTurned ≡ inf false
+  pub turned-distance : l2DistanceEstimateOf plainSetup plainLent hugeQuery hugeTurned ≡ refused 12 0
+  -- Of the large record and its query both norms and their sum are finite, and twice the score is plus infinity, so the sum is minus infinity.
+  pub large-sum : recordSum plainSetup diagonalLent largeQuery large ≡ inf true
+  pub large-distance : l2DistanceEstimateOf plainSetup diagonalLent largeQuery large ≡ value posZero
   -- ---- what demand 3 compares with: 5 and 3 are 2 apart and not 1, 3 is below 5 by more than 1 and not by more than 2, 5 is not below 3, and 5 − 2 is 3 − 0
   pub near : Near (whole 5) (whole 3) 2
   pub near-turned : Near (whole 3) (whole 5) 2

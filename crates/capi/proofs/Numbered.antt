@@ -34,13 +34,14 @@ use Rattle.qjl.specs.Score.{signedChecks, signedScore, modeScore, sketchScoreOf
 use Rattle.packed.specs.declared.Code.{Code}
 use Rattle.packed.specs.Layout.{pairsOf}
 use Rattle.packed.specs.Fields.{projectionsOf}
-use Rattle.packed.specs.Reading.{recordChecks, readRecordOf, readRadiiOf, readIndicesOf, readSignsOf}
+use Rattle.packed.specs.Reading.{recordChecks, readRecordOf, radiiOf, readRadiiOf, readIndicesOf, readSignsOf}
 use Rattle.packed_size.specs.Size.{neededFor, codeChecks, recordSizeOf}
 use Rattle.packed_writing.specs.Writing.{fieldChecks, valueChecks, writeRecordOf}
 use Rattle.turbo_query.specs.Query.{prepareChecks, prepareRotatedOf}
 use Rattle.turbo.specs.Scoring.{recordScore, readingChecks}
-use Rattle.turbo.specs.Estimates.{estimateChecks, innerProductEstimateOf, preparedChecks, innerProductEstimatePreparedOf}
-use Rattle.turbo.specs.Distance.{distance, l2DistanceEstimateOf}
+use Rattle.turbo.specs.Estimates.{estimate, estimateChecks, innerProductEstimateOf, preparedChecks, innerProductEstimatePreparedOf}
+use Rattle.turbo_distance.specs.Distance.{distanceSum, cutAtZero, wrongSum, distanceBySum}
+use Rattle.turbo.specs.Distance.{l2DistanceEstimateOf}
 use Rattle.turbo_decode.specs.Decode.{decodeChecks, decodeApproximateOf}
 
 -- whether every check of a list has a number above 0
@@ -213,8 +214,10 @@ module _ (s : Setup) (l : Lent) (query : List Float) (bytes : List ℕ) where
   estimate-numbered = chain (estimateChecks s l query bytes) _ refl
 
   pub distance-numbered : Numbered (l2DistanceEstimateOf s l query bytes)
-  unfolding l2DistanceEstimateOf
-  distance-numbered = chain (estimateChecks s l query bytes ++ (wrongScore (distance s l query bytes) ∷ [])) _ refl
+  unfolding l2DistanceEstimateOf distanceBySum
+  distance-numbered =
+      let sum = distanceSum query (radiiOf bytes) (estimate s l query bytes) in
+      first-numbered (estimateChecks s l query bytes) (distanceBySum sum) refl (chain (wrongSum sum ∷ wrongScore (cutAtZero sum) ∷ []) _ refl)
 
 pub estimate-prepared-numbered : (s : Setup) (directions rotated values : List Float) (bytes : List ℕ) → Numbered (innerProductEstimatePreparedOf s directions rotated values bytes)
 unfolding innerProductEstimatePreparedOf

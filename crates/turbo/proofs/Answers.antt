@@ -7,8 +7,8 @@ use borrow.Author.Tests.{eq-eqb, ne-eqb}
 use lib.ListN.{length}
 use lib.Ieee.{Float, binary32, add}
 use Rattle.error.specs.Answer.{Answer, value, refused, Check, check, first, each, place, accepted, done}
-use Rattle.error.specs.Checks.{wrongInput, wrongRoom, badValue, wrongScore}
-use Rattle.error.proofs.Chains.{first-passed, first-refused, first-done, first-append, append-left, append-passed, append-refused}
+use Rattle.error.specs.Checks.{wrongInput, wrongRoom, badValue}
+use Rattle.error.proofs.Chains.{first-passed, first-refused, first-done, first-clear, first-append, append-left, append-passed, append-refused}
 use Rattle.error.proofs.Places.{each-offends, each-passes}
 use Rattle.rounding.specs.Rows.{projected as projectedOn}
 use Rattle.setup.specs.Lent.{Lent}
@@ -28,7 +28,8 @@ use Rattle.turbo_opening.specs.Opening.{contentOf}
 use Rattle.turbo.specs.Scoring.{recordScore, readingChecks}
 use Rattle.turbo.specs.Inner.{joined, recordScoreOf}
 use Rattle.turbo.specs.Estimates.{innerProductEstimatePhasedOf, estimate, estimateChecks, innerProductEstimateOf, preparedChecks, innerProductEstimatePreparedOf, lengthsAndValues}
-use Rattle.turbo.specs.Distance.{distanceSum, cutAtZero, distance, l2DistanceEstimateOf}
+use Rattle.turbo_distance.specs.Distance.{distanceFromScoreOf}
+use Rattle.turbo.specs.Distance.{l2DistanceEstimateOf}
 use Rattle.turbo.proofs.Demand.{scored-estimate}
 
 -- without residual the projected query is not read, and with it every projection counts
@@ -161,14 +162,22 @@ module _ (s : Setup) (directions rotated projected : List Float) where
 -- ---- the distance
 
 module _ (s : Setup) (l : Lent) (query : List Float) (bytes : List ℕ) where
-  pub distance-refused : {n p : ℕ} → innerProductEstimateOf s l query bytes ≡ refused n p → l2DistanceEstimateOf s l query bytes ≡ refused n p
-  unfolding innerProductEstimateOf l2DistanceEstimateOf
-  distance-refused e = append-refused (estimateChecks s l query bytes) (wrongScore (distance s l query bytes) ∷ []) (estimate s l query bytes) (value (distance s l query bytes)) e
+  -- what stands behind the checks of scoring: where scoring is refused, so is the whole, and where it is not, that is the answer
+  pub behind-refused : {A : Type 0} (a : Answer A) {n p : ℕ} → innerProductEstimateOf s l query bytes ≡ refused n p → first (estimateChecks s l query bytes) a ≡ refused n p
+  unfolding innerProductEstimateOf
+  behind-refused a e = first-refused (estimateChecks s l query bytes) a (sym (first-done (estimateChecks s l query bytes) (estimate s l query bytes)) ∙ ap done e)
 
-  -- the score is known: the cut distance by it, or 12
-  pub distance-scored : {x : Float} → innerProductEstimateOf s l query bytes ≡ value x
-      → l2DistanceEstimateOf s l query bytes ≡ first (wrongScore (cutAtZero (distanceSum query (radiiOf bytes) x)) ∷ []) (value (cutAtZero (distanceSum query (radiiOf bytes) x)))
-  unfolding innerProductEstimateOf l2DistanceEstimateOf
+  pub behind-scored : {A : Type 0} (a : Answer A) {x : Float} → innerProductEstimateOf s l query bytes ≡ value x → first (estimateChecks s l query bytes) a ≡ a
+  unfolding innerProductEstimateOf
+  behind-scored a e = first-passed (estimateChecks s l query bytes) a (first-clear (estimateChecks s l query bytes) (value (estimate s l query bytes)) e)
+
+  pub distance-refused : {n p : ℕ} → innerProductEstimateOf s l query bytes ≡ refused n p → l2DistanceEstimateOf s l query bytes ≡ refused n p
+  unfolding l2DistanceEstimateOf
+  distance-refused = behind-refused (distanceFromScoreOf query (radiiOf bytes) (estimate s l query bytes))
+
+  -- the score is known: the distance by it
+  pub distance-scored : {x : Float} → innerProductEstimateOf s l query bytes ≡ value x → l2DistanceEstimateOf s l query bytes ≡ distanceFromScoreOf query (radiiOf bytes) x
+  unfolding l2DistanceEstimateOf
   distance-scored e =
-      append-passed (estimateChecks s l query bytes) (wrongScore (distance s l query bytes) ∷ []) (estimate s l query bytes) (value (distance s l query bytes)) e
-      ∙ ap (λ (y : Float). first (wrongScore (cutAtZero (distanceSum query (radiiOf bytes) y)) ∷ []) (value (cutAtZero (distanceSum query (radiiOf bytes) y)))) (scored-estimate s l query bytes e)
+      behind-scored (distanceFromScoreOf query (radiiOf bytes) (estimate s l query bytes)) e
+      ∙ ap (distanceFromScoreOf query (radiiOf bytes)) (scored-estimate s l query bytes e)

@@ -3,4 +3,3 @@ pub mod Demand
 pub mod Answers
 pub mod Prepared
 pub mod Front
-pub mod Norms

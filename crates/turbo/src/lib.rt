@@ -25,7 +25,7 @@ ghost use Rattle.packed.specs.Reading.{readRecordOf, radiiOf, indicesOf, signsO
 ghost use Rattle.turbo_opening.specs.Inner.{openedOf};
 ghost use Rattle.turbo.specs.Scoring.{recordScore};
 ghost use Rattle.turbo.specs.Estimates.{innerProductEstimateOf, saysPhased, innerProductEstimatePhasedOf, preparedChecks, innerProductEstimatePreparedOf, lengthsAndValues};
-ghost use Rattle.turbo.specs.Distance.{squaredNorm, cutAtZero, l2DistanceEstimateOf};
+ghost use Rattle.turbo.specs.Distance.{l2DistanceEstimateOf};
 ghost use Rattle.turbo.specs.Inner.{RadiiInFront, RadiiLeft, joined, recordScoreOf};
 ghost use Rattle.turbo.specs.Order.{Demand};
 ghost use Rattle.turbo.specs.Prepared.{Prepared};
@@ -101,8 +101,7 @@ pub fn l2_distance_estimate(
     let mut radii = no_radii();
     match without_phase(measure(setup, signs, directions, matrix, query, bytes, &mut radii)) {
         Scored::Score(score) => {
-            let norms = squared_norm(query) + squared_norm(&radii[0..pairs]);
-            error::finite_score(cut_at_zero(norms - 2.0 * score))
+            turbo_distance::distance_from_score(query, &radii[0..pairs], score)
         }
         Scored::Refused { number, place } => Scored::Refused { number, place },
     }
@@ -296,26 +295,6 @@ fn check_lengths_and_values(setup: Setup, rotated: &[f32], projected: &[f32]) ->
         };
     }
     Outcome::Done
-}
-
-// The sum of the squares, in index order.
-fn squared_norm(values: &[f32]) -> f32
-    ensures { λ r. ⌜ r ≡ squaredNorm (now (values .entry)) ⌝ }
-{
-    let mut sum = 0.0f32;
-    let mut i = 0;
-    while i < values.len() {
-        sum = sum + values[i] * values[i];
-        i += 1;
-    }
-    sum
-}
-
-// A number that is greater than zero, and else 0: a NaN and minus infinity too.
-fn cut_at_zero(x: f32) -> f32
-    ensures { λ r. ⌜ r ≡ cutAtZero x ⌝ }
-{
-    if x > 0.0 { x } else { 0.0 }
 }
 
 // Room for a rotated or a projected query, of at most 4,096 values.

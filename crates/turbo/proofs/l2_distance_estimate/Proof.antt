@@ -1,21 +1,17 @@
--- `turbo::l2_distance_estimate` meets its contract: a refused score is refused, and of a score the distance is put together step by step, by the radii that the
--- score has left. Assumes nothing.
+-- `turbo::l2_distance_estimate` meets its contract: a refused score is refused, and a score gives the distance by the radii that it has left. Assumes nothing.
 use mathlib.Core.Path.{_≡_, sym, ap, _∙_}
-use mathlib.Core.List.{[], _∷_}
+use mathlib.Core.List.{List}
 use borrow.Author.Needs.{needs}
 use lib.Ieee.{Float}
-use Rattle.error.specs.Answer.{value, first}
-use Rattle.error.specs.Checks.{wrongScore}
+use Rattle.error.specs.Answer.{value}
 use Rattle.error.specs.Outcomes.{saysScore}
 use Rattle.setup.specs.Lent.{lent}
-use Rattle.packed.specs.Reading.{radiiOf}
+use Rattle.turbo_distance.specs.Distance.{distanceFromScoreOf}
 use Rattle.turbo.specs.Estimates.{innerProductEstimateOf}
-use Rattle.turbo.specs.Distance.{squaredNorm, cutAtZero}
 use Rattle.turbo.specs.Inner.{RadiiInFront, joined}
 use Rattle.turbo.proofs.Answers.{phased-joined, distance-refused, distance-scored}
 use Rattle.turbo.proofs.Demand.{scored-pairs}
 use Rattle.turbo.proofs.Front.{front-left, front-enough, front-taken}
-use Rattle.turbo.proofs.Norms.{apart-of}
 use Rattle.turbo.proofs.l2_distance_estimate.Statement.{statement}
 use Rattle.turbo.proofs.l2_distance_estimate.Tie as tie
 
@@ -50,42 +46,32 @@ without-phase-requires c κs = search needs
 enum-known-score : tie.Need-enum-known-score
 enum-known-score c = search needs
 
-squared-norm-requires : tie.Need-squared-norm-requires
-squared-norm-requires c κs = search needs
+sub-distance-from-score : tie.Need-sub-distance-from-score
+sub-distance-from-score c = search needs
 
-sub-squared-norm : tie.Need-sub-squared-norm
-sub-squared-norm c = search needs
+part-distance-from-score-start : tie.Need-part-distance-from-score-start
+part-distance-from-score-start c = search needs
 
-part-squared-norm-start : tie.Need-part-squared-norm-start
-part-squared-norm-start c = search needs
-
-part-squared-norm-end : tie.Need-part-squared-norm-end
-part-squared-norm-end c =
-    let k = c .before .before in
+part-distance-from-score-end : tie.Need-part-distance-from-score-end
+part-distance-from-score-end c =
+    let k = c .before in
     let a = k .before .before .before .before .before .before .before .before .before .before .before .before .before .before .args in
     front-enough (a .bytes .now) _ (scored-pairs (a .setup) (lent (a .signs .now) (a .directions .now) (a .matrix .now)) (a .query .now) (a .bytes .now) (scored k)) (left k)
 
-squared-norm-requires-2 : tie.Need-squared-norm-requires-2
-squared-norm-requires-2 c κs = search needs
-
-cut-at-zero-requires : tie.Need-cut-at-zero-requires
-cut-at-zero-requires c κs = search needs
-
-finite-score-requires : tie.Need-finite-score-requires
-finite-score-requires c κs = search needs
+distance-from-score-requires : tie.Need-distance-from-score-requires
+distance-from-score-requires c κs = search needs
 
 enum-known-number : tie.Need-enum-known-number
 enum-known-number c = search needs
 
 returns : tie.Need-returns
 returns c =
-    let k = c .before .before .before .before .before .before in
+    let k = c .before .before .before in
     let a = k .before .before .before .before .before .before .before .before .before .before .before .before .before .before .args in
     let l = lent (a .signs .now) (a .directions .now) (a .matrix .now) in
     let radii = front-taken (a .bytes .now) _ (scored-pairs (a .setup) l (a .query .now) (a .bytes .now) (scored k)) (left k) in
-    c .finite-score .ensures
-    ∙ ap (λ (d : Float). first (wrongScore d ∷ []) (value d))
-    (c .before .cut-at-zero .ensures ∙ ap cutAtZero (apart-of (a .query .now) (radiiOf (a .bytes .now)) (k .before .score .given .0 .0) (c .before .before .before .before .before .squared-norm .ensures) (c .before .before .squared-norm2 .ensures ∙ ap squaredNorm radii)))
+    c .distance-from-score .ensures
+    ∙ ap (λ (xs : List Float). distanceFromScoreOf (a .query .now) xs (k .before .score .given .0 .0)) radii
     ∙ sym (distance-scored (a .setup) l (a .query .now) (a .bytes .now) (scored k))
 
 returns-2 : tie.Need-returns-2
@@ -102,13 +88,10 @@ l2-distance-estimate-spec =
     measure-requires
     without-phase-requires
     enum-known-score
-    squared-norm-requires
-    sub-squared-norm
-    part-squared-norm-start
-    part-squared-norm-end
-    squared-norm-requires-2
-    cut-at-zero-requires
-    finite-score-requires
+    sub-distance-from-score
+    part-distance-from-score-start
+    part-distance-from-score-end
+    distance-from-score-requires
     enum-known-number
     returns
     returns-2)

@@ -1,14 +1,14 @@
--- `turbo::squared_norm` meets its contract: the loop keeps the norm as the running sum and what is left of the list. Assumes nothing.
+-- `turbo_distance::squared_norm` meets its contract: the loop keeps the norm as the running sum and what is left of the list. Assumes nothing.
 use Prim.Native.Nat.{_-_, _≤_}
 use mathlib.Core.Path.{_≡_, refl, _∙_}
 use native.Mathlib.Omega.{arith}
 use borrow.Author.Needs.{scaled-fits}
 use lib.ListN.{length}
 use lib.Ieee.{ofBits}
-use Rattle.turbo.specs.Distance.{squaredNorm}
-use Rattle.turbo.proofs.Norms.{normFrom, norm-more, norm-end}
-use Rattle.turbo.proofs.squared_norm.Statement.{statement}
-use Rattle.turbo.proofs.squared_norm.Tie as tie
+use Rattle.turbo_distance.specs.Distance.{squaredNorm}
+use Rattle.turbo_distance.proofs.Norms.{normFrom, norm-more, norm-end}
+use Rattle.turbo_distance.proofs.squared_norm.Statement.{statement}
+use Rattle.turbo_distance.proofs.squared_norm.Tie as tie
 
 abbrev Inv-loop : tie.InvT-loop
 Inv-loop values sum₀ i₀ sum i = (i ≤ length values) × (squaredNorm values ≡ normFrom values i sum)

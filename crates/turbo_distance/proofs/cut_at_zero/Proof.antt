@@ -1,9 +1,9 @@
--- `turbo::cut_at_zero` meets its contract: by the two cases of the comparison, which is false for a NaN. Assumes nothing.
+-- `turbo_distance::cut_at_zero` meets its contract: by the two cases of the comparison, which is false for a NaN. Assumes nothing.
 use mathlib.Core.Path.{refl}
 use lib.Ieee.{ofBits}
-use Rattle.turbo.specs.Distance.{cutAtZero}
-use Rattle.turbo.proofs.cut_at_zero.Statement.{statement}
-use Rattle.turbo.proofs.cut_at_zero.Tie as tie
+use Rattle.turbo_distance.specs.Distance.{cutAtZero}
+use Rattle.turbo_distance.proofs.cut_at_zero.Statement.{statement}
+use Rattle.turbo_distance.proofs.cut_at_zero.Tie as tie
 
 returns : tie.Need-returns
 unfolding cutAtZero ofBits

@@ -8,7 +8,7 @@ use lib.Seq.{drop-cons}
 use lib.Ieee.{Float, nan, binary32, add, sub, mul, ofBits}
 use Rattle.rounding.specs.Sums.{running, products}
 use Rattle.rounding.proofs.Running.{nothing-left}
-use Rattle.turbo.specs.Distance.{squaredNorm, distanceSum}
+use Rattle.turbo_distance.specs.Distance.{squaredNorm, distanceSum}
 
 -- what is left of a squared norm at index i
 abbrev pub normFrom : List Float → ℕ → Float → Float
@@ -24,7 +24,7 @@ pub norm-end : (xs : List Float) (i : ℕ) (acc : Float) → length xs ≤ i →
 norm-end xs i acc h inv = sym (inv ∙ nothing-left (drop i xs) xs i acc h)
 
 -- 'both squared norms, less 2 × score'; 4000_0000 is 2.0
-pub apart-of : (query radii : List Float) (score : Float) {n m : Float} → n ≡ squaredNorm query → m ≡ squaredNorm radii
+pub sum-of-norms : (query radii : List Float) (score : Float) {n m : Float} → n ≡ squaredNorm query → m ≡ squaredNorm radii
     → sub binary32 (add binary32 n m) (mul binary32 (ofBits binary32 0x4000_0000) score) ≡ distanceSum query radii score
 unfolding distanceSum ofBits
-apart-of query radii score e f = rw (e, f)
+sum-of-norms query radii score e f = rw (e, f)
