@@ -6,9 +6,10 @@
 
 A line of the list is `call name=value .. => rust VALUE | plain VALUE | refused NUMBER PLACE`.
 From each call come the first few values and the first few refusals of every number, told
-apart by mode, by radius form and by what offended. Every number that a call can give must be
-among them. A record that is read stands in the list once for each call that reads it. The form
-of a case is described in crates/replay/src/frame.rt.
+apart by mode, by radius form and by what offended; distances by `sum` too, which says what
+their sum is before its cut to zero. Every number that a call can give must be among them, and
+every kind of sum. A record that is read stands in the list once for each call that reads it.
+The form of a case is described in crates/replay/src/frame.rt.
 """
 import struct
 import sys
@@ -50,6 +51,8 @@ CALLS = {
     "score": {2, 3, 1, 8, 4, 5, 10, 7, 9, 11, 13, 18, 17, 16, 14, 20, 12},
     "distance": {2, 3, 1, 8, 4, 5, 10, 7, 9, 11, 13, 18, 17, 16, 14, 20, 12},
 }
+# What a distance's sum can be, with the number of its refusal or 0; None where the score is not finite.
+SUMS = {(12, None), (12, "nan"), (12, "+inf"), (0, "-inf"), (0, "finite")}
 # The calls that a line of `read_record` stands for.
 READERS = [call for call in CALLS if call.startswith("read_") or call.endswith("_part")]
 # The lists of a case, by their places in it, the form of an element, and the mark of one that is not written.
@@ -142,6 +145,8 @@ def offender(fields, number):
         told.append(fields.get("bits") == "16")
     if number == 6:
         told.append(fields.get("out_rotated") == fields.get("dim"))
+    if number == 12:
+        told.append(fields.get("sum"))
     return str(told)
 
 
@@ -268,7 +273,7 @@ def encode(call, fields, text):
 
 def main():
     chosen = {call: [] for call in CALLS}
-    seen, numbers_of = {}, {call: set() for call in CALLS}
+    seen, numbers_of, sums = {}, {call: set() for call in CALLS}, set()
     for line in sys.stdin:
         if line.startswith("#"):
             continue
@@ -285,7 +290,7 @@ def main():
         else:
             limit = SETUP_VALUES if "mode" in fields or record else VALUES
             limit = 2 * limit if call == "root" else 1 if answer.startswith("plain") else limit
-            kind = [answer.split()[0], fields.get("mode"), fields.get("profile"), record[:1]]
+            kind = [answer.split()[0], fields.get("mode"), fields.get("profile"), record[:1], fields.get("sum")]
         about = seen.setdefault(str([call, number, kind]), set())
         if len(about) >= limit or (classes(fields), asked) in about:
             continue
@@ -294,12 +299,15 @@ def main():
         if known and len(about) >= limit // 2:
             continue
         about.add((classes(fields), asked))
+        if call == "distance" and number in (0, 12):
+            sums.add((number, fields.get("sum")))
         for each in READERS if call == "read_record" else [call]:
             numbers_of[each].add(number)
             chosen[each].append(encode(each, fields, answer))
     for call, wanted in CALLS.items():
         assert numbers_of[call] - {0} == wanted, (call, wanted ^ numbers_of[call])
         assert 0 in numbers_of[call]
+    assert sums == SUMS, SUMS ^ sums
     total = sum(map(len, chosen.values()))
     with open(f"{sys.argv[1]}/stdin", "wb") as out:
         for call, cases in chosen.items():

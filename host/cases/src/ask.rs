@@ -45,6 +45,16 @@ pub fn ask(case: &Case) -> Answer {
     }
 }
 
+/// The Rust's sum of a distance before its cut to zero; its error where the score has one.
+pub fn distance_sum(case: &Case) -> Answer {
+    let Case::Distance { setup, query, record } = case else {
+        return Answer::Absent;
+    };
+    with_code(setup, record, |turbo, code| {
+        told(thin::distance_sum(turbo, code, query), Value::Float)
+    })
+}
+
 fn told<T>(answer: Rust<T>, value: impl FnOnce(T) -> Value) -> Answer {
     match answer {
         Ok(found) => Answer::Value(value(found)),

@@ -2,7 +2,7 @@
 //! the plain sums' value where the Rust has none.
 
 use crate::{
-    ask::ask,
+    ask::{self, ask},
     case::{same, same_float, strictly_same, Answer, Case, Profile, Value},
     paper::{refusal, Refusal},
     plain, record,
@@ -42,6 +42,32 @@ pub fn expected(case: &Case) -> Expected {
             Expected::Value { value: value.clone(), by_rust: false, exact: Some(value) }
         }
         _ => Expected::Open,
+    }
+}
+
+/// The sum of a distance before its cut to zero: the Rust's, or the plain sums' where it
+/// has none. None where a refusal comes before, the score's own 12 among them.
+pub fn distance_sum(case: &Case, wanted: &Expected) -> Option<f32> {
+    let Case::Distance { setup, query, record } = case else {
+        return None;
+    };
+    if matches!(wanted, Expected::Refused(refused) if refused.number != 12) {
+        return None;
+    }
+    match ask::distance_sum(case) {
+        Answer::Value(Value::Float(sum)) => Some(sum),
+        Answer::Absent => plain::distance_sum(setup, query, record),
+        _ => None,
+    }
+}
+
+/// What a distance's sum is.
+pub fn sum_name(sum: f32) -> &'static str {
+    match sum {
+        f32::INFINITY => "+inf",
+        f32::NEG_INFINITY => "-inf",
+        _ if sum.is_nan() => "nan",
+        _ => "finite",
     }
 }
 

@@ -90,7 +90,9 @@ impl Maker {
                 Case::Score { setup, query, record }
             }
             "distance" => {
-                let (setup, query, record) = self.scored();
+                let near = self.rng.chance(15);
+                let (setup, query, record) =
+                    if near { self.scored_near_the_top() } else { self.scored() };
                 Case::Distance { setup, query, record }
             }
             "decode" => {

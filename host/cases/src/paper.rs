@@ -1,9 +1,11 @@
 //! The refusals of document 01, read off its lists: what number and place a case must
 //! be refused with, or none. Only two things are taken from the oracle: the index of a
 //! value that is not finite after rotation or projection (11), and whether a score or
-//! distance is not finite (12), since both need the sums themselves.
+//! a distance's sum is to be refused (12), since both need the sums themselves. The Rust
+//! answers 0 for a distance whose sum is NaN; document 01 as amended refuses it.
 
 use crate::{
+    ask,
     case::{Answer, Case, Mode, Profile, Setup, Value},
     plain, record,
 };
@@ -177,11 +179,16 @@ fn later(setup: &Setup, query: &[f32]) -> Checked {
     }
 }
 
+/// Whether the oracle's sum of a distance is NaN before it is cut to zero.
+fn nan_sum(case: &Case) -> bool {
+    matches!(ask::distance_sum(case), Answer::Value(Value::Float(sum)) if sum.is_nan())
+}
+
 /// The last check of a score or distance: by the oracle where it can tell, else by the
 /// plain sums.
 fn finite(case: &Case, answer: &Answer) -> Checked {
     let good = match answer {
-        Answer::Value(_) => true,
+        Answer::Value(_) => !nan_sum(case),
         Answer::Error(_) => false,
         _ => matches!(plain::value(case), Some(Value::Float(value)) if value.is_finite()),
     };

@@ -93,8 +93,26 @@ fn squares(values: &[f32]) -> f32 {
     values.iter().fold(0.0, |sum, value| sum + value * value)
 }
 
+fn query_score(setup: &Setup, content: &Content, query: &[f32]) -> f32 {
+    let rotated = rotate(false, &setup.signs, query);
+    score(setup, content, &rotated, &dots(setup, query))
+}
+
+/// The score of a record by a query.
+pub fn record_score(setup: &Setup, query: &[f32], record: &[u8]) -> Option<f32> {
+    Some(query_score(setup, &content(record)?, query))
+}
+
+/// The sum of a distance before its cut to zero; None where the score is not finite.
+pub fn distance_sum(setup: &Setup, query: &[f32], record: &[u8]) -> Option<f32> {
+    let content = content(record)?;
+    let score = query_score(setup, &content, query);
+    let norms = squares(query) + squares(&content.radii);
+    score.is_finite().then_some(norms - 2.0 * score)
+}
+
 /// The value of a case that document 01 does not refuse before its sums; None where
-/// the call has no sums.
+/// the call has no sums. A score or distance that is refused comes out as not finite.
 pub fn value(case: &Case) -> Option<Value> {
     Some(match case {
         Case::Apply { inverse, signs, input, .. } => Value::Floats(rotate(*inverse, signs, input)),
@@ -109,20 +127,11 @@ pub fn value(case: &Case) -> Option<Value> {
             Mode::PolarOnly => 0.0,
             Mode::PolarWithQjl => residual(signs, &dots(setup, query)),
         }),
-        Case::Score { setup, query, record } => {
-            let rotated = rotate(false, &setup.signs, query);
-            Value::Float(score(setup, &content(record)?, &rotated, &dots(setup, query)))
-        }
+        Case::Score { setup, query, record } => Value::Float(record_score(setup, query, record)?),
         Case::Distance { setup, query, record } => {
-            let content = content(record)?;
-            let rotated = rotate(false, &setup.signs, query);
-            let score = score(setup, &content, &rotated, &dots(setup, query));
-            // The score's own refusal comes first.
-            if !score.is_finite() {
-                return Some(Value::Float(score));
-            }
-            let left = squares(query) + squares(&content.radii) - 2.0 * score;
-            Value::Float(if left > 0.0 { left } else { 0.0 })
+            let sum = distance_sum(setup, query, record).unwrap_or(f32::NAN);
+            // A sum that is NaN stays.
+            Value::Float(if sum <= 0.0 { 0.0 } else { sum })
         }
         Case::Decode { setup, record, .. } => {
             let content = content(record)?;

@@ -7,6 +7,7 @@ use oracle::thin;
 use crate::{
     case::{rust_setup, Case, Mode, Profile, Setup},
     make::{Maker, Size},
+    plain,
     record::{self, Parts},
 };
 
@@ -25,17 +26,23 @@ impl Maker {
         self.rng.pick(&[1.0, -1.0, 0.0, -0.0, tiny, unit, 0.99999994])
     }
 
-    /// The kept setup, or a new one from time to time; a few are damaged.
-    pub(crate) fn setup(&mut self) -> Rc<Setup> {
+    /// The kept setup, or a new one from time to time.
+    fn kept_setup(&mut self) -> Rc<Setup> {
         if self.uses == 0 {
             self.uses = if self.size == Size::Small { 3 } else { 24 };
             self.kept = Some(self.fresh_setup(0));
         }
         self.uses -= 1;
+        self.kept.clone().unwrap()
+    }
+
+    /// A setup of which a few are damaged.
+    pub(crate) fn setup(&mut self) -> Rc<Setup> {
+        let kept = self.kept_setup();
         if self.rng.chance(4) {
             return self.fresh_setup(100);
         }
-        self.kept.clone().unwrap()
+        kept
     }
 
     fn projections(&mut self, dim: usize) -> usize {
@@ -92,14 +99,7 @@ impl Maker {
             self.damage(&mut signs, &mut directions, &mut matrix);
             own_table = own_table && Rc::ptr_eq(&before, &directions);
         }
-        // In `PolarOnly` the Rust keeps the count and never looks at it.
-        let asked = if residual { projections } else { projections.min(64) };
-        let rust = rust_setup(mode, dim, bits, asked, &signs, &matrix);
-        let qjl = match &rust {
-            Some(Ok(_)) if residual => thin::qjl(dim, projections, &matrix).ok(),
-            _ => None,
-        };
-        Rc::new(Setup {
+        with_rust(Setup {
             mode,
             dim,
             bits,
@@ -108,8 +108,8 @@ impl Maker {
             directions,
             matrix,
             own_table,
-            rust,
-            qjl,
+            rust: None,
+            qjl: None,
         })
     }
 
@@ -239,6 +239,52 @@ impl Maker {
         (setup, query, record)
     }
 
+    /// What a distance near the top of f32 is asked of: a score is linear in its query, so
+    /// a power of two takes it to where it or twice it is infinite.
+    pub(crate) fn scored_near_the_top(&mut self) -> (Rc<Setup>, Vec<f32>, Vec<u8>) {
+        let mut setup = self.kept_setup();
+        if setup.mode == Mode::PolarWithQjl && self.rng.chance(50) {
+            setup = self.steeper(&setup);
+        }
+        let record = self.wide_record(&setup);
+        let mut query: Vec<f32> = (0..setup.dim).map(|_| self.rng.unit()).collect();
+        let score = plain::record_score(&setup, &query, &record).unwrap();
+        let exponent = 127 + self.rng.pick(&[-1, 0, 0, 0, 1]);
+        let turned = score < 0.0 && self.rng.chance(80);
+        if score.is_normal() {
+            let sign = if turned { -1.0 } else { 1.0 };
+            let factor = sign * 2f64.powi(exponent - exponent_of(score));
+            query.iter_mut().for_each(|item| *item = (f64::from(*item) * factor) as f32);
+        }
+        (setup, query, record)
+    }
+
+    /// The setup with a matrix so large that a score outgrows both squared norms: of two
+    /// rows at most, since the sum over more is infinite before twice the score is.
+    fn steeper(&mut self, setup: &Setup) -> Rc<Setup> {
+        let projections = self.rng.pick(&[1, 1, 1, 2]);
+        let count = projections * setup.dim;
+        with_rust(Setup {
+            projections,
+            signs: setup.signs.clone(),
+            directions: setup.directions.clone(),
+            matrix: (0..count).map(|_| self.rng.unit() * 2f32.powi(80)).collect(),
+            rust: None,
+            qjl: None,
+            ..*setup
+        })
+    }
+
+    /// A record of the setup whose radii lie below one power of two, or are zero.
+    fn wide_record(&mut self, setup: &Setup) -> Vec<u8> {
+        let scale = 2f32.powi(self.rng.pick(&[0, 60, 60, 60, 60, 62, 63, 64, 66]));
+        let scale = if self.rng.chance(10) { 0.0 } else { scale };
+        let radii: Vec<f32> = (0..setup.dim / 2).map(|_| self.rng.unit().abs() * scale).collect();
+        let linear = self.rng.chance(50);
+        let signs = setup.mode == Mode::PolarWithQjl;
+        self.parts_with(&radii, linear, setup.polar_bits(), setup.counted(), signs).bytes()
+    }
+
     pub(crate) fn score_prepared(&mut self) -> Case {
         let setup = self.setup();
         let record = self.record(&setup, 20);
@@ -273,15 +319,27 @@ impl Maker {
 
     /// The parts of a good record of this shape.
     fn good_parts(&mut self, dim: usize, bits: u8, projections: usize, signs: bool) -> Parts {
-        let pairs = dim / 2;
         let linear = self.rng.chance(50);
+        let radii = self.rng.radii(dim / 2);
+        self.parts_with(&radii, linear, bits, projections, signs)
+    }
+
+    /// The parts of a good record with these radii.
+    fn parts_with(
+        &mut self,
+        radii: &[f32],
+        linear: bool,
+        bits: u8,
+        projections: usize,
+        signs: bool,
+    ) -> Parts {
         let profile = if linear { Profile::BlockLinearU16 } else { Profile::F32 };
-        let packed = thin::compress(&self.rng.radii(pairs), profile).unwrap();
-        let indices: Vec<u16> = (0..pairs).map(|_| self.index(bits, 0)).collect();
+        let packed = thin::compress(radii, profile).unwrap();
+        let indices: Vec<u16> = radii.iter().map(|_| self.index(bits, 0)).collect();
         let sketch = self.signs(if signs { projections } else { 0 }, 0);
         Parts {
             map: linear as u8 * record::LINEAR + signs as u8 * record::SIGNS,
-            dim: dim as u32,
+            dim: 2 * radii.len() as u32,
             bits,
             min: packed.min,
             max: packed.max,
@@ -421,6 +479,24 @@ impl Maker {
         let out = self.rng.length(exact, 8);
         Case::WriteRecord { profile, dim, bits, mode, projections, radii, indices, signs, out }
     }
+}
+
+/// The setup with the Rust's quantizer of the same parts.
+fn with_rust(mut setup: Setup) -> Rc<Setup> {
+    let Setup { mode, dim, bits, projections, .. } = setup;
+    let residual = mode == Mode::PolarWithQjl;
+    // In `PolarOnly` the Rust keeps the count and never looks at it.
+    let asked = if residual { projections } else { projections.min(64) };
+    setup.rust = rust_setup(mode, dim, bits, asked, &setup.signs, &setup.matrix);
+    if residual && matches!(setup.rust, Some(Ok(_))) {
+        setup.qjl = thin::qjl(dim, projections, &setup.matrix).ok();
+    }
+    Rc::new(setup)
+}
+
+/// The exponent of a normal float.
+fn exponent_of(value: f32) -> i32 {
+    ((value.to_bits() >> 23) & 0xFF) as i32 - 127
 }
 
 /// The record of a code that the Rust itself encoded, radii as they are.

@@ -129,15 +129,26 @@ fn a_matrix_length_wraps() {
 
 #[test]
 fn a_distance_that_overflows_both_ways_is_zero() {
-    // Both squared norms are infinite or their sum is, and so is twice the score: the
-    // difference is NaN, and `max` makes it 0. With the other sign it is refused.
+    // Both squared norms are infinite, and so is twice the score: the difference is NaN,
+    // and `max` makes it 0. The port refuses it with 12. With the other sign, or with a
+    // score that is infinite itself, the Rust refuses too.
     let turbo = thin::turbo(TurboMode::PolarOnly, 2, 1, 0, 0).unwrap();
     let turbo = thin::turbo_with(&turbo, &[1.0, 1.0], &[]);
-    let radius = 1.5e19f32.to_le_bytes();
-    let code = |index| thin::turbo_code(Profile::F32, 2, 1, 0.0, 0.0, &radius, &[index], None);
-    let query = [1.1e19, 1.1e19];
-    assert_eq!(thin::distance(&turbo, &code(1).unwrap(), &query), Ok(0.0));
-    assert!(thin::distance(&turbo, &code(0).unwrap(), &query).is_err());
+    let code = |exponent, index| {
+        let radius = 2f32.powi(exponent).to_le_bytes();
+        thin::turbo_code(Profile::F32, 2, 1, 0.0, 0.0, &radius, &[index], None).unwrap()
+    };
+    let query = [2f32.powi(64), 0.0];
+    let both = code(64, 1);
+    assert_eq!(thin::score(&turbo, &both, &query), Ok(f32::from_bits(0x7F35_04F3)));
+    assert!(thin::distance_sum(&turbo, &both, &query).unwrap().is_nan());
+    assert_eq!(thin::distance(&turbo, &both, &query), Ok(0.0));
+    let other = code(64, 0);
+    assert_eq!(thin::distance_sum(&turbo, &other, &query), Ok(f32::INFINITY));
+    assert!(thin::distance(&turbo, &other, &query).is_err());
+    let higher = code(65, 1);
+    assert!(thin::score(&turbo, &higher, &query).is_err());
+    assert!(thin::distance(&turbo, &higher, &query).is_err());
 }
 
 #[test]

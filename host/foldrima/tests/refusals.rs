@@ -105,6 +105,31 @@ fn by_the_author_of_a_query() {
     assert_eq!(plus.inner_product_estimate_prepared(&query, &[], &wide), refused(12, 0));
 }
 
+/// A distance's sum that is NaN or plus infinity is refused, minus infinity is cut to zero;
+/// the score's own refusal comes first.
+#[test]
+fn by_a_distance_whose_sum_overflows() {
+    let setup = one_pair::SETUP;
+    let record = |radius: [u8; 4], index| {
+        let mut record = RECORD;
+        record[6..10].copy_from_slice(&radius);
+        record[10] = index;
+        record
+    };
+    let (power, higher) = ([0, 0, 0x80, 0x5F], [0, 0, 0, 0x60]);
+    let query = [2f32.powi(64), 0.0];
+    let nan = record(power, 1);
+    assert_eq!(setup.inner_product_estimate(&query, &nan), Ok(f32::from_bits(0x7F35_04F3)));
+    assert_eq!(setup.l2_distance_estimate(&query, &nan), refused(12, 0));
+    assert_eq!(setup.l2_distance_estimate(&query, &record(power, 0)), refused(12, 0));
+    let own = record(higher, 1);
+    assert_eq!(setup.inner_product_estimate(&query, &own), refused(12, 0));
+    assert_eq!(setup.l2_distance_estimate(&query, &own), refused(12, 0));
+    let long = Setup { directions: &[-1.0, 0.0, 1.0, 1.0], ..setup };
+    let below = record([0, 0, 0x20, 0x5F], 1);
+    assert_eq!(long.l2_distance_estimate(&[1.25 * 2f32.powi(63), 0.0], &below), Ok(0.0));
+}
+
 #[test]
 fn by_the_writer_of_a_code() {
     let (f32s, linear, log) = (Profile::F32, Profile::BlockLinearU16, Profile::BlockLogU8);

@@ -1,6 +1,7 @@
 //! Thin calls of the nine files for a driver: plain values in, a value or the name of
-//! the error's variant out. Nothing is computed here but what the port is lent: the
-//! direction table, and the parts read back out of serialised forms.
+//! the error's variant out. Nothing is computed here but what the port is lent (the
+//! direction table, and the parts read back out of serialised forms), and the sum of a
+//! distance, which the Rust does not show.
 
 use serde_json::{json, Value};
 
@@ -307,6 +308,15 @@ pub fn score_prepared(
 
 pub fn distance(turbo: &TurboQuantizer, code: &TurboCode, query: &[f32]) -> Answer<f32> {
     named(turbo.l2_distance_estimate(code, query))
+}
+
+/// The sum that `l2_distance_estimate` cuts to zero: the Rust's own score, and the very
+/// expressions of turbo.rs.
+pub fn distance_sum(turbo: &TurboQuantizer, code: &TurboCode, query: &[f32]) -> Answer<f32> {
+    let ip = score(turbo, code, query)?;
+    let query_norm_sq: f32 = query.iter().map(|x| x * x).sum();
+    let code_norm_sq: f32 = code.polar_code.radii.iter().map(|r| r * r).sum();
+    Ok(query_norm_sq + code_norm_sq - 2.0 * ip)
 }
 
 pub fn decode(turbo: &TurboQuantizer, code: &TurboCode) -> Answer<Vec<f32>> {

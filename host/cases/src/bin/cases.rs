@@ -5,7 +5,7 @@ use std::collections::BTreeMap;
 use cases::{
     ask::{ask, hush},
     case::{same, Answer, Case, Value, CALLS},
-    expect::{expected, Expected},
+    expect::{distance_sum, expected, sum_name, Expected},
     make::{Maker, Size},
     paper::{refusal, Refusal},
     plain,
@@ -88,6 +88,31 @@ fn kind(answer: &Answer, refused: Option<Refusal>) -> String {
     format!("{ours} / {theirs}")
 }
 
+/// How many distances had which sum before its cut to zero.
+#[derive(Default)]
+struct Sums(BTreeMap<&'static str, usize>);
+
+impl Sums {
+    fn count(&mut self, case: &Case, wanted: &Expected) {
+        if let Some(sum) = distance_sum(case, wanted) {
+            *self.0.entry(sum_name(sum)).or_default() += 1;
+        }
+    }
+
+    fn print(&self) {
+        let of = |name| self.0.get(name).copied().unwrap_or(0);
+        if !self.0.is_empty() {
+            println!(
+                "sums of distances: {} NaN, {} minus infinity, {} plus infinity, {} finite",
+                of("nan"),
+                of("-inf"),
+                of("+inf"),
+                of("finite")
+            );
+        }
+    }
+}
+
 fn main() {
     if std::env::args().skip(1).any(|word| word == "--help") {
         print!("{HELP}\ncalls: {}\n", CALLS.join(", "));
@@ -115,6 +140,7 @@ fn run(options: &Options, calls: &[usize]) {
     println!("seed {}, {} cases for each call", options.seed, options.count);
     let mut total = 0;
     let (mut broken, mut held, mut apart, mut open) = (0, 0, 0, 0);
+    let mut sums = Sums::default();
     for &call in calls {
         let mut maker = Maker::new(options.seed.wrapping_add(call as u64) << 8, Size::Full);
         let mut kinds: BTreeMap<String, (usize, String)> = BTreeMap::new();
@@ -123,7 +149,9 @@ fn run(options: &Options, calls: &[usize]) {
             let answer = ask(&case);
             let refused = refusal(&case, &answer);
             broken += inverse_broken(&case, &answer) as usize;
-            open += matches!(expected(&case), Expected::Open) as usize;
+            let wanted = expected(&case);
+            open += matches!(wanted, Expected::Open) as usize;
+            sums.count(&case, &wanted);
             if let Some(differs) = plain_differs(&case, &answer, refused) {
                 apart += differs as usize;
                 held += 1;
@@ -155,6 +183,7 @@ fn run(options: &Options, calls: &[usize]) {
             }
         }
     }
+    sums.print();
     println!("{total} cases, {broken} round trips broken");
     println!("{open} cases have nothing to be held against");
     println!("plain sums held against the Rust {held} times, {apart} differ");
@@ -229,7 +258,9 @@ fn list(options: &Options, calls: &[usize], most: usize) {
         let mut kept: BTreeMap<u8, usize> = BTreeMap::new();
         for _ in 0..options.count {
             let case = maker.make(call);
-            let (number, text) = match expected(&case) {
+            let wanted = expected(&case);
+            let sum = distance_sum(&case, &wanted).map(|sum| format!(" sum={}", sum_name(sum)));
+            let (number, text) = match wanted {
                 Expected::Refused(refused) => {
                     (refused.number, format!("refused {} {}", refused.number, refused.place))
                 }
@@ -237,7 +268,7 @@ fn list(options: &Options, calls: &[usize], most: usize) {
                 Expected::Value { value, by_rust: false, .. } => (0, format!("plain {value}")),
                 Expected::Open => continue,
             };
-            let text = format!("{case} => {text}");
+            let text = format!("{case}{} => {text}", sum.unwrap_or_default());
             let count = kept.entry(number).or_default();
             if *count < most && text.len() <= LONGEST {
                 *count += 1;
@@ -253,6 +284,7 @@ fn differ(options: &Options, calls: &[usize]) {
     use cases::port;
     println!("seed {}, {} cases for each call", options.seed, options.count);
     let (mut total, mut differ, mut zeros) = (0, 0, 0);
+    let mut sums = Sums::default();
     let mut numbers: BTreeMap<u8, usize> = BTreeMap::new();
     for &call in calls {
         let mut maker = Maker::new(options.seed.wrapping_add(call as u64) << 8, Size::Full);
@@ -271,6 +303,7 @@ fn differ(options: &Options, calls: &[usize]) {
                 Expected::Value { by_rust: false, .. } => plain += 1,
                 Expected::Open => {}
             }
+            sums.count(&case, &wanted);
             zeros += !given.agrees_in_zeros(&wanted) as usize;
             if !given.agrees(&wanted) {
                 wrong += 1;
@@ -304,6 +337,7 @@ fn differ(options: &Options, calls: &[usize]) {
     }
     let numbers: Vec<String> = numbers.iter().map(|(n, count)| format!("{n}: {count}")).collect();
     println!("refusals by number: {}", numbers.join(", "));
+    sums.print();
     println!("{total} cases, {zeros} with zeros of another sign, {differ} differ");
     if differ > 0 {
         std::process::exit(1);
