@@ -56,6 +56,8 @@ anchors = record {
   turned-distance = refl;
   large-sum = refl;
   large-distance = refl;
+  row-sum = refl;
+  row-distance = refl;
   near = record { above = omega arith; below = omega arith };
   near-turned = record { above = omega arith; below = omega arith };
   not-near = λ n. omega (arith, n .above);

@@ -83,6 +83,19 @@ largeQuery = fin false 5 (pos 61) ∷ posZero ∷ []
 abbrev pub diagonalLent : Lent
 diagonalLent = lent signsLent (one true ∷ posZero ∷ one false ∷ one false ∷ []) []
 
+-- This setup has a residual of one row, (2^100, 0); the query is (7 × 2^25, 0), and the record is P12 with one sign, +.
+abbrev pub rowSetup : Setup
+rowSetup = record { mode = PolarWithQjl; dim = 2; bits = 2; projections = 1 }
+
+abbrev pub rowLent : Lent
+rowLent = lent signsLent directionsLent (fin false 1 (pos 100) ∷ posZero ∷ [])
+
+abbrev pub rowQuery : List Float
+rowQuery = fin false 7 (pos 25) ∷ posZero ∷ []
+
+abbrev pub withOneSign : List ℕ
+withOneSign = 0x02 ∷ 0x02 ∷ 0x00 ∷ 0x00 ∷ 0x00 ∷ 0x01 ∷ 0x01 ∷ 0x00 ∷ 0x00 ∷ 0x00 ∷ 0x00 ∷ 0x00 ∷ 0x80 ∷ 0x3F ∷ 0x01 ∷ 0x01 ∷ []
+
 -- This is n as a whole number with a sign.
 abbrev pub whole : ℕ → Diff
 whole n = signed false n
@@ -115,6 +128,9 @@ pub record Anchors : Type 0 where
   -- Of the large record and its query both norms and their sum are finite, and twice the score is plus infinity, so the sum is minus infinity.
   pub large-sum : recordSum plainSetup diagonalLent largeQuery large ≡ inf true
   pub large-distance : l2DistanceEstimateOf plainSetup diagonalLent largeQuery large ≡ value posZero
+  -- By the one row a score is plus infinity and its sum minus infinity, which is not cut: the score's own 12 comes first.
+  pub row-sum : recordSum rowSetup rowLent rowQuery withOneSign ≡ inf true
+  pub row-distance : l2DistanceEstimateOf rowSetup rowLent rowQuery withOneSign ≡ refused 12 0
   -- ---- what demand 3 compares with: 5 and 3 are 2 apart and not 1, 3 is below 5 by more than 1 and not by more than 2, 5 is not below 3, and 5 − 2 is 3 − 0
   pub near : Near (whole 5) (whole 3) 2
   pub near-turned : Near (whole 3) (whole 5) 2

@@ -11,7 +11,7 @@ nan-only nan h = refl
 nan-only (inf s) h = absurd (false≢true h)
 nan-only (fin s m e) h = absurd (false≢true h)
 
--- what is equal to itself, or differs from itself
+-- what the test finds is whether it is a NaN
 by-test : (x : Float) (b : Bool) → ne x x ≡ b → b ≡ isNan x
 unfolding isNan
 by-test nan true h = refl

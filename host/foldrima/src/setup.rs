@@ -114,7 +114,8 @@ impl Setup<'_> {
         })
     }
 
-    /// The squared distance of a record from a query.
+    /// The squared distance of a record from a query: 12 where its sum (both squared norms,
+    /// less twice the score) is NaN or plus infinity, and 0 where it is not greater than zero.
     pub fn l2_distance_estimate(&self, query: &[f32], record: &[u8]) -> Result<f32, Refusal> {
         let mode = self.mode as u8;
         valued(|number, place, value| unsafe {
