@@ -33,8 +33,12 @@ pub fn hush() {
 
 /// What the Rust answers.
 pub fn ask(case: &Case) -> Answer {
+    caught(|| answer(case))
+}
+
+fn caught(call: impl FnOnce() -> Answer) -> Answer {
     ASKING.set(true);
-    let answer = catch_unwind(AssertUnwindSafe(|| answer(case)));
+    let answer = catch_unwind(AssertUnwindSafe(call));
     ASKING.set(false);
     match answer {
         Ok(answer) => answer,
@@ -50,8 +54,10 @@ pub fn distance_sum(case: &Case) -> Answer {
     let Case::Distance { setup, query, record } = case else {
         return Answer::Absent;
     };
-    with_code(setup, record, |turbo, code| {
-        told(thin::distance_sum(turbo, code, query), Value::Float)
+    caught(|| {
+        with_code(setup, record, |turbo, code| {
+            told(thin::distance_sum(turbo, code, query), Value::Float)
+        })
     })
 }
 

@@ -103,7 +103,8 @@ pub fn record_score(setup: &Setup, query: &[f32], record: &[u8]) -> Option<f32> 
     Some(query_score(setup, &content(record)?, query))
 }
 
-/// The sum of a distance before its cut to zero; None where the score is not finite.
+/// The sum of a distance before its cut to zero; None where the record can't be taken
+/// apart or the score is not finite.
 pub fn distance_sum(setup: &Setup, query: &[f32], record: &[u8]) -> Option<f32> {
     let content = content(record)?;
     let score = query_score(setup, &content, query);

@@ -36,7 +36,7 @@ impl Maker {
         self.kept.clone().unwrap()
     }
 
-    /// A setup of which a few are damaged.
+    /// The kept setup; in a few of a hundred another that is damaged.
     pub(crate) fn setup(&mut self) -> Rc<Setup> {
         let kept = self.kept_setup();
         if self.rng.chance(4) {

@@ -125,6 +125,13 @@ fn by_a_distance_whose_sum_overflows() {
     let own = record(higher, 1);
     assert_eq!(setup.inner_product_estimate(&query, &own), refused(12, 0));
     assert_eq!(setup.l2_distance_estimate(&query, &own), refused(12, 0));
+    // Beside finite norms a score of plus infinity would give a sum that is cut to zero.
+    let matrix = [2f32.powi(100), 0.0];
+    let row = Setup { projections: 1, signs: &[1.0, 1.0], matrix: &matrix, ..SETUP };
+    let signed = [2, 2, 0, 0, 0, 1, 1, 0, 0, 0, 0, 0, 0x80, 0x3F, 1, 1];
+    let query = [1.75 * 2f32.powi(27), 0.0];
+    assert_eq!(row.inner_product_estimate(&query, &signed), refused(12, 0));
+    assert_eq!(row.l2_distance_estimate(&query, &signed), refused(12, 0));
     let long = Setup { directions: &[-1.0, 0.0, 1.0, 1.0], ..setup };
     let below = record([0, 0, 0x20, 0x5F], 1);
     assert_eq!(long.l2_distance_estimate(&[1.25 * 2f32.powi(63), 0.0], &below), Ok(0.0));
