@@ -2,14 +2,15 @@
 """Chooses small cases from a list of answers and writes them in the form that the program
 `replay` reads: its standard input, and what it must print.
 
-    cargo run --release -p cases -- list --count 6000 | ./replay.py ../crates/replay
+    cargo run --release -p cases -- list --count 7000 | ./replay.py ../crates/replay
 
-A line of the list is `call name=value .. => rust VALUE | plain VALUE | refused NUMBER PLACE`.
+A line of the list is `call name=value .. => rust VALUE | plain VALUE | refused NUMBER PLACE | withdrawn`.
 From each call come the first few values and the first few refusals of every number, told
 apart by mode, by radius form and by what offended; distances by `sum` too, which says what
 their sum is before its cut to zero. Every number that a call can give must be among them, and
-every kind of sum. A record that is read stands in the list once for each call that reads it.
-The form of a case is described in crates/replay/src/frame.rt.
+every kind of sum. Of a record of no bytes come withdrawn positions, for each call that takes a
+record, and every refusal that comes before them. A record that is read stands in the list once
+for each call that reads it. The form of a case is described in crates/replay/src/frame.rt.
 """
 import struct
 import sys
@@ -53,8 +54,15 @@ CALLS = {
 }
 # What a distance's sum can be, with the number of its refusal or 0; None where the score is not finite.
 SUMS = {(12, None), (12, "nan"), (12, "+inf"), (0, "-inf"), (0, "finite")}
-# The calls that a line of `read_record` stands for.
+# The calls that a line of `read_record` stands for, and all that take a record.
 READERS = [call for call in CALLS if call.startswith("read_") or call.endswith("_part")]
+TAKERS = [*READERS, "score_prepared", "decode", "score", "distance"]
+# The number of a withdrawn position, and the refusals that can only come after it.
+WITHDRAWN = 255
+AFTER = {13, 18, 17, 16, 14, 20, 12, 6}
+# The modes that withdrawn positions come in, and whether an output has its length; other calls have both modes.
+ROOMS = {call: {(None, True)} for call in READERS}
+ROOMS["decode"] = {(mode, fits) for mode in ("polar", "residual") for fits in (True, False)}
 # The lists of a case, by their places in it, the form of an element, and the mark of one that is not written.
 SIGNS, DIRECTIONS, MATRIX, VECTOR, FLOATS, INDICES, SKETCH, BYTES, PROJECTED, PART = range(10)
 FORMS = {INDICES: "H", SKETCH: "b", BYTES: "B", PART: "B"}
@@ -134,11 +142,6 @@ def offender(fields, number):
     elif number == 5:
         told.append(len(fields["signs"].split(",")) == int(fields["dim"]))
         told.append(2 * len(fields.get("radii", "-").split(",")) == int(fields["dim"]))
-    record = octets(fields.get("record", "-"))
-    if number == 13 and len(fields) == 1:
-        told.append((len(record) < 6, len(record) < 10))
-    if number in (14, 16, 17) and len(fields) == 1:
-        told.append(record[0] & 3)
     if number == 16:
         told.append(fields.get("profile"))
     if number == 1:
@@ -147,7 +150,35 @@ def offender(fields, number):
         told.append(fields.get("out_rotated") == fields.get("dim"))
     if number == 12:
         told.append(fields.get("sum"))
-    return str(told)
+    return str(told + about_record(fields, number))
+
+
+def about_record(fields, number):
+    """What tells two refusals with a record apart, and two withdrawn positions."""
+    if "record" not in fields:
+        return []
+    record, alone = octets(fields["record"]), len(fields) == 1
+    told = [not record]
+    if number == 13:
+        told += [len(record) <= most for most in ((1, 4, 5, 9) if alone else (5,))]
+    if number in (14, 16, 17) and alone:
+        told.append(record[0] & 3)
+    if number == WITHDRAWN:
+        told.append(room(fields))
+    return told
+
+
+def room(fields):
+    """A case's mode, and whether an output that is lent beside a dimension has its length."""
+    return fields.get("mode"), fields.get("out", fields.get("dim")) == fields.get("dim")
+
+
+def ended(answer):
+    """A refusal's number and place, those of a withdrawn position, or 0 and 0 beside a value."""
+    kind, *said = answer.split()
+    if kind == "withdrawn":
+        return WITHDRAWN, 0
+    return (int(said[0]), int(said[1])) if kind == "refused" else (0, 0)
 
 
 def small(fields):
@@ -239,8 +270,7 @@ def told(call, what, parts, three, answer, lists):
 
 def encode(call, fields, text):
     lists = inputs(call, fields)
-    kind, *said = text.split()
-    number, place = (int(said[0]), int(said[1])) if kind == "refused" else (0, 0)
+    number, place = ended(text)
     profile = ["f32", "linear", "log"].index(fields.get("profile", "f32"))
     mode = ["polar", "residual"].index(fields.get("mode", "polar"))
     three = [0, int(fields.get("projections", 0)), 0]
@@ -250,11 +280,12 @@ def encode(call, fields, text):
         three[0] = int(fields["seed"], 16)
     floats = [int(fields.get(name, "0"), 16) for name in ("min", "max", "value")]
     answer = [0, 0]
-    if kind == "refused":
+    if number:
         for list_, room in WRITES.get(call, {}).items():
             lists[list_] = [MARKS[list_]] * int(fields.get(room, 3))
     else:
-        told(call, said[0], said[1:], three, answer, lists)
+        _, what, *parts = text.split()
+        told(call, what, parts, three, answer, lists)
         for list_, room in WRITES.get(call, {}).items():
             assert len(lists[list_]) == int(fields.get(room, len(lists[list_])))
     head = struct.pack("<BBBBQ3Q3I2I", number, mode, profile, int(fields.get("bits", "0")), place, *three, *floats, *answer)
@@ -271,10 +302,20 @@ def encode(call, fields, text):
     return case
 
 
-def main():
-    chosen = {call: [] for call in CALLS}
-    seen, numbers_of, sums = {}, {call: set() for call in CALLS}, set()
-    for line in sys.stdin:
+def kind_of(call, fields, answer):
+    """How many cases of a kind are taken, and what tells it from others of the same call and number."""
+    number, record = ended(answer)[0], octets(fields.get("record", "-"))
+    if number:
+        return REFUSALS, offender(fields, number)
+    limit = SETUP_VALUES if "mode" in fields or record else VALUES
+    limit = 2 * limit if call == "root" else 1 if answer.startswith("plain") else limit
+    return limit, [answer.split()[0], fields.get("mode"), fields.get("profile"), record[:1], fields.get("sum")]
+
+
+def choose(lines):
+    """The cases that are taken, as (call, fields, answer)."""
+    seen = {}
+    for line in lines:
         if line.startswith("#"):
             continue
         asked, answer = line.rstrip("\n").split(" => ")
@@ -282,16 +323,11 @@ def main():
         fields = dict(word.split("=", 1) for word in words)
         if not small(fields):
             continue
-        refused = answer.startswith("refused")
-        number = int(answer.split()[1]) if refused else 0
-        record = octets(fields.get("record", "-"))
-        if refused:
-            limit, kind = REFUSALS, offender(fields, number)
-        else:
-            limit = SETUP_VALUES if "mode" in fields or record else VALUES
-            limit = 2 * limit if call == "root" else 1 if answer.startswith("plain") else limit
-            kind = [answer.split()[0], fields.get("mode"), fields.get("profile"), record[:1], fields.get("sum")]
-        about = seen.setdefault(str([call, number, kind]), set())
+        # What is refused before a record is read is chosen with a whole record, and with none.
+        if 0 < len(octets(fields.get("record", "-"))) < 6 and ended(answer)[0] != 13:
+            continue
+        limit, kind = kind_of(call, fields, answer)
+        about = seen.setdefault(str([call, ended(answer)[0], kind]), set())
         if len(about) >= limit or (classes(fields), asked) in about:
             continue
         # A value of floats whose classes were not there yet is worth more.
@@ -299,15 +335,44 @@ def main():
         if known and len(about) >= limit // 2:
             continue
         about.add((classes(fields), asked))
+        yield call, fields, answer
+
+
+def whole(taken):
+    """Stops where a number, a kind of sum, a withdrawn position or a refusal before it is missing."""
+    numbers_of = {call: set() for call in CALLS}
+    rooms, before = {call: set() for call in TAKERS}, {call: set() for call in TAKERS}
+    sums, lengths = set(), set()
+    for call, fields, answer in taken:
+        number = ended(answer)[0]
         if call == "distance" and number in (0, 12):
             sums.add((number, fields.get("sum")))
+        if call == "read_record" and number == 13:
+            lengths.add(len(octets(fields["record"])))
         for each in READERS if call == "read_record" else [call]:
             numbers_of[each].add(number)
-            chosen[each].append(encode(each, fields, answer))
-    for call, wanted in CALLS.items():
-        assert numbers_of[call] - {0} == wanted, (call, wanted ^ numbers_of[call])
-        assert 0 in numbers_of[call]
+            if number == WITHDRAWN:
+                rooms[each].add(room(fields))
+            elif fields.get("record") == "-":
+                before[each].add(number)
+    for call, refusals in CALLS.items():
+        wanted = refusals | ({0, WITHDRAWN} if call in TAKERS else {0})
+        assert numbers_of[call] == wanted, (call, wanted ^ numbers_of[call])
+    for call in TAKERS:
+        wanted = set() if call in READERS else CALLS[call] - AFTER
+        assert before[call] == wanted, (call, wanted ^ before[call])
+        assert rooms[call] == ROOMS.get(call, {("polar", True), ("residual", True)}), (call, rooms[call])
     assert sums == SUMS, SUMS ^ sums
+    assert {1, 5} <= lengths, lengths
+
+
+def main():
+    taken = list(choose(sys.stdin))
+    whole(taken)
+    chosen = {call: [] for call in CALLS}
+    for call, fields, answer in taken:
+        for each in READERS if call == "read_record" else [call]:
+            chosen[each].append(encode(each, fields, answer))
     total = sum(map(len, chosen.values()))
     with open(f"{sys.argv[1]}/stdin", "wb") as out:
         for call, cases in chosen.items():

@@ -9,12 +9,17 @@
  * anything, NULL too: nothing is read or written through it (tested for every slice of every call). All other pointers (number, place, value, min, max,
  * start, count and the header's) must not be NULL. Memory that a call writes (a pointer that is not const) must overlap nothing else that it is lent.
  *
- * Answers. *number is the refusal's number (FOLDRIMA_..) and *place its place; both are 0 where nothing is refused, and no refusal has the number 0. A
- * refusal writes to no other memory: *value and every output keep what they held.
+ * Answers. There are three kinds, told by *number and *place: beside a value they are 0 and 0, of a refusal its number (FOLDRIMA_..) and its place, and
+ * of a withdrawn position FOLDRIMA_WITHDRAWN and 0. No refusal has the number 0 or 255. Neither a refusal nor a withdrawn position writes to any other
+ * memory: *value, the header's values and every output keep what they held.
+ *
+ * Withdrawn positions. A record of no bytes means that a position was withdrawn: that is no refusal, and there is no value. Only a call that takes a
+ * record answers so, and its comment says where withdrawn comes in its order; a record of 1 to 5 bytes is refused (13). The calls that find a record's
+ * parts have no *number: of a record that is refused or withdrawn they find an empty part.
  *
  * Outputs. What a call writes to need not be initialised: it is written whole, or not at all. An output must have exactly the needed length, else 6 with
- * the needed length as the place, after all other checks. So a call with an output of length 0 tells the needed length, unless something else is refused
- * or 0 was right; beforehand:
+ * the needed length as the place, after all other checks. A withdrawn position needs no length: it is answered before 6, whatever length is lent. So a
+ * call with an output of length 0 tells the needed length, unless something else is refused, the record is withdrawn, or 0 was right; beforehand:
  *
  *     pack_indices                    foldrima_packed_len(indices_len, bits, ..)
  *     unpack_indices, unpack_signs    count
@@ -99,6 +104,10 @@ extern "C" {
 #define FOLDRIMA_LENGTH_OVERFLOW 19       /* count times bits exceeds the largest size_t; place 0 */
 #define FOLDRIMA_PROFILE_MISMATCH 20      /* a record's bits or projections are not the setup's; place 0 */
 
+/* ---- a withdrawn position */
+
+#define FOLDRIMA_WITHDRAWN 255            /* the record has no bytes: no refusal and no value; place 0 */
+
 /* ---- setup */
 
 /* Whether a setup is accepted: 2, 3, 1, 8, 4, 5 for signs, directions, matrix, 10, 7, 9. */
@@ -163,24 +172,25 @@ void foldrima_prepare_query(uint8_t mode, size_t dim, uint8_t bits, size_t proje
                             size_t directions_len, const float *matrix, size_t matrix_len, const float *query, size_t query_len, float *rotated,
                             size_t rotated_len, float *projected, size_t projected_len, uint32_t *number, size_t *place);
 
-/* The score of a record by a query: setup, 5, 11 thrice, the record's reading, 5, 20, 12. */
+/* The score of a record by a query: setup, 5, 11 thrice, withdrawn, the record's reading, 5, 20, 12. */
 void foldrima_inner_product_estimate(uint8_t mode, size_t dim, uint8_t bits, size_t projections, const float *signs, size_t signs_len,
                                      const float *directions, size_t directions_len, const float *matrix, size_t matrix_len, const float *query,
                                      size_t query_len, const uint8_t *bytes, size_t bytes_len, uint32_t *number, size_t *place, float *value);
 
-/* The score of a record by a prepared query: 2, 3, 1, 8, 4, 5 and 7 for the directions, 5 twice, 11 twice, the record's reading, 5, 20, 12. */
+/* The score of a record by a prepared query: 2, 3, 1, 8, 4, 5 and 7 for the directions, 5 twice, 11 twice, withdrawn, the record's reading, 5, 20,
+ * 12. */
 void foldrima_inner_product_estimate_prepared(uint8_t mode, size_t dim, uint8_t bits, size_t projections, const float *directions,
                                               size_t directions_len, const float *rotated, size_t rotated_len, const float *projected,
                                               size_t projected_len, const uint8_t *bytes, size_t bytes_len, uint32_t *number, size_t *place,
                                               float *value);
 
-/* The squared distance of a record from a query: the score's refusals, then 12 of its own, where its sum (both squared norms, less twice the score) is
- * NaN or plus infinity. It is 0 where the sum is not greater than zero, minus infinity included. */
+/* The squared distance of a record from a query: the score's refusals, with withdrawn in the same place, then 12 of its own, where its sum (both squared
+ * norms, less twice the score) is NaN or plus infinity. It is 0 where the sum is not greater than zero, minus infinity included. */
 void foldrima_l2_distance_estimate(uint8_t mode, size_t dim, uint8_t bits, size_t projections, const float *signs, size_t signs_len,
                                    const float *directions, size_t directions_len, const float *matrix, size_t matrix_len, const float *query,
                                    size_t query_len, const uint8_t *bytes, size_t bytes_len, uint32_t *number, size_t *place, float *value);
 
-/* The vector that a record stands for (dim entries): setup, the record's reading, 5, 20, 6. */
+/* The vector that a record stands for (dim entries): setup, withdrawn, the record's reading, 5, 20, 6. */
 void foldrima_decode_approximate(uint8_t mode, size_t dim, uint8_t bits, size_t projections, const float *signs, size_t signs_len,
                                  const float *directions, size_t directions_len, const float *matrix, size_t matrix_len, const uint8_t *bytes,
                                  size_t bytes_len, float *out, size_t out_len, uint32_t *number, size_t *place);
@@ -221,27 +231,28 @@ void foldrima_write_record(uint8_t profile, size_t dim, uint8_t bits, uint8_t mo
                            const uint16_t *indices, size_t indices_len, const int8_t *signs, size_t signs_len, uint8_t *out, size_t out_len,
                            uint32_t *number, size_t *place);
 
-/* Reads a record's header: 13, 18, 2, 3, 4, 1, 13, 8, 13, 17, 16, 14 for the indices, 14 for the signs. mode and profile come back as 0 or 1; bits are
- * the polar bits. Where the radii are F32 there is no range: min and max are 0 and 0. Where there are no signs, mode is PolarOnly and projections 0. */
+/* Reads a record's header: withdrawn, 13, 18, 2, 3, 4, 1, 13, 8, 13, 17, 16, 14 for the indices, 14 for the signs. mode and profile come back as 0 or 1;
+ * bits are the polar bits. Where the radii are F32 there is no range: min and max are 0 and 0. Where there are no signs, mode is PolarOnly and
+ * projections 0. */
 void foldrima_read_record(const uint8_t *bytes, size_t bytes_len, uint32_t *number, size_t *place, uint8_t *mode, uint8_t *profile, size_t *dim,
                           uint8_t *bits, size_t *projections, float *min, float *max);
 
-/* Where the radii stand in a record's bytes; start and count are 0 where the record is refused. */
+/* Where the radii stand in a record's bytes; start and count are 0 where the record is refused or withdrawn. */
 void foldrima_radii_part(const uint8_t *bytes, size_t bytes_len, size_t *start, size_t *count);
 
-/* Where the indices stand; start and count are 0 where the record is refused. */
+/* Where the indices stand; start and count are 0 where the record is refused or withdrawn. */
 void foldrima_indices_part(const uint8_t *bytes, size_t bytes_len, size_t *start, size_t *count);
 
-/* Where the signs stand; start and count are 0 where the record is refused. Where it has no signs, start is its length and count 0. */
+/* Where the signs stand; start and count are 0 where the record is refused or withdrawn. Where it has no signs, start is its length and count 0. */
 void foldrima_signs_part(const uint8_t *bytes, size_t bytes_len, size_t *start, size_t *count);
 
-/* The radii of a record (dimension / 2): the reading's refusals, 6. */
+/* The radii of a record (dimension / 2): withdrawn, the reading's refusals, 6. */
 void foldrima_read_radii(const uint8_t *bytes, size_t bytes_len, float *out, size_t out_len, uint32_t *number, size_t *place);
 
-/* The indices of a record (dimension / 2): the reading's refusals, 6. */
+/* The indices of a record (dimension / 2): withdrawn, the reading's refusals, 6. */
 void foldrima_read_indices(const uint8_t *bytes, size_t bytes_len, uint16_t *out, size_t out_len, uint32_t *number, size_t *place);
 
-/* The signs of a record (its projections; none where it has no signs): the reading's refusals, 6. */
+/* The signs of a record (its projections; none where it has no signs): withdrawn, the reading's refusals, 6. */
 void foldrima_read_signs(const uint8_t *bytes, size_t bytes_len, int8_t *out, size_t out_len, uint32_t *number, size_t *place);
 
 #ifdef __cplusplus

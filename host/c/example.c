@@ -1,5 +1,5 @@
 /*
- * Packs three indices, writes a record, scores it, and is refused once.
+ * Packs three indices, writes a record, scores it, is refused once, and meets a withdrawn position.
  *
  *     rt staticlib capi
  *     cc -I include host/c/example.c target/staticlib/libcapi.a -o example && ./example
@@ -36,5 +36,11 @@ int main(void)
     /* A record cut short: 13 at the length found, and the score stays. */
     foldrima_inner_product_estimate(FOLDRIMA_POLAR_ONLY, 2, 1, 0, signs, 2, directions, 4, NULL, 0, query, 2, record, 10, &number, &place, &score);
     printf("refused: %u %zu, %.6f\n", number, place, score);
-    return number == FOLDRIMA_MALFORMED_LENGTH ? 0 : 1;
+    if (number != FOLDRIMA_MALFORMED_LENGTH)
+        return 1;
+
+    /* A record of no bytes: the position is withdrawn, and the score stays. */
+    foldrima_inner_product_estimate(FOLDRIMA_POLAR_ONLY, 2, 1, 0, signs, 2, directions, 4, NULL, 0, query, 2, NULL, 0, &number, &place, &score);
+    printf("withdrawn: %u %zu, %.6f\n", number, place, score);
+    return number == FOLDRIMA_WITHDRAWN ? 0 : 1;
 }

@@ -29,13 +29,13 @@ use Rattle.setup_tables.specs.Checks.{badDirection}
 use Rattle.turbo_distance.specs.Distance.{distanceSum, cutAtZero, distanceBySum}
 use Rattle.turbo.specs.Distance.{l2DistanceEstimateOf}
 use Rattle.turbo_laws.specs.Amended.{formerDistanceOf}
-use Rattle.turbo.specs.Estimates.{innerProductEstimateOf}
+use Rattle.turbo.specs.Estimates.{innerProductEstimateOf, innerProductEstimatePreparedOf}
 use Rattle.turbo_decode.specs.Decode.{decodeApproximateOf}
 use Rattle.turbo_order.specs.Scores.{scoreFrom, exactBy, sizeBy, perUnit, perStep, perRadius, boundBy, scoreOf}
 use Rattle.anchors.specs.Anchors.{Anchors}
 
 pub anchors : Anchors
-unfolding ne ones onesIn trailingZeros ofBits add sub mul div lt le ofInt badPadding number digits place badValue ofLeBytes pi rootBits nearestRoot dropped rootPattern squareRoot unit mag chunks boundsOf projectionsOf radiiBytes indicesBytes signsBytes radiiOf indicesOf signsOf exactTerm exactPolar sizeTerm polarSize directionTerm directionSum term polarSumOf laid decodedPairs exactResidual residualSize root scaleOf signSumOf residualOf exactRotated inverseRoot scaled hadamardOf rotated unrotated from entry stage stages projected exactProjected projectedSizes running products exactTotal exactProducts turnedEach sum absoluteSum weighted val badDirection isNan distanceSum cutAtZero distanceBySum l2DistanceEstimateOf formerDistanceOf innerProductEstimateOf decodeApproximateOf scoreFrom exactBy sizeBy perUnit perStep perRadius boundBy scoreOf
+unfolding ne ones onesIn trailingZeros ofBits add sub mul div lt le ofInt badPadding number digits place badValue ofLeBytes pi rootBits nearestRoot dropped rootPattern squareRoot unit mag chunks boundsOf projectionsOf radiiBytes indicesBytes signsBytes radiiOf indicesOf signsOf exactTerm exactPolar sizeTerm polarSize directionTerm directionSum term polarSumOf laid decodedPairs exactResidual residualSize root scaleOf signSumOf residualOf exactRotated inverseRoot scaled hadamardOf rotated unrotated from entry stage stages projected exactProjected projectedSizes running products exactTotal exactProducts turnedEach sum absoluteSum weighted val badDirection isNan distanceSum cutAtZero distanceBySum l2DistanceEstimateOf formerDistanceOf innerProductEstimateOf innerProductEstimatePreparedOf decodeApproximateOf scoreFrom exactBy sizeBy perUnit perStep perRadius boundBy scoreOf
 anchors = record {
   p12-score = refl;
   p12-exact = record { even = refl };
@@ -58,6 +58,15 @@ anchors = record {
   large-distance = refl;
   row-sum = refl;
   row-distance = refl;
+  none-score = refl;
+  none-query = refl;
+  none-prepared = refl;
+  none-unprepared = refl;
+  none-distance = refl;
+  none-decoded = refl;
+  none-setup = refl;
+  short-score = refl;
+  short-decoded = refl;
   near = record { above = omega arith; below = omega arith };
   near-turned = record { above = omega arith; below = omega arith };
   not-near = λ n. omega (arith, n .above);

@@ -1,5 +1,5 @@
 -- Score, exact score, bound, distance and decoding of document 01's records P12 and P13 stand here as numbers, and beside them each exact form and each size that a
--- bound is made of; then distances near the top of f32. A definition that stands on the generous side of an inequality could grow without any proof failing:
+-- bound is made of; then distances near the top of f32, and withdrawn positions. A definition that stands on the generous side of an inequality could grow without any proof failing:
 -- these lines pin it. Assumes nothing.
 use Prim.Native.Nat.{ℕ, _+_, _-_, _*_, _^_}
 use mathlib.Core.Path.{_≡_}
@@ -7,7 +7,7 @@ use mathlib.Core.Bool.{true, false}
 use mathlib.Core.List.{List, [], _∷_}
 use lib.IntN.{pos, negsuc}
 use lib.Ieee.{Float, nan, inf, fin, binary32, ofBits}
-use Rattle.error.specs.Answer.{value, refused}
+use Rattle.error.specs.Answer.{value, refused, withdrawn}
 use Rattle.float.specs.Constants.{posZero, one}
 use Rattle.rounding.specs.Signed.{Diff, Near, Same, Under, signed}
 use Rattle.rounding.specs.Sums.{exactTotal, absoluteSum}
@@ -20,7 +20,7 @@ use Rattle.setup.specs.Lent.{Lent, lent}
 use Rattle.setup.specs.Setups.{countedProjectionsOf}
 use Rattle.qjl_residual.specs.Exact.{exactResidual, residualSize}
 use Rattle.turbo_order.specs.Scores.{unitScale, perUnit, perStep, perRadius, accountOf}
-use Rattle.turbo.specs.Estimates.{innerProductEstimateOf}
+use Rattle.turbo.specs.Estimates.{innerProductEstimateOf, innerProductEstimatePreparedOf}
 use Rattle.turbo.specs.Distance.{l2DistanceEstimateOf}
 use Rattle.turbo.specs.Order.{exactOf, boundFor}
 use Rattle.turbo_laws.specs.Amended.{recordSum, formerDistanceOf}
@@ -131,6 +131,16 @@ pub record Anchors : Type 0 where
   -- By the one row a score is plus infinity and its sum minus infinity, which is not cut: the score's own 12 comes first.
   pub row-sum : recordSum rowSetup rowLent rowQuery withOneSign ≡ inf true
   pub row-distance : l2DistanceEstimateOf rowSetup rowLent rowQuery withOneSign ≡ refused 12 0
+  -- ---- no bytes: the query's checks come first, and 6 does not; one byte is 13
+  pub none-score : innerProductEstimateOf plainSetup plainLent queryLent [] ≡ withdrawn
+  pub none-query : innerProductEstimateOf plainSetup plainLent [] [] ≡ refused 5 0
+  pub none-prepared : innerProductEstimatePreparedOf plainSetup directionsLent queryLent [] [] ≡ withdrawn
+  pub none-unprepared : innerProductEstimatePreparedOf plainSetup directionsLent [] [] [] ≡ refused 5 0
+  pub none-distance : l2DistanceEstimateOf plainSetup plainLent queryLent [] ≡ withdrawn
+  pub none-decoded : decodeApproximateOf plainSetup plainLent [] 0 ≡ withdrawn
+  pub none-setup : decodeApproximateOf residualSetup plainLent [] 2 ≡ refused 5 0
+  pub short-score : innerProductEstimateOf plainSetup plainLent queryLent (0 ∷ []) ≡ refused 13 1
+  pub short-decoded : decodeApproximateOf plainSetup plainLent (0 ∷ []) 2 ≡ refused 13 1
   -- ---- what demand 3 compares with: 5 and 3 are 2 apart and not 1, 3 is below 5 by more than 1 and not by more than 2, 5 is not below 3, and 5 − 2 is 3 − 0
   pub near : Near (whole 5) (whole 3) 2
   pub near-turned : Near (whole 3) (whole 5) 2

@@ -1,8 +1,8 @@
--- Answers that leave by lent numbers: what these hold where an answer is a value or a refusal, and where one answer is another. Assumes nothing.
+-- Answers that leave by lent numbers: what these hold where an answer is a value, a refusal or withdrawn, and where one answer is another. Assumes nothing.
 use Prim.Native.Nat.{ℕ}
 use mathlib.Core.Path.{_≡_, sym, ap, _∙_}
-use Rattle.error.specs.Answer.{Answer, value, refused, after}
-use Rattle.capi.specs.Told.{Said, said, told, part}
+use Rattle.error.specs.Answer.{Answer, value, refused, withdrawn, after}
+use Rattle.capi.specs.Told.{Said, said, withdrawnNumber, told, part}
 
 -- ---- by cases of the answer
 
@@ -12,11 +12,17 @@ told-value e = sym (ap told e)
 pub told-refused : {A : Type 0} {a : Answer A} {n p : ℕ} → a ≡ refused n p → said n p ≡ told a
 told-refused e = sym (ap told e)
 
+pub told-withdrawn : {A : Type 0} {a : Answer A} → a ≡ withdrawn → said withdrawnNumber 0 ≡ told a
+told-withdrawn e = sym (ap told e)
+
 pub part-value : {A B : Type 0} (f : A → B) (old : B) {a : Answer A} {x : A} → a ≡ value x → f x ≡ after (part f a) old
 part-value {A} f old e = sym (ap (λ (b : Answer A). after (part f b) old) e)
 
 pub part-refused : {A B : Type 0} (f : A → B) (old : B) {a : Answer A} {n p : ℕ} → a ≡ refused n p → old ≡ after (part f a) old
 part-refused {A} f old e = sym (ap (λ (b : Answer A). after (part f b) old) e)
+
+pub part-withdrawn : {A B : Type 0} (f : A → B) (old : B) {a : Answer A} → a ≡ withdrawn → old ≡ after (part f a) old
+part-withdrawn {A} f old e = sym (ap (λ (b : Answer A). after (part f b) old) e)
 
 -- ---- by the answer that a call promises
 

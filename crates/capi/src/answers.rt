@@ -1,9 +1,11 @@
-// Each kind of answer into lent numbers: a refusal's number and place, or 0 and 0, and the value where there is one.
+// Each kind of answer into lent numbers: a refusal's number and place, 0 and 0 beside a value, or the number of a withdrawn position and 0; and the value
+// where there is one.
 use crate::codes;
 use codebook::Dequantized;
 use codebook::LevelCount;
 use codebook::Made;
 use codebook::Quantized;
+use error::Filled;
 use error::Length;
 use error::Outcome;
 use error::Scored;
@@ -12,7 +14,7 @@ use polar::Angle;
 use radius_writing::Compressed;
 ghost use mathlib.Core.Path.{_≡_};
 ghost use Rattle.error.specs.Answer.{after};
-ghost use Rattle.error.specs.Outcomes.{says, saysScore};
+ghost use Rattle.error.specs.Outcomes.{says, saysFilled, saysScore};
 ghost use Rattle.error.specs.Lengths.{saysLength};
 ghost use Rattle.codebook.specs.Says.{saysMade, saysCount, saysIndex, saysPoint};
 ghost use Rattle.packed.specs.Reading.{saysReading};
@@ -20,6 +22,9 @@ ghost use Rattle.polar.specs.Angle.{saysAngle};
 ghost use Rattle.radius_writing.specs.Says.{saysRange};
 ghost use Rattle.capi.specs.Told.{said, told, part};
 ghost use Rattle.capi.specs.Codes.{minOf, maxOf, headerMode, headerProfile, headerDim, headerBits, headerProjections, headerMin, headerMax};
+
+// The number of a withdrawn position, which no refusal has.
+pub const WITHDRAWN: u32 = 255;
 
 // An answer without a value of its own.
 pub fn tell(answer: Outcome, number: &mut u32, place: &mut usize)
@@ -36,6 +41,29 @@ pub fn tell(answer: Outcome, number: &mut u32, place: &mut usize)
         } => {
             *number = n;
             *place = p;
+        }
+    }
+}
+
+// An answer without a value of its own, of a call that takes a record.
+pub fn tell_filled(answer: Filled, number: &mut u32, place: &mut usize)
+    ensures { λ _. ⌜ said (now (number .exit)) (now (place .exit)) ≡ told (saysFilled answer) ⌝ }
+{
+    match answer {
+        Filled::Done => {
+            *number = 0;
+            *place = 0;
+        }
+        Filled::Refused {
+            number: n,
+            place: p,
+        } => {
+            *number = n;
+            *place = p;
+        }
+        Filled::Withdrawn => {
+            *number = WITHDRAWN;
+            *place = 0;
         }
     }
 }
@@ -211,6 +239,10 @@ pub fn tell_score(answer: Scored, number: &mut u32, place: &mut usize, value: &m
             *number = n;
             *place = p;
         }
+        Scored::Withdrawn => {
+            *number = WITHDRAWN;
+            *place = 0;
+        }
     }
 }
 
@@ -229,6 +261,10 @@ pub fn tell_read(answer: Reading, number: &mut u32, place: &mut usize)
         } => {
             *number = n;
             *place = p;
+        }
+        Reading::Withdrawn => {
+            *number = WITHDRAWN;
+            *place = 0;
         }
     }
 }
@@ -252,15 +288,22 @@ pub fn tell_header(
     ensures least { λ _. ⌜ now (min .exit) ≡ after (part headerMin (saysReading answer)) (now (min .entry)) ⌝ }
     ensures greatest { λ _. ⌜ now (max .exit) ≡ after (part headerMax (saysReading answer)) (now (max .entry)) ⌝ }
 {
-    if let Reading::Read(header) = answer {
-        let found = header.mode;
-        let codec = header.profile;
-        *mode = codes::mode_number(found);
-        *profile = codes::profile_number(codec);
-        *dim = header.dim;
-        *bits = header.bits;
-        *projections = header.projections;
-        *min = header.range.min;
-        *max = header.range.max;
+    match answer {
+        Reading::Read(header) => {
+            let found = header.mode;
+            let codec = header.profile;
+            *mode = codes::mode_number(found);
+            *profile = codes::profile_number(codec);
+            *dim = header.dim;
+            *bits = header.bits;
+            *projections = header.projections;
+            *min = header.range.min;
+            *max = header.range.max;
+        }
+        Reading::Refused {
+            number: _,
+            place: _,
+        } => {}
+        Reading::Withdrawn => {}
     }
 }

@@ -1,5 +1,6 @@
 // The record: read, its three parts as a start and a length in its own bytes, its values, and written.
 use crate::answers::tell;
+use crate::answers::tell_filled;
 use crate::answers::tell_header;
 use crate::answers::tell_length;
 use crate::answers::tell_read;
@@ -43,7 +44,7 @@ pub extern "C" fn foldrima_read_record(
     tell_header(answer, mode, profile, dim, bits, projections, min, max);
 }
 
-// Where the part of the record stands that holds the radii; empty where the record is refused.
+// Where the part of the record stands that holds the radii; empty where the record is refused or withdrawn.
 #[no_mangle]
 pub extern "C" fn foldrima_radii_part(bytes: &[u8], start: &mut usize, count: &mut usize)
     ensures stands { λ _. ⌜ now (start .exit) ≡ locateOf (now (bytes .entry)) .radii ⌝ }
@@ -56,7 +57,7 @@ pub extern "C" fn foldrima_radii_part(bytes: &[u8], start: &mut usize, count: &m
     *count = packed_parts::cut(bytes, places.radii, places.indices).len();
 }
 
-// Where the part of the record stands that holds the indices; empty where the record is refused.
+// Where the part of the record stands that holds the indices; empty where the record is refused or withdrawn.
 #[no_mangle]
 pub extern "C" fn foldrima_indices_part(bytes: &[u8], start: &mut usize, count: &mut usize)
     ensures stands { λ _. ⌜ now (start .exit) ≡ locateOf (now (bytes .entry)) .indices ⌝ }
@@ -69,7 +70,7 @@ pub extern "C" fn foldrima_indices_part(bytes: &[u8], start: &mut usize, count: 
     *count = packed_parts::cut(bytes, places.indices, places.signs).len();
 }
 
-// Where the part of the record stands that holds the signs; empty where the record is refused or has none.
+// Where the part of the record stands that holds the signs; empty where the record is refused, withdrawn or has none.
 #[no_mangle]
 pub extern "C" fn foldrima_signs_part(bytes: &[u8], start: &mut usize, count: &mut usize)
     ensures stands { λ _. ⌜ now (start .exit) ≡ locateOf (now (bytes .entry)) .signs ⌝ }
@@ -93,7 +94,7 @@ pub extern "C" fn foldrima_read_radii(
     ensures answer { λ _. ⌜ said (now (number .exit)) (now (place .exit)) ≡ told (done (readRadiiOf (now (bytes .entry)) (length (now (out .entry))))) ⌝ }
     ensures left { λ _. ⌜ now (out .exit) ≡ after (readRadiiOf (now (bytes .entry)) (length (now (out .entry)))) (now (out .entry)) ⌝ }
 {
-    tell(packed_values::read_radii(bytes, out), number, place);
+    tell_filled(packed_values::read_radii(bytes, out), number, place);
 }
 
 // The indices of a record.
@@ -107,7 +108,7 @@ pub extern "C" fn foldrima_read_indices(
     ensures answer { λ _. ⌜ said (now (number .exit)) (now (place .exit)) ≡ told (done (readIndicesOf (now (bytes .entry)) (length (now (out .entry))))) ⌝ }
     ensures left { λ _. ⌜ now (out .exit) ≡ after (readIndicesOf (now (bytes .entry)) (length (now (out .entry)))) (now (out .entry)) ⌝ }
 {
-    tell(packed_values::read_indices(bytes, out), number, place);
+    tell_filled(packed_values::read_indices(bytes, out), number, place);
 }
 
 // The signs of a record.
@@ -121,7 +122,7 @@ pub extern "C" fn foldrima_read_signs(
     ensures answer { λ _. ⌜ said (now (number .exit)) (now (place .exit)) ≡ told (done (readSignsOf (now (bytes .entry)) (length (now (out .entry))))) ⌝ }
     ensures left { λ _. ⌜ now (out .exit) ≡ after (readSignsOf (now (bytes .entry)) (length (now (out .entry)))) (now (out .entry)) ⌝ }
 {
-    tell(packed_values::read_signs(bytes, out), number, place);
+    tell_filled(packed_values::read_signs(bytes, out), number, place);
 }
 
 // How many bytes a record takes. Without signs the projections are ignored.

@@ -1,6 +1,7 @@
 // Scores of a record by a query or by a prepared one, the distance, and the decoding. A setup's scalars are passed one by one; a mode is a number: 0 is
 // PolarOnly, every other one PolarWithQjl.
 use crate::answers::tell;
+use crate::answers::tell_filled;
 use crate::answers::tell_score;
 use crate::codes;
 ghost use mathlib.Core.Path.{_≡_};
@@ -152,7 +153,7 @@ pub extern "C" fn foldrima_decode_approximate(
     ensures left { λ _. ⌜ now (out .exit) ≡ after (decodeApproximateOf (setupFrom mode dim bits projections) (lent (now (signs .entry)) (now (directions .entry)) (now (matrix .entry))) (now (bytes .entry)) (length (now (out .entry)))) (now (out .entry)) ⌝ }
 {
     let scalars = codes::setup(mode, dim, bits, projections);
-    tell(
+    tell_filled(
         turbo_decode::decode_approximate(scalars, signs, directions, matrix, bytes, out),
         number,
         place,

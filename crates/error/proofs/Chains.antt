@@ -5,11 +5,18 @@ use mathlib.Core.Path.{_≡_, refl, sym, _∙_}
 use mathlib.Core.Bool.{Bool, true, false, _||_}
 use mathlib.Core.List.{List, [], _∷_, _++_}
 use native.Mathlib.Omega.{arith}
-use Rattle.error.specs.Answer.{Answer, value, refused, Check, check, first, accepted, done}
+use Rattle.error.specs.Answer.{Answer, value, refused, withdrawn, Check, check, first, accepted, done}
 
 -- not both a value and a refusal
 pub value-not-refused {ℓ} : {A : Type 0} {X : Type ℓ} {x : A} {n p : ℕ} → value x ≡ refused n p → X
 value-not-refused e = let z : _≡_ {A = ℕ} 0 1 = cc in absurd (omega arith)
+
+-- nor is either of them a withdrawn position
+pub value-not-withdrawn {ℓ} : {A : Type 0} {X : Type ℓ} {x : A} → value x ≡ withdrawn → X
+value-not-withdrawn e = let z : _≡_ {A = ℕ} 0 1 = cc in absurd (omega arith)
+
+pub refused-not-withdrawn {ℓ} : {A : Type 0} {X : Type ℓ} {n p : ℕ} → _≡_ {A = Answer A} (refused n p) withdrawn → X
+refused-not-withdrawn e = let z : _≡_ {A = ℕ} 0 1 = cc in absurd (omega arith)
 
 -- neither of two tests holds
 pub or-false : (a b : Bool) → (a || b) ≡ false → (a ≡ false) × (b ≡ false)

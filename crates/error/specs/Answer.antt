@@ -1,15 +1,16 @@
--- A call answers a value, or a refusal of a number and a place; lent memory then holds the whole result, or what it held. The order of document 01's checks is the
--- order of a list: 'Where several items offend, the first one counts.' Assumes nothing.
+-- A call answers a value, a refusal of a number and a place, or that a position is withdrawn; lent memory then holds the whole result, or what it held. The order of
+-- document 01's checks is the order of a list: 'Where several items offend, the first one counts.' Assumes nothing.
 use Prim.Native.Nat.{ℕ, suc}
 use mathlib.Core.Bool.{Bool, true, false, cond, not}
 use mathlib.Core.List.{List, [], _∷_}
 use lib.Dec.{ltb}
 use lib.ListN.{length}
 
--- 'An answer is a value or a refusal of a number and a place.'
+-- 'An answer is a value or a refusal of a number and a place.' Document 02 adds, in request b), that a position may be withdrawn, which is neither.
 pub data Answer (A : Type 0) : Type 0 where
   value : A → Answer A
   refused : ℕ → ℕ → Answer A
+  withdrawn : Answer A
 
 -- A check is made of whether it offends, its number and its place.
 pub data Check : Type 0 where
@@ -42,12 +43,15 @@ each bad n xs = check (ltb (place bad xs) (length xs)) n (place bad xs)
 abbrev pub accepted : Answer (Unit {0})
 accepted = value tt
 
--- Of an answer this keeps whether it is refused, and with what, and drops the value.
+-- Of an answer this keeps whether it is refused, and with what, or withdrawn, and drops the value.
 abbrev pub done : {A : Type 0} → Answer A → Answer (Unit {0})
 done (value x) = accepted
 done (refused n p) = refused n p
+done withdrawn = withdrawn
 
--- 'A refusal writes to no lent memory.' Memory that held `old` holds the answer's value afterwards, or `old` where the answer is refused.
+-- 'A refusal writes to no lent memory', and no more does a withdrawn position. Memory that held `old` holds the answer's value afterwards, or `old` where there is
+-- none.
 abbrev pub after : {A : Type 0} → Answer A → A → A
 after (value x) old = x
 after (refused n p) old = old
+after withdrawn old = old

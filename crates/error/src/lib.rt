@@ -1,10 +1,10 @@
-// The refusals; the answers of a call that has no value of its own, of one that counts bytes and of one that scores; and the check of floats that
-// several crates above make.
+// The refusals; the answers of a call that has no value of its own, of one that fills memory from a record, of one that counts bytes and of one that
+// scores; and the check of floats that several crates above make.
 // Ported from turbo-quant/src/error.rs and changed: an error is a number and a place.
 
 ghost use mathlib.Core.Path.{_≡_};
 ghost use Rattle.error.specs.Checks.{badValue, firstNonFiniteOf, finiteScoreOf};
-ghost use Rattle.error.specs.Outcomes.{saysScore};
+ghost use Rattle.error.specs.Outcomes.{says, saysFilled, saysScore};
 ghost use Rattle.error.specs.Answer.{clear};
 
 // The refusal numbers of document 01. A name is the Rust's where it has one.
@@ -56,16 +56,34 @@ pub enum Outcome {
     Refused { number: u32, place: usize },
 }
 
+// What a call answers that fills lent memory from a record: a withdrawn position is neither done nor refused.
+pub enum Filled {
+    Done,
+    Refused { number: u32, place: usize },
+    Withdrawn,
+}
+
 // What a call answers that counts bytes.
 pub enum Length {
     Bytes(usize),
     Refused { number: u32, place: usize },
 }
 
-// A score or a distance with its value, or a refusal.
+// A score or a distance with its value, a refusal, or a withdrawn position, which has neither.
 pub enum Scored {
     Score(f32),
     Refused { number: u32, place: usize },
+    Withdrawn,
+}
+
+// The outcome of a call that is no record's, as an answer of one that is.
+pub fn as_filled(outcome: Outcome) -> Filled
+    ensures { λ r. ⌜ saysFilled r ≡ says outcome ⌝ }
+{
+    match outcome {
+        Outcome::Done => Filled::Done,
+        Outcome::Refused { number, place } => Filled::Refused { number, place },
+    }
 }
 
 // A score or a distance, or 12 where it is not finite.

@@ -1,7 +1,7 @@
 -- The reader answers a value exactly for the accepted records: `read-accepts` and `accepted-reads`. What it answers then is the header that
 -- the bytes hold. Assumes nothing.
 use Prim.Native.Nat.{ℕ, _%_, _≤_, _<_}
-use mathlib.Core.Path.{_≡_, refl, sym}
+use mathlib.Core.Path.{_≡_, refl, sym, _∙_}
 use mathlib.Core.Bool.{Bool, true, false, cond, true≢false}
 use mathlib.Core.List.{List}
 use native.Mathlib.Omega.{arith}
@@ -22,9 +22,10 @@ use Rattle.radius.specs.Radii.{badRadius}
 use Rattle.packed.specs.Fields.{mapOf, hasRange, hasSigns, dimOf, bitsOf, boundsOf, projectionsOf}
 use Rattle.packed.specs.Layout.{headerLength, recordLength, headerOf}
 use Rattle.packed.specs.Radii.{badBounds, badBoundsFor}
-use Rattle.packed.specs.Reading.{radiiOf, badPolarBits, recordChecks, readRecordOf}
+use Rattle.packed.specs.Reading.{radiiOf, badPolarBits, isWithdrawn, recordChecks, readRecordOf}
 use Rattle.setup.specs.Checks.{badProjections}
 use Rattle.packed.specs.Accepted.{Accepted}
+use Rattle.packed.proofs.Withdrawn.{unless-some, read-passed}
 
 -- ---- the checks that depend on a bit of the map byte, both ways
 
@@ -66,9 +67,8 @@ bounds-pass false range h = refl
 module _ (bytes : List ℕ) {header : Header} (read : readRecordOf bytes ≡ value header) where
   -- 'the listed conditions are the sole ones': what is read meets them all
   pub read-accepts : Accepted bytes
-  unfolding readRecordOf
   read-accepts =
-      let all = first-all (recordChecks bytes) (value (headerOf bytes)) read in
+      let all = first-all (recordChecks bytes) (value (headerOf bytes)) (read-passed bytes read .1) in
       let powers = or-false _ _ (all .1 .1 .1 .1 .0) in
       let above = eqb-false (dimOf bytes) 0 (all .1 .1 .0) in
       let even = eqb-false (dimOf bytes % 2) 1 (all .1 .1 .1 .0) in
@@ -94,14 +94,18 @@ module _ (bytes : List ℕ) {header : Header} (read : readRecordOf bytes ≡ val
 
   -- and the header is the one that the bytes hold
   pub read-header : header ≡ headerOf bytes
-  unfolding readRecordOf
-  read-header = sym (first-value (recordChecks bytes) (headerOf bytes) read)
+  read-header = sym (first-value (recordChecks bytes) (headerOf bytes) (read-passed bytes read .1))
+
+-- an accepted record is no withdrawn position
+pub accepted-some : (bytes : List ℕ) → Accepted bytes → isWithdrawn bytes ≡ false
+accepted-some bytes a = ne-eqb (length bytes) 0 (λ z. omega (arith, z, a .long))
 
 -- an accepted record is read
 pub accepted-reads : (bytes : List ℕ) → Accepted bytes → readRecordOf bytes ≡ value (headerOf bytes)
 unfolding readRecordOf
 accepted-reads bytes a =
-    first-accepts (recordChecks bytes) (value (headerOf bytes)) (
+    unless-some bytes _ (accepted-some bytes a)
+    ∙ first-accepts (recordChecks bytes) (value (headerOf bytes)) (
       le-ltb (length bytes) 6 (a .long),
       (
         le-ltb 3 (mapOf bytes) (a .map),

@@ -7,7 +7,7 @@ use mathlib.Core.List.{List, [], _∷_}
 use lib.Count.{ones, onesIn}
 use lib.IntN.{pos, negsuc}
 use lib.Ieee.{binary32, ofBits, add, sub, mul, div, lt, ofInt}
-use Rattle.error.specs.Answer.{value, refused, place}
+use Rattle.error.specs.Answer.{value, refused, withdrawn, place}
 use Rattle.digits.specs.Digits.{number, digits}
 use Rattle.float.specs.Bytes.{ofLeBytes}
 use Rattle.bitpack.specs.Padding.{badPadding}
@@ -92,9 +92,18 @@ length-first = refl
 
 -- ---- the other refusals, in their order
 
-pub empty : readRecordOf [] ≡ refused 13 0
+-- 'A record of no bytes now means a withdrawn position'; 'Lengths 1 to 5 still answer 13'
+pub no-bytes : readRecordOf [] ≡ withdrawn
 unfolding readRecordOf
-empty = refl
+no-bytes = refl
+
+pub one-byte : readRecordOf (0x00 ∷ []) ≡ refused 13 1
+unfolding readRecordOf
+one-byte = refl
+
+pub five-bytes : readRecordOf (0x00 ∷ 0x02 ∷ 0x00 ∷ 0x00 ∷ 0x00 ∷ []) ≡ refused 13 5
+unfolding readRecordOf
+five-bytes = refl
 
 pub map-bit-2 : readRecordOf (0x04 ∷ 0x00 ∷ 0x00 ∷ 0x00 ∷ 0x00 ∷ 0x00 ∷ []) ≡ refused 18 4
 unfolding readRecordOf

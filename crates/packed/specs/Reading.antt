@@ -1,14 +1,15 @@
 -- This is the reader: its checks in document 01's order, its answer, and the values that an accepted record holds. 'Reading checks, in order: under six bytes 13;
--- 18; 2; 3; 4; 1 (16 is refused beside bit 1); header cut short 13; 8; total length 13; 17 ..; 16; 14 for indices; 14 for signs.' Assumes nothing.
+-- 18; 2; 3; 4; 1 (16 is refused beside bit 1); header cut short 13; 8; total length 13; 17 ..; 16; 14 for indices; 14 for signs.' Before them stands document 02's
+-- request b): 'A record of no bytes now means a withdrawn position. Reading it answers withdrawn'. Assumes nothing.
 use Prim.Native.Nat.{ℕ, _^_}
-use mathlib.Core.Bool.{Bool, not, _||_}
+use mathlib.Core.Bool.{Bool, cond, not, _||_}
 use mathlib.Core.List.{List, [], _∷_, _++_, map}
 use lib.Count.{ones}
 use lib.Dec.{ltb, eqb}
 use lib.IntN.{ℤ}
 use lib.ListN.{length}
 use lib.Ieee.{Float}
-use Rattle.error.specs.Answer.{Answer, value, refused, Check, check, first, each}
+use Rattle.error.specs.Answer.{Answer, value, refused, withdrawn, Check, check, first, each}
 use Rattle.bitpack.specs.Padding.{wrongPadding}
 use Rattle.error.specs.Checks.{differs, wrongRoom}
 use Rattle.bitpack.specs.Packing.{indicesIn}
@@ -24,12 +25,24 @@ use Rattle.packed.specs.Layout.{headerLength, pairsOf, indicesUsed, reco
 use Rattle.packed.specs.Radii.{badBoundsFor}
 use Rattle.packed.specs.declared.Header.{Header}
 use Rattle.packed.specs.declared.Reading.{Reading}
-use Rattle.packed.specs.declared.Reading.the-variants.{Read, Refused}
+use Rattle.packed.specs.declared.Reading.the-variants.{Read, Refused, Withdrawn}
 
--- A `Reading` says a header, or a refusal.
+-- A `Reading` says a header, a refusal, or that the position is withdrawn.
 abbrev pub saysReading : Reading → Answer Header
 saysReading (Read header) = value header
 saysReading (Refused n p) = refused n p
+saysReading Withdrawn = withdrawn
+
+-- ---- a withdrawn position
+
+-- 'A record of no bytes now means a withdrawn position.'
+abbrev pub isWithdrawn : List ℕ → Bool
+isWithdrawn bytes = eqb (length bytes) 0
+
+-- Withdrawn is answered where the record has no bytes; where it has some, the answer stands. Checks that come before are written in front of this, and those that
+-- come after within it.
+abbrev pub unlessWithdrawn : {A : Type 0} → List ℕ → Answer A → Answer A
+unlessWithdrawn bytes a = cond (isWithdrawn bytes) withdrawn a
 
 -- ---- the values as read
 
@@ -99,16 +112,17 @@ payloadChecks bytes =
 abbrev pub recordChecks : List ℕ → List Check
 recordChecks bytes = headerChecks bytes ++ payloadChecks bytes
 
--- This is what `read_record` answers.
+-- This is what `read_record` answers. 'Lengths 1 to 5 still answer 13.'
 unfoldable pub readRecordOf : List ℕ → Answer Header
-readRecordOf bytes = first (recordChecks bytes) (value (headerOf bytes))
+readRecordOf bytes = unlessWithdrawn bytes (first (recordChecks bytes) (value (headerOf bytes)))
 
 -- ---- 'The reader hands back each payload as a part of the record's own bytes.'
 
--- 'For a refused record .. the part is empty.'
+-- 'For a refused record .. the part is empty', and for a withdrawn one.
 abbrev pub partWhere : Answer Header → List ℕ → List ℕ
 partWhere (value header) part = part
 partWhere (refused n p) part = []
+partWhere withdrawn part = []
 
 unfoldable pub radiiPartOf : List ℕ → List ℕ
 radiiPartOf bytes = partWhere (readRecordOf bytes) (radiiBytes bytes)
@@ -120,11 +134,11 @@ indicesPartOf bytes = partWhere (readRecordOf bytes) (indicesBytes bytes)
 unfoldable pub signsPartOf : List ℕ → List ℕ
 signsPartOf bytes = partWhere (readRecordOf bytes) (signsBytes bytes)
 
--- ---- the values in lent memory: the reader's refusals, then 6
+-- ---- the values in lent memory: withdrawn, the reader's refusals, then 6
 
 -- `needed` is how many values there are, and `room` is the output's length.
 abbrev pub fillOf : {A : Type 0} → List ℕ → ℕ → ℕ → A → Answer A
-fillOf bytes needed room x = first (recordChecks bytes ++ (wrongRoom room needed ∷ [])) (value x)
+fillOf bytes needed room x = unlessWithdrawn bytes (first (recordChecks bytes ++ (wrongRoom room needed ∷ [])) (value x))
 
 unfoldable pub readRadiiOf : List ℕ → ℕ → Answer (List Float)
 readRadiiOf bytes room = fillOf bytes (pairsOf bytes) room (radiiOf bytes)

@@ -1,5 +1,5 @@
 // Reading the record: a polar code and, beside it, a residual sketch, as bytes. Ported from turbo-quant/src/packed.rs and changed: the byte layout
-// is this port's own, payloads are parts of the record's own bytes, outputs are lent, refusals are numbers.
+// is this port's own, payloads are parts of the record's own bytes, outputs are lent, refusals are numbers, and no bytes are a withdrawn position.
 use error::INVALID_BIT_WIDTH;
 use error::MALFORMED_LENGTH;
 use error::MALFORMED_RADIUS;
@@ -50,16 +50,20 @@ pub struct Header {
     pub end: usize,
 }
 
-// The header of an accepted record, or a refusal.
+// The header of an accepted record, a refusal, or a withdrawn position.
 pub enum Reading {
     Read(Header),
     Refused { number: u32, place: usize },
+    Withdrawn,
 }
 
-// Reads a record: its header, where nothing offends.
+// Reads a record: its header, where nothing offends. No bytes are a withdrawn position.
 pub fn read_record(bytes: &[u8]) -> Reading
     ensures { λ r. ⌜ saysReading r ≡ readRecordOf (now (bytes .entry)) ⌝ }
 {
+    if bytes.len() == 0 {
+        return Reading::Withdrawn;
+    }
     if let Outcome::Refused { number, place } = check_header(bytes) {
         return Reading::Refused { number, place };
     }

@@ -3,7 +3,7 @@ use Prim.Native.Nat.{ℕ}
 use mathlib.Core.Path.{_≡_, refl, ap, _∙_}
 use mathlib.Core.Bool.{false}
 use mathlib.Core.List.{List, []}
-use Rattle.error.specs.Answer.{Answer, value, refused}
+use Rattle.error.specs.Answer.{Answer, value, refused, withdrawn}
 use Rattle.packed.specs.declared.Header.{Header}
 use Rattle.packed.specs.Fields.{mapOf, hasSigns, projectionsOf}
 use Rattle.packed.specs.Layout.{radiiBytes, indicesBytes, signsBytes}
@@ -14,6 +14,7 @@ use Rattle.packed_laws.specs.EmptyParts.{EmptyParts}
 part-none : (answer : Answer Header) → partWhere answer [] ≡ []
 part-none (value header) = refl
 part-none (refused n p) = refl
+part-none withdrawn = refl
 
 no-projections : (bytes : List ℕ) → hasSigns (mapOf bytes) ≡ false → projectionsOf bytes ≡ 0
 unfolding projectionsOf

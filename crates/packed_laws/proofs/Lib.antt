@@ -13,5 +13,6 @@ pub mod Refused
 pub mod LinearRecord
 pub mod Infinite
 pub mod EmptyParts
+pub mod Withdrawn
 pub mod Promised
 pub mod Examples

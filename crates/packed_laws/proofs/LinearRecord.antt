@@ -25,6 +25,7 @@ use Rattle.packed.specs.Fields.{mapOf, hasRange, profileOf, floatAt, boundsOf}
 use Rattle.packed.specs.Layout.{pairsOf, radiiStart, radiiLength, recordLength, radiiBytes, headerOf}
 use Rattle.packed.specs.Radii.{badBounds, badBoundsFor}
 use Rattle.packed.specs.Reading.{radiiOf, wrongSize, headerChecks, paddingChecks, readRecordOf}
+use Rattle.packed.proofs.Withdrawn.{read-refused}
 use Rattle.packed.proofs.Parts.{length-part, length-radii}
 use Rattle.packed.proofs.Payloads.{length-radiiOf}
 use Rattle.packed_laws.proofs.Ranges.{zero-fits}
@@ -73,11 +74,10 @@ module _ (bytes : List ℕ) (b : Below 256 bytes) (linear : hasRange (mapOf byte
 
 -- 16 in a linear record names a radius that reads as infinite
 pub linear-refused : (bytes : List ℕ) → Below 256 bytes → hasRange (mapOf bytes) ≡ true → (p : ℕ) → readRecordOf bytes ≡ refused 16 p → getD (radiiOf bytes) p nan ≡ inf false
-unfolding readRecordOf
 linear-refused bytes b linear p told =
     let before = headerChecks bytes ++ (wrongSize (differs (length bytes) (recordLength bytes)) bytes ∷ check (badBoundsFor (profileOf (mapOf bytes)) (boundsOf bytes)) 17 0 ∷ []) in
     let bad = place badRadius (radiiOf bytes) in
-    let found = refused-here (headerOf bytes) before (ltb bad (length (radiiOf bytes))) 16 bad (paddingChecks bytes) (tt, (tt, (tt, (tt, (tt, (tt, (tt, (tt, (tt, (tt, tt)))))))))) (tt, (tt, tt)) told in
+    let found = refused-here (headerOf bytes) before (ltb bad (length (radiiOf bytes))) 16 bad (paddingChecks bytes) (tt, (tt, (tt, (tt, (tt, (tt, (tt, (tt, (tt, (tt, tt)))))))))) (tt, (tt, tt)) (read-refused bytes told .1) in
     let passed = found .0 .1 .1 .1 .1 .1 .1 .1 .1 in
     let below : bad < length (radiiOf bytes) = ltb-true bad (length (radiiOf bytes)) (found .1 .0) in
     let sized : length bytes ≡ recordLength bytes = differs-same (length bytes) (recordLength bytes) (passed .0) in

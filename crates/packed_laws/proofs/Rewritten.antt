@@ -28,6 +28,7 @@ use Rattle.bitpack.specs.Packing.{indexBytes}
 use Rattle.packed_writing.specs.Writing.{headerBytes, recordOf, fieldChecks, valueChecks, writeRecordOf}
 use Rattle.setup.specs.Setups.{counted}
 use Rattle.packed.proofs.Accepted.{read-accepts}
+use Rattle.packed.proofs.Withdrawn.{read-passed}
 use Rattle.packed.proofs.Payloads.{length-radiiOf}
 use Rattle.packed.proofs.Radii.{radii-fit, length-indicesOf, indices-below, length-signsOf, signs-good}
 use Rattle.packed_laws.specs.RoundTrips.{SameButRadii, codeAs}
@@ -70,10 +71,10 @@ module _ (bytes : List ℕ) (b : Below 256 bytes) {header : Header} (read : read
 
   -- an accepted F32 record, taken apart and written again, gives the same bytes
   pub rewritten : hasRange (mapOf bytes) ≡ false → writeRecordOf (codeAs F32 bytes) (radiiOf bytes) (indicesOf bytes) (signsOf bytes) (length bytes) ≡ value bytes
-  unfolding writeRecordOf readRecordOf
+  unfolding writeRecordOf
   rewritten plain =
       let a = read-accepts bytes read in
-      let all = first-all (recordChecks bytes) (value (headerOf bytes)) read in
+      let all = first-all (recordChecks bytes) (value (headerOf bytes)) (read-passed bytes read .1) in
       let again = recordOf (codeAs F32 bytes) (radiiOf bytes) (indicesOf bytes) (signsOf bytes) in
       let good = all .1 .1 .1 .1 .1 .1 .1 .1 .1 .1 .0 in
       first-accepts

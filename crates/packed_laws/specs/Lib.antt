@@ -1,3 +1,4 @@
 pub mod RoundTrips
 pub mod Infinite
 pub mod EmptyParts
+pub mod Withdrawn

@@ -1,5 +1,5 @@
--- The payloads that are handed back: the parts that the header of an accepted record gives, and nothing for a refused one, each at its place in the
--- record's own memory. Assumes nothing.
+-- The payloads that are handed back: the parts that the header of an accepted record gives, and nothing for a refused or a withdrawn one, each at its place in
+-- the record's own memory. Assumes nothing.
 use Prim.Native.Nat.{ℕ, _+_, _≤_}
 use mathlib.Core.Path.{_≡_, refl, sym, ap, _∙_}
 use mathlib.Core.Bool.{false}
@@ -7,14 +7,14 @@ use mathlib.Core.List.{List}
 use native.Mathlib.Omega.{arith}
 use denote.Ref.{RefT, now}
 use lib.ListN.{length, take, drop}
-use Rattle.error.specs.Answer.{Answer, value, refused}
+use Rattle.error.specs.Answer.{Answer, value, refused, withdrawn}
 use Rattle.packed.specs.declared.Header.{Header}
 use Rattle.packed.specs.Layout.{radiiBytes, indicesBytes, signsBytes}
 use Rattle.packed.specs.Reading.{readRecordOf, partWhere, radiiPartOf, indicesPartOf, signsPartOf}
 use Rattle.packed.proofs.Accepted.{read-accepts, read-header}
 use Rattle.packed.proofs.Parts.{Ordered, ordered, radii-part, indices-part, signs-part}
 use Rattle.packed_parts.specs.declared.Places.{Places}
-use Rattle.packed_parts.specs.Parts.{placesIn, locateOf, badPlaces, cutOf, cutStart, Inside}
+use Rattle.packed_parts.specs.Parts.{nowhere, placesIn, locateOf, badPlaces, cutOf, cutStart, Inside}
 use Rattle.packed_parts.proofs.Cuts.{places-good, places-order, cut-inside, start-inside, length-cut, cut-none}
 
 -- ---- by the header that was read
@@ -45,7 +45,7 @@ module _ (bytes : List ℕ) {header : Header} (read : readRecordOf bytes ≡ val
   pub signs-cut : cutOf bytes (header .«signs_start») (header .end) ≡ signsBytes bytes
   signs-cut = cut-inside bytes _ _ signs-places ∙ signs-part bytes (read-header bytes read)
 
--- ---- by the places that were found, of a record that is read or refused
+-- ---- by the places that were found, of a record that is read, refused or withdrawn
 
 -- a payload, from one of the places to another: these lie in order, and the bytes between them are the payload
 pub record Payload (bytes : List ℕ) (from to : Places → ℕ) (part : List ℕ) : Type 0 where
@@ -55,7 +55,7 @@ pub record Payload (bytes : List ℕ) (from to : Places → ℕ) (part : List �
 module _ (bytes : List ℕ) where
   payload : (from to : Places → ℕ) (part : List ℕ)
       → ((header : Header) → readRecordOf bytes ≡ value header → (badPlaces (length bytes) (from (placesIn (value header))) (to (placesIn (value header))) ≡ false) × (cutOf bytes (from (placesIn (value header))) (to (placesIn (value header))) ≡ part))
-      → from (placesIn (refused 0 0)) ≡ 0 → to (placesIn (refused 0 0)) ≡ 0
+      → from nowhere ≡ 0 → to nowhere ≡ 0
       → Payload bytes from to (partWhere (readRecordOf bytes) part)
   unfolding locateOf
   payload from to part accepted start stop = let both = split (readRecordOf bytes) refl in record { good = both .0; is = both .1 }
@@ -63,6 +63,7 @@ module _ (bytes : List ℕ) where
       split : (a : Answer Header) → readRecordOf bytes ≡ a → (badPlaces (length bytes) (from (placesIn a)) (to (placesIn a)) ≡ false) × (cutOf bytes (from (placesIn a)) (to (placesIn a)) ≡ partWhere a part)
       split (value header) e = accepted header e
       split (refused n p) e = rw (start, stop) (places-good (length bytes) 0 0 (omega arith) (omega arith), cut-none bytes)
+      split withdrawn e = rw (start, stop) (places-good (length bytes) 0 0 (omega arith) (omega arith), cut-none bytes)
 
   pub radii-payload : Payload bytes (λ p. p .radii) (λ p. p .indices) (radiiPartOf bytes)
   unfolding radiiPartOf

@@ -1,9 +1,10 @@
 // The parts of a record: its payloads as parts of its own bytes.
-// Ported from turbo-quant/src/packed.rs and changed: payloads are parts of the record's own bytes, empty where the record is refused.
+// Ported from turbo-quant/src/packed.rs and changed: payloads are parts of the record's own bytes, empty where the record is refused or
+// withdrawn.
 use packed::Reading;
 ghost use mathlib.Core.Path.{_≡_};
 ghost use Rattle.packed.specs.Reading.{radiiPartOf, indicesPartOf, signsPartOf};
-ghost use Rattle.packed_parts.specs.Parts.{locateOf, badPlaces, cutOf, cutStart, Inside};
+ghost use Rattle.packed_parts.specs.Parts.{nowhere, locateOf, badPlaces, cutOf, cutStart, Inside};
 
 // Where the payloads of a record stand: each from its own place to the next one, the signs to `end`.
 pub struct Places {
@@ -13,7 +14,7 @@ pub struct Places {
     pub end: usize,
 }
 
-// The part of the record that holds the radii; empty where the record is refused.
+// The part of the record that holds the radii; empty where the record is refused or withdrawn.
 pub fn radii_part(bytes: &[u8]) -> &[u8]
     ensures held { λ r. ⌜ now r ≡ radiiPartOf (now (bytes .entry)) ⌝ }
     ensures stands { λ r. ⌜ Inside (bytes .entry) r (locateOf (now (bytes .entry)) .radii) ⌝ }
@@ -22,7 +23,7 @@ pub fn radii_part(bytes: &[u8]) -> &[u8]
     cut(bytes, places.radii, places.indices)
 }
 
-// The part of the record that holds the indices; empty where the record is refused.
+// The part of the record that holds the indices; empty where the record is refused or withdrawn.
 pub fn indices_part(bytes: &[u8]) -> &[u8]
     ensures held { λ r. ⌜ now r ≡ indicesPartOf (now (bytes .entry)) ⌝ }
     ensures stands { λ r. ⌜ Inside (bytes .entry) r (locateOf (now (bytes .entry)) .indices) ⌝ }
@@ -31,7 +32,7 @@ pub fn indices_part(bytes: &[u8]) -> &[u8]
     cut(bytes, places.indices, places.signs)
 }
 
-// The part of the record that holds the signs; empty where the record is refused or has none.
+// The part of the record that holds the signs; empty where the record is refused, withdrawn or has none.
 pub fn signs_part(bytes: &[u8]) -> &[u8]
     ensures held { λ r. ⌜ now r ≡ signsPartOf (now (bytes .entry)) ⌝ }
     ensures stands { λ r. ⌜ Inside (bytes .entry) r (locateOf (now (bytes .entry)) .signs) ⌝ }
@@ -40,7 +41,7 @@ pub fn signs_part(bytes: &[u8]) -> &[u8]
     cut(bytes, places.signs, places.end)
 }
 
-// Where the payloads of a record stand; all at 0 where the record is refused.
+// Where the payloads of a record stand; all at 0 where the record is refused or withdrawn.
 pub fn locate(bytes: &[u8]) -> Places
     ensures { λ r. ⌜ r ≡ locateOf (now (bytes .entry)) ⌝ }
 {
@@ -54,12 +55,20 @@ pub fn locate(bytes: &[u8]) -> Places
         Reading::Refused {
             number: _,
             place: _,
-        } => Places {
-            radii: 0,
-            indices: 0,
-            signs: 0,
-            end: 0,
-        },
+        } => no_places(),
+        Reading::Withdrawn => no_places(),
+    }
+}
+
+// The places of a record that hands back nothing.
+fn no_places() -> Places
+    ensures { λ r. ⌜ r ≡ nowhere ⌝ }
+{
+    Places {
+        radii: 0,
+        indices: 0,
+        signs: 0,
+        end: 0,
     }
 }
 

@@ -10,15 +10,16 @@ use lib.IntN.{ℤ}
 use lib.ListN.{length, take}
 use lib.Ieee.{Float}
 use Rattle.lists.proofs.Parts.{part-filled}
-use Rattle.error.specs.Answer.{Answer, value, first, after}
+use Rattle.error.specs.Answer.{Answer, value, after}
 use Rattle.error.specs.Checks.{wrongRoom}
 use Rattle.error.proofs.Answers.{after-value}
 use Rattle.error.proofs.Chains.{append-passed}
 use Rattle.packed.specs.declared.Header.{Header}
 use Rattle.packed.specs.Fields.{mapOf, hasSigns, wordAt, projectionsStart, projectionsOf}
 use Rattle.packed.specs.Layout.{pairsOf, headerOf}
-use Rattle.packed.specs.Reading.{recordChecks, readRecordOf, radiiOf, indicesOf, signsOf, readRadiiOf, readIndicesOf, readSignsOf}
+use Rattle.packed.specs.Reading.{recordChecks, readRecordOf, radiiOf, indicesOf, signsOf, fillOf, readRadiiOf, readIndicesOf, readSignsOf}
 use Rattle.packed.proofs.Accepted.{read-accepts, read-header}
+use Rattle.packed.proofs.Withdrawn.{unless-some, read-passed}
 use Rattle.packed.proofs.Parts.{header-pairs, header-projections}
 use Rattle.packed_values.specs.AtHeader.{radiiAtOf, indicesAtOf, signsAtOf}
 use Rattle.packed_values.proofs.Values.{radii-at-read, indices-at-read, signs-at-read}
@@ -48,9 +49,10 @@ module _ (bytes : List ℕ) {header : Header} (read : readRecordOf bytes ≡ val
       omega (arith, most, is)
 
   -- in exactly the room that they need
-  filled : {A : Type 0} (needed : ℕ) (x : A) → first (recordChecks bytes ++ (wrongRoom needed needed ∷ [])) (value x) ≡ value x
-  unfolding readRecordOf
-  filled needed x = append-passed (recordChecks bytes) (wrongRoom needed needed ∷ []) (headerOf bytes) (value x) read ∙ simp (eq-eqb needed needed refl)
+  filled : {A : Type 0} (needed : ℕ) (x : A) → fillOf bytes needed needed x ≡ value x
+  filled needed x =
+      let passed = read-passed bytes read in
+      unless-some bytes _ (passed .0) ∙ append-passed (recordChecks bytes) (wrongRoom needed needed ∷ []) (headerOf bytes) (value x) (passed .1) ∙ simp (eq-eqb needed needed refl)
 
   radii-at-value : radiiAtOf bytes header (header .dim / 2) ≡ value (radiiOf bytes)
   unfolding readRadiiOf

@@ -7,7 +7,7 @@ use mathlib.Core.List.{List, [], _∷_, _++_, map}
 use native.Mathlib.Omega.{arith}
 use borrow.Author.Tests.{le-ltb, eq-eqb}
 use lib.ListN.{length}
-use Rattle.error.specs.Answer.{Answer, value, refused, first, done, after}
+use Rattle.error.specs.Answer.{Answer, value, refused, withdrawn, first, done, after}
 use Rattle.error.proofs.Chains.{append-passed, append-refused}
 use Rattle.error.specs.Checks.{wrongRoom}
 use Rattle.digits.specs.Digits.{number, digits}
@@ -20,8 +20,9 @@ use Rattle.radius.specs.declared.RadiusCodecProfileV1.the-variants.{F32, BlockL
 use Rattle.packed.specs.declared.Header.{Header}
 use Rattle.packed.specs.Fields.{mapOf, hasRange, bitsOf, boundsOf, projectionsOf}
 use Rattle.packed.specs.Layout.{pairsOf, radiiBytes, indicesBytes, signsBytes, headerOf}
-use Rattle.packed.specs.Reading.{radiiOf, indicesOf, signsOf, recordChecks, readRecordOf, readRadiiOf, readIndicesOf, readSignsOf}
+use Rattle.packed.specs.Reading.{radiiOf, indicesOf, signsOf, recordChecks, readRecordOf, fillOf, readRadiiOf, readIndicesOf, readSignsOf}
 use Rattle.packed.proofs.Accepted.{read-accepts, read-header}
+use Rattle.packed.proofs.Withdrawn.{unless-none, unless-some, read-passed, read-refused, read-withdrawn}
 use Rattle.packed.proofs.Headers.{product-most}
 use Rattle.packed.proofs.Parts.{length-radii, length-indices, length-signs}
 use Rattle.packed_values.specs.AtHeader.{wrongPlaces, radiiAtOf, indicesAtOf, signsAtOf}
@@ -60,12 +61,13 @@ signs-room packed count room long clean = rw (eq-eqb _ _ long, clean)
 
 module _ (bytes : List ℕ) (room : ℕ) {header : Header} (read : readRecordOf bytes ≡ value header) where
   -- what is left after the reader's checks
-  left : {A : Type 0} (needed : ℕ) (x : A) → first (wrongRoom room needed ∷ []) (value x) ≡ first (recordChecks bytes ++ (wrongRoom room needed ∷ [])) (value x)
-  unfolding readRecordOf
-  left needed x = sym (append-passed (recordChecks bytes) (wrongRoom room needed ∷ []) (headerOf bytes) (value x) read)
+  left : {A : Type 0} (needed : ℕ) (x : A) → first (wrongRoom room needed ∷ []) (value x) ≡ fillOf bytes needed room x
+  left needed x =
+      let passed = read-passed bytes read in
+      sym (unless-some bytes _ (passed .0) ∙ append-passed (recordChecks bytes) (wrongRoom room needed ∷ []) (headerOf bytes) (value x) (passed .1))
 
   read-indices : (payload : List ℕ) → payload ≡ indicesBytes bytes → unpackIndicesOf payload (header .dim / 2) (header .bits) room ≡ readIndicesOf bytes room
-  unfolding readRecordOf headerOf readIndicesOf indicesOf
+  unfolding headerOf readIndicesOf indicesOf
   read-indices payload e =
       let a = read-accepts bytes read in
       let used = product-most (pairsOf bytes) (bitsOf bytes) 2048 16 (omega (arith, a .most)) (a .most-bits) in
@@ -75,7 +77,7 @@ module _ (bytes : List ℕ) (room : ℕ) {header : Header} (read : readRecordOf 
       ∙ left (pairsOf bytes) (indicesOf bytes)
 
   read-signs : (payload : List ℕ) → payload ≡ signsBytes bytes → unpackSignsOf payload (header .projections) room ≡ readSignsOf bytes room
-  unfolding readRecordOf headerOf readSignsOf signsOf
+  unfolding headerOf readSignsOf signsOf
   read-signs payload e =
       let a = read-accepts bytes read in
       ap (λ (h : Header). unpackSignsOf payload (h .projections) room) (read-header bytes read)
@@ -86,7 +88,7 @@ module _ (bytes : List ℕ) (room : ℕ) {header : Header} (read : readRecordOf 
   -- ---- by the header at hand
 
   pub radii-at-read : radiiAtOf bytes header room ≡ readRadiiOf bytes room
-  unfolding readRecordOf headerOf readRadiiOf radiiOf radiiAtOf
+  unfolding headerOf readRadiiOf radiiOf radiiAtOf
   radii-at-read =
       places-passed bytes (header .«radii_start») (header .«indices_start») _ (radii-places bytes read)
       ∙ ap (λ (l : List ℕ). restoreOf (header .profile) (header .dim / 2) (header .range) l room) (radii-cut bytes read)
@@ -104,14 +106,33 @@ module _ (bytes : List ℕ) (room : ℕ) {header : Header} (read : readRecordOf 
 
 -- a record that is refused gives no values
 module _ (bytes : List ℕ) (room : ℕ) {n p : ℕ} (read : readRecordOf bytes ≡ refused n p) where
+  fill-refused : {A : Type 0} (needed : ℕ) (x : A) → fillOf bytes needed room x ≡ refused n p
+  fill-refused needed x =
+      let refusal = read-refused bytes read in
+      unless-some bytes _ (refusal .0) ∙ append-refused (recordChecks bytes) (wrongRoom room needed ∷ []) (headerOf bytes) (value x) (refusal .1)
+
   pub radii-refused : readRadiiOf bytes room ≡ refused n p
-  unfolding readRecordOf readRadiiOf
-  radii-refused = append-refused (recordChecks bytes) (wrongRoom room (pairsOf bytes) ∷ []) (headerOf bytes) (value (radiiOf bytes)) read
+  unfolding readRadiiOf
+  radii-refused = fill-refused (pairsOf bytes) (radiiOf bytes)
 
   pub indices-refused : readIndicesOf bytes room ≡ refused n p
-  unfolding readRecordOf readIndicesOf
-  indices-refused = append-refused (recordChecks bytes) (wrongRoom room (pairsOf bytes) ∷ []) (headerOf bytes) (value (indicesOf bytes)) read
+  unfolding readIndicesOf
+  indices-refused = fill-refused (pairsOf bytes) (indicesOf bytes)
 
   pub signs-refused : readSignsOf bytes room ≡ refused n p
-  unfolding readRecordOf readSignsOf
-  signs-refused = append-refused (recordChecks bytes) (wrongRoom room (projectionsOf bytes) ∷ []) (headerOf bytes) (value (signsOf bytes)) read
+  unfolding readSignsOf
+  signs-refused = fill-refused (projectionsOf bytes) (signsOf bytes)
+
+-- nor does one that is withdrawn, whatever the room is
+module _ (bytes : List ℕ) (room : ℕ) (read : readRecordOf bytes ≡ withdrawn) where
+  pub radii-withdrawn : readRadiiOf bytes room ≡ withdrawn
+  unfolding readRadiiOf
+  radii-withdrawn = unless-none bytes _ (read-withdrawn bytes read)
+
+  pub indices-withdrawn : readIndicesOf bytes room ≡ withdrawn
+  unfolding readIndicesOf
+  indices-withdrawn = unless-none bytes _ (read-withdrawn bytes read)
+
+  pub signs-withdrawn : readSignsOf bytes room ≡ withdrawn
+  unfolding readSignsOf
+  signs-withdrawn = unless-none bytes _ (read-withdrawn bytes read)

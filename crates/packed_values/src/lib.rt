@@ -1,5 +1,6 @@
 // The values of a record: its radii, indices and signs as they are read.
 // Ported from turbo-quant/src/packed.rs and changed: outputs are lent, refusals are numbers.
+use error::Filled;
 use error::MALFORMED_LENGTH;
 use error::Outcome;
 use packed::Header;
@@ -7,40 +8,43 @@ use packed::Reading;
 ghost use mathlib.Core.Path.{_≡_};
 ghost use lib.ListN.{length};
 ghost use Rattle.error.specs.Answer.{done, after};
-ghost use Rattle.error.specs.Outcomes.{says};
+ghost use Rattle.error.specs.Outcomes.{says, saysFilled};
 ghost use Rattle.packed.specs.Reading.{readRadiiOf, readIndicesOf, readSignsOf};
 ghost use Rattle.packed_values.specs.AtHeader.{radiiAtOf, indicesAtOf, signsAtOf};
 
-// The radii of a record, as they are read: one for each pair.
-pub fn read_radii(bytes: &[u8], out: &mut [f32]) -> Outcome
-    ensures said { λ r. ⌜ says r ≡ done (readRadiiOf (now (bytes .entry)) (length (now (out .entry)))) ⌝ }
+// The radii of a record, as they are read: one for each pair. A withdrawn position has none, and nothing is written for it.
+pub fn read_radii(bytes: &[u8], out: &mut [f32]) -> Filled
+    ensures said { λ r. ⌜ saysFilled r ≡ done (readRadiiOf (now (bytes .entry)) (length (now (out .entry)))) ⌝ }
     ensures left { λ r. ⌜ now (out .exit) ≡ after (readRadiiOf (now (bytes .entry)) (length (now (out .entry)))) (now (out .entry)) ⌝ }
 {
     match packed::read_record(bytes) {
-        Reading::Read(header) => radii_at(bytes, header, out),
-        Reading::Refused { number, place } => Outcome::Refused { number, place },
+        Reading::Read(header) => error::as_filled(radii_at(bytes, header, out)),
+        Reading::Refused { number, place } => Filled::Refused { number, place },
+        Reading::Withdrawn => Filled::Withdrawn,
     }
 }
 
-// The indices of a record: one for each pair.
-pub fn read_indices(bytes: &[u8], out: &mut [u16]) -> Outcome
-    ensures said { λ r. ⌜ says r ≡ done (readIndicesOf (now (bytes .entry)) (length (now (out .entry)))) ⌝ }
+// The indices of a record: one for each pair; none of a withdrawn position.
+pub fn read_indices(bytes: &[u8], out: &mut [u16]) -> Filled
+    ensures said { λ r. ⌜ saysFilled r ≡ done (readIndicesOf (now (bytes .entry)) (length (now (out .entry)))) ⌝ }
     ensures left { λ r. ⌜ now (out .exit) ≡ after (readIndicesOf (now (bytes .entry)) (length (now (out .entry)))) (now (out .entry)) ⌝ }
 {
     match packed::read_record(bytes) {
-        Reading::Read(header) => indices_at(bytes, header, out),
-        Reading::Refused { number, place } => Outcome::Refused { number, place },
+        Reading::Read(header) => error::as_filled(indices_at(bytes, header, out)),
+        Reading::Refused { number, place } => Filled::Refused { number, place },
+        Reading::Withdrawn => Filled::Withdrawn,
     }
 }
 
-// The signs of a record: one for each projection, none without them.
-pub fn read_signs(bytes: &[u8], out: &mut [i8]) -> Outcome
-    ensures said { λ r. ⌜ says r ≡ done (readSignsOf (now (bytes .entry)) (length (now (out .entry)))) ⌝ }
+// The signs of a record: one for each projection, none without them, and none of a withdrawn position.
+pub fn read_signs(bytes: &[u8], out: &mut [i8]) -> Filled
+    ensures said { λ r. ⌜ saysFilled r ≡ done (readSignsOf (now (bytes .entry)) (length (now (out .entry)))) ⌝ }
     ensures left { λ r. ⌜ now (out .exit) ≡ after (readSignsOf (now (bytes .entry)) (length (now (out .entry)))) (now (out .entry)) ⌝ }
 {
     match packed::read_record(bytes) {
-        Reading::Read(header) => signs_at(bytes, header, out),
-        Reading::Refused { number, place } => Outcome::Refused { number, place },
+        Reading::Read(header) => error::as_filled(signs_at(bytes, header, out)),
+        Reading::Refused { number, place } => Filled::Refused { number, place },
+        Reading::Withdrawn => Filled::Withdrawn,
     }
 }
 

@@ -2,7 +2,7 @@
 // signs, as indices or as floats, and has at most 64 elements; one that would lie elsewhere is empty.
 //
 // A case is 96 bytes of fields and then its lists. Numbers are little-endian:
-//    0 the number of the refusal, or 0      1 mode      2 profile      3 bits
+//    0 the number of the refusal, 0, or 255 for a withdrawn position      1 mode      2 profile      3 bits
 //    4 the place      12, 20, 28 three numbers      36, 40, 44 three floats      48, 52 the floats of the answer
 //   56 ten lists: where it starts, counted in its elements, in two bytes, and how many it has, in two
 
@@ -12,6 +12,9 @@ use setup::Setup;
 use setup::TurboMode;
 ghost use Prim.Native.Nat.{_<_, _≤_, _+_};
 ghost use lib.ListN.{length};
+
+// The number of a withdrawn position, which no refusal has.
+pub const WITHDRAWN: u32 = 255;
 
 // Where the numbers and floats of a case stand.
 pub const NUMBER: usize = 0;

@@ -1,9 +1,9 @@
 // The calls that need no setup and write a list, by what they write: the output is lent full of marks, as long as the list must be afterwards, and then
-// compared with it. For a refusal the list says marks.
+// compared with it. For a refusal and for a withdrawn position the list says marks.
 
 use super::frame;
 use super::same;
-use error::Outcome;
+use error::Filled;
 use packed::Code;
 use radius_writing::Compressed;
 
@@ -95,13 +95,18 @@ pub(crate) fn indices(call: u8, case: &[u8; 512]) -> bool {
     let count = wanted.len();
     let mut out = marked_indices();
     let given = indices_written(call, case, &mut out[0..count]);
-    same::outcome(case, given) && same::indices(&out, wanted)
+    same::filled(case, given) && same::indices(&out, wanted)
 }
 
-fn indices_written(call: u8, case: &[u8; 512], out: &mut [u16]) -> Outcome {
+fn indices_written(call: u8, case: &[u8; 512], out: &mut [u16]) -> Filled {
     let bytes = frame::bytes(case, frame::BYTES);
     if call == 18 {
-        return bitpack::unpack_indices(bytes, frame::count(case), frame::bits(case), out);
+        return error::as_filled(bitpack::unpack_indices(
+            bytes,
+            frame::count(case),
+            frame::bits(case),
+            out,
+        ));
     }
     packed_values::read_indices(bytes, out)
 }
@@ -112,13 +117,13 @@ pub(crate) fn signs(call: u8, case: &[u8; 512]) -> bool {
     let count = wanted.len();
     let mut out = marked_signs();
     let given = signs_written(call, case, &mut out[0..count]);
-    same::outcome(case, given) && same::signs(&out, wanted)
+    same::filled(case, given) && same::signs(&out, wanted)
 }
 
-fn signs_written(call: u8, case: &[u8; 512], out: &mut [i8]) -> Outcome {
+fn signs_written(call: u8, case: &[u8; 512], out: &mut [i8]) -> Filled {
     let bytes = frame::bytes(case, frame::BYTES);
     if call == 20 {
-        return bitpack_signs::unpack_signs(bytes, frame::count(case), out);
+        return error::as_filled(bitpack_signs::unpack_signs(bytes, frame::count(case), out));
     }
     packed_values::read_signs(bytes, out)
 }
@@ -129,20 +134,20 @@ pub(crate) fn floats(call: u8, case: &[u8; 512]) -> bool {
     let count = wanted.len();
     let mut out = marked_floats();
     let given = floats_written(call, case, &mut out[0..count]);
-    same::outcome(case, given) && same::floats(&out, wanted)
+    same::filled(case, given) && same::floats(&out, wanted)
 }
 
-fn floats_written(call: u8, case: &[u8; 512], out: &mut [f32]) -> Outcome {
+fn floats_written(call: u8, case: &[u8; 512], out: &mut [f32]) -> Filled {
     let bytes = frame::bytes(case, frame::BYTES);
     if call == 22 {
         let count = frame::count(case);
-        return radius_reading::decompress(
+        return error::as_filled(radius_reading::decompress(
             frame::profile(case),
             count,
             frame::range(case),
             bytes,
             out,
-        );
+        ));
     }
     packed_values::read_radii(bytes, out)
 }

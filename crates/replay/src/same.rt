@@ -1,6 +1,7 @@
 // Whether a call's answer, and what it wrote, are what the list says.
 
 use super::frame;
+use error::Filled;
 use error::Outcome;
 use error::Scored;
 ghost use Prim.Native.Nat.{_≤_};
@@ -24,6 +25,19 @@ pub(crate) fn outcome(case: &[u8; 512], given: Outcome) -> bool {
     }
 }
 
+// Whether the list says that the position is withdrawn.
+pub(crate) fn withdrawn(case: &[u8; 512]) -> bool {
+    refused(case, frame::WITHDRAWN, 0)
+}
+
+pub(crate) fn filled(case: &[u8; 512], given: Filled) -> bool {
+    match given {
+        Filled::Done => accepted(case),
+        Filled::Refused { number, place } => refused(case, number, place),
+        Filled::Withdrawn => withdrawn(case),
+    }
+}
+
 // Whether the list says this float.
 pub(crate) fn value(case: &[u8; 512], given: f32) -> bool {
     accepted(case) && same_float(given, frame::float_at(case, frame::ANSWER))
@@ -43,6 +57,7 @@ pub(crate) fn score(case: &[u8; 512], given: Scored) -> bool {
     match given {
         Scored::Score(x) => value(case, x),
         Scored::Refused { number, place } => refused(case, number, place),
+        Scored::Withdrawn => withdrawn(case),
     }
 }
 

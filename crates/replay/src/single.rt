@@ -109,15 +109,16 @@ fn seeds(case: &[u8; 512]) -> bool {
         && setup::matrix_seed(seed) == frame::long(case, frame::THIRD)
 }
 
-// Whether the list accepts the record too, or says this refusal.
+// Whether the list accepts the record too, says this refusal, or says that the position is withdrawn.
 fn read_record(case: &[u8; 512]) -> bool {
     match packed::read_record(frame::bytes(case, frame::BYTES)) {
         Reading::Read(_) => same::accepted(case),
         Reading::Refused { number, place } => same::refused(case, number, place),
+        Reading::Withdrawn => same::withdrawn(case),
     }
 }
 
-// Whether a part of the record is the part that the list says; of a refused record it is empty.
+// Whether a part of the record is the part that the list says; of a refused record, and of a withdrawn one, it is empty.
 pub(crate) fn part(call: u8, case: &[u8; 512]) -> bool {
     let record = frame::bytes(case, frame::BYTES);
     let wanted = frame::bytes(case, frame::PART);

@@ -141,7 +141,7 @@ fn decode(
         record,
         &mut out[0..count],
     );
-    same::outcome(case, given) && same::floats(&out, wanted)
+    same::filled(case, given) && same::floats(&out, wanted)
 }
 
 fn score(

@@ -6,9 +6,9 @@ use mathlib.Core.List.{List, [], _∷_, _++_}
 use borrow.Author.Tests.{eq-eqb, ne-eqb}
 use lib.ListN.{length}
 use lib.Ieee.{Float, binary32, add}
-use Rattle.error.specs.Answer.{Answer, value, refused, Check, check, first, each, place, accepted, done}
+use Rattle.error.specs.Answer.{Answer, value, refused, withdrawn, Check, check, first, each, place, accepted, done}
 use Rattle.error.specs.Checks.{wrongInput, wrongRoom, badValue}
-use Rattle.error.proofs.Chains.{first-passed, first-refused, first-done, first-clear, first-append, append-left, append-passed, append-refused}
+use Rattle.error.proofs.Chains.{refused-not-withdrawn, first-passed, first-refused, first-done, first-clear, first-ends, first-append, append-left, append-passed, append-refused}
 use Rattle.error.proofs.Places.{each-offends, each-passes}
 use Rattle.rounding.specs.Rows.{projected as projectedOn}
 use Rattle.setup.specs.Lent.{Lent}
@@ -20,14 +20,15 @@ use Rattle.setup.specs.Checks.{scalarChecks}
 use Rattle.setup_tables.specs.Checks.{tableChecks, setupChecks, directionChecks}
 use Rattle.qjl_residual.specs.Residual.{unitResidual}
 use Rattle.qjl.specs.Sketch.{vectorChecks}
-use Rattle.packed.specs.Reading.{radiiOf, signsOf}
+use Rattle.packed.specs.Reading.{unlessWithdrawn, radiiOf, signsOf}
+use Rattle.packed.proofs.Withdrawn.{unless-none, unless-some, unless-value, unless-refused, unless-withdrawn}
 use Rattle.turbo_order.specs.Scores.{accountOf, scoreFrom, scoreOf}
 use Rattle.turbo_order.proofs.Within.{polarPart}
 use Rattle.turbo_query.specs.Query.{rotatedQuery, projectedQuery, finiteChecks, queryChecks, prepareChecks, prepareRotatedOf, prepareProjectedOf}
 use Rattle.turbo_opening.specs.Opening.{contentOf}
-use Rattle.turbo.specs.Scoring.{recordScore, readingChecks}
+use Rattle.turbo.specs.Scoring.{recordScore, readingChecks, fromReading}
 use Rattle.turbo.specs.Inner.{joined, recordScoreOf}
-use Rattle.turbo.specs.Estimates.{innerProductEstimatePhasedOf, estimate, estimateChecks, innerProductEstimateOf, preparedChecks, innerProductEstimatePreparedOf, lengthsAndValues}
+use Rattle.turbo.specs.Estimates.{innerProductEstimatePhasedOf, estimate, whereScored, innerProductEstimateOf, preparedChecks, innerProductEstimatePreparedOf, lengthsAndValues}
 use Rattle.turbo_distance.specs.Distance.{distanceFromScoreOf}
 use Rattle.turbo.specs.Distance.{l2DistanceEstimateOf}
 use Rattle.turbo.proofs.Demand.{scored-estimate}
@@ -63,14 +64,12 @@ module _ (s : Setup) (l : Lent) (query : List Float) (bytes : List ℕ) where
   unfolding innerProductEstimatePhasedOf recordScoreOf
   phased-passed e =
       first-passed (queryChecks s l query) _ e
-      ∙ ap (λ (x : Float). value (first (readingChecks s bytes x) (value x))) estimate-record
+      ∙ ap (λ (x : Float). value (fromReading s bytes x (value x))) estimate-record
 
   -- without the phase it is the estimate
   pub phased-joined : joined (innerProductEstimatePhasedOf s l query bytes) ≡ innerProductEstimateOf s l query bytes
   unfolding innerProductEstimatePhasedOf innerProductEstimateOf
-  phased-joined =
-      joined-first (queryChecks s l query) (first (readingChecks s bytes (estimate s l query bytes)) (value (estimate s l query bytes)))
-      ∙ sym (first-append (queryChecks s l query) (readingChecks s bytes (estimate s l query bytes)) (value (estimate s l query bytes)))
+  phased-joined = joined-first (queryChecks s l query) (fromReading s bytes (estimate s l query bytes) (value (estimate s l query bytes)))
 
   pub estimate-passed : first (queryChecks s l query) accepted ≡ accepted
       → innerProductEstimateOf s l query bytes ≡ recordScoreOf s (l .directions) (rotatedQuery s l query) (projectedQuery s l query) bytes
@@ -153,27 +152,54 @@ module _ (s : Setup) (directions rotated projected : List Float) where
   module _ (bytes : List ℕ) where
     pub prepared-refused : {n p : ℕ} → first (preparedChecks s directions rotated projected) accepted ≡ refused n p → innerProductEstimatePreparedOf s directions rotated projected bytes ≡ refused n p
     unfolding innerProductEstimatePreparedOf
-    prepared-refused e = append-refused (preparedChecks s directions rotated projected) (readingChecks s bytes (recordScore s directions rotated projected bytes)) tt (value (recordScore s directions rotated projected bytes)) e
+    prepared-refused e = first-refused (preparedChecks s directions rotated projected) _ e
 
     pub prepared-passed : first (preparedChecks s directions rotated projected) accepted ≡ accepted → innerProductEstimatePreparedOf s directions rotated projected bytes ≡ recordScoreOf s directions rotated projected bytes
     unfolding innerProductEstimatePreparedOf recordScoreOf
-    prepared-passed e = append-passed (preparedChecks s directions rotated projected) (readingChecks s bytes (recordScore s directions rotated projected bytes)) tt (value (recordScore s directions rotated projected bytes)) e
+    prepared-passed e = first-passed (preparedChecks s directions rotated projected) _ e
 
 -- ---- the distance
 
-module _ (s : Setup) (l : Lent) (query : List Float) (bytes : List ℕ) where
-  -- what stands behind the checks of scoring: where scoring is refused, so is the whole, and where it is not, that is the answer
-  pub behind-refused : {A : Type 0} (a : Answer A) {n p : ℕ} → innerProductEstimateOf s l query bytes ≡ refused n p → first (estimateChecks s l query bytes) a ≡ refused n p
-  unfolding innerProductEstimateOf
-  behind-refused a e = first-refused (estimateChecks s l query bytes) a (sym (first-done (estimateChecks s l query bytes) (estimate s l query bytes)) ∙ ap done e)
+-- two chains with the check for a withdrawn position between them, and another answer in the value's place: a refusal and a withdrawn position are answered alike
+module _ {A B : Type 0} (ds : List Check) (bytes : List ℕ) (x : A) (b : Answer B) where
+  other-refused : (cs : List Check) {n p : ℕ} → first cs (unlessWithdrawn bytes (first ds (value x))) ≡ refused n p → first cs (unlessWithdrawn bytes (first ds b)) ≡ refused n p
+  other-refused [] e =
+      let refusal = unless-refused bytes (first ds (value x)) e in
+      unless-some bytes _ (refusal .0) ∙ first-refused ds b (sym (first-done ds x) ∙ ap done (refusal .1))
+  other-refused (check true n p ∷ cs) e = cc
+  other-refused (check false n p ∷ cs) e = other-refused cs e
 
-  pub behind-scored : {A : Type 0} (a : Answer A) {x : Float} → innerProductEstimateOf s l query bytes ≡ value x → first (estimateChecks s l query bytes) a ≡ a
+  other-withdrawn : (cs : List Check) → first cs (unlessWithdrawn bytes (first ds (value x))) ≡ withdrawn → first cs (unlessWithdrawn bytes (first ds b)) ≡ withdrawn
+  other-withdrawn [] e = unless-none bytes _ (unless-withdrawn bytes ds x e)
+  other-withdrawn (check true n p ∷ cs) e = refused-not-withdrawn e
+  other-withdrawn (check false n p ∷ cs) e = other-withdrawn cs e
+
+  other-reached : (cs : List Check) {y : A} → first cs (unlessWithdrawn bytes (first ds (value x))) ≡ value y → first cs (unlessWithdrawn bytes (first ds b)) ≡ b
+  other-reached cs e =
+      let reached = unless-value bytes (first ds (value x)) (first-ends cs _ e) in
+      first-passed cs _ (first-clear cs _ e) ∙ unless-some bytes _ (reached .0) ∙ first-passed ds b (first-clear ds (value x) (reached .1))
+
+module _ (s : Setup) (l : Lent) (query : List Float) (bytes : List ℕ) where
+  -- what stands behind all that scoring asks: where scoring is refused or withdrawn, so is the whole, and where it is not, that is the answer
+  pub behind-refused : {A : Type 0} (a : Answer A) {n p : ℕ} → innerProductEstimateOf s l query bytes ≡ refused n p → whereScored s l query bytes a ≡ refused n p
   unfolding innerProductEstimateOf
-  behind-scored a e = first-passed (estimateChecks s l query bytes) a (first-clear (estimateChecks s l query bytes) (value (estimate s l query bytes)) e)
+  behind-refused a e = other-refused (readingChecks s bytes (estimate s l query bytes)) bytes (estimate s l query bytes) a (queryChecks s l query) e
+
+  pub behind-withdrawn : {A : Type 0} (a : Answer A) → innerProductEstimateOf s l query bytes ≡ withdrawn → whereScored s l query bytes a ≡ withdrawn
+  unfolding innerProductEstimateOf
+  behind-withdrawn a e = other-withdrawn (readingChecks s bytes (estimate s l query bytes)) bytes (estimate s l query bytes) a (queryChecks s l query) e
+
+  pub behind-scored : {A : Type 0} (a : Answer A) {x : Float} → innerProductEstimateOf s l query bytes ≡ value x → whereScored s l query bytes a ≡ a
+  unfolding innerProductEstimateOf
+  behind-scored a e = other-reached (readingChecks s bytes (estimate s l query bytes)) bytes (estimate s l query bytes) a (queryChecks s l query) e
 
   pub distance-refused : {n p : ℕ} → innerProductEstimateOf s l query bytes ≡ refused n p → l2DistanceEstimateOf s l query bytes ≡ refused n p
   unfolding l2DistanceEstimateOf
   distance-refused = behind-refused (distanceFromScoreOf query (radiiOf bytes) (estimate s l query bytes))
+
+  pub distance-withdrawn : innerProductEstimateOf s l query bytes ≡ withdrawn → l2DistanceEstimateOf s l query bytes ≡ withdrawn
+  unfolding l2DistanceEstimateOf
+  distance-withdrawn = behind-withdrawn (distanceFromScoreOf query (radiiOf bytes) (estimate s l query bytes))
 
   -- the score is known: the distance by it
   pub distance-scored : {x : Float} → innerProductEstimateOf s l query bytes ≡ value x → l2DistanceEstimateOf s l query bytes ≡ distanceFromScoreOf query (radiiOf bytes) x

@@ -2,6 +2,7 @@
 -- lent floats are f32. Assumes nothing.
 use Prim.Native.Nat.{ℕ, _+_, _*_}
 use mathlib.Core.Path.{_≡_, _∙_, subst}
+use mathlib.Core.Bool.{false}
 use mathlib.Core.List.{List, [], _∷_}
 use native.Mathlib.Omega.{arith}
 use borrow.Author.Tests.{not-false}
@@ -10,7 +11,7 @@ use lib.ListN.{length}
 use lib.Ieee.{Float, nan}
 use lib.Ieee.Scale.{finite}
 use Rattle.error.specs.Answer.{value, first, accepted}
-use Rattle.error.proofs.Chains.{first-passed, first-passes, first-value, append-left, append-right}
+use Rattle.error.proofs.Chains.{first-passed, first-passes, first-value, first-clear, first-ends, append-left, append-right}
 use Rattle.rounding.specs.Signed.{Near, Under}
 use Rattle.rounding.proofs.Close.{AllFit}
 use Rattle.rounding.proofs.Folds.{all-fit-from}
@@ -20,8 +21,9 @@ use Rattle.error.specs.Checks.{wrongScore}
 use Rattle.qjl.specs.Sketch.{vectorChecks}
 use Rattle.qjl.proofs.Answers.{vector-setup, vector-rowed}
 use Rattle.packed.specs.Layout.{headerOf}
-use Rattle.packed.specs.Reading.{radiiOf}
+use Rattle.packed.specs.Reading.{isWithdrawn, radiiOf}
 use Rattle.packed.proofs.Payloads.{length-radiiOf}
+use Rattle.packed.proofs.Withdrawn.{unless-some, unless-value}
 use Rattle.packed.proofs.Radii.{radii-fit, length-signsOf, signs-good}
 use Rattle.turbo_order.proofs.Sound.{Sound}
 use Rattle.turbo_order.specs.Scores.{accountOf, scoreOf}
@@ -32,7 +34,7 @@ use Rattle.turbo_opening.specs.Opening.{contentOf, openChecks}
 use Rattle.turbo_opening.specs.Inner.{openedOf}
 use Rattle.turbo_opening.proofs.Answers.{opened-accepted, opened-dim, opened-projections}
 use Rattle.turbo.specs.Scoring.{readingChecks}
-use Rattle.turbo.specs.Estimates.{estimate, estimateChecks, innerProductEstimateOf}
+use Rattle.turbo.specs.Estimates.{estimate, innerProductEstimateOf}
 use Rattle.turbo.specs.Order.{IsScored, atScale, exactOf, boundFor, Demand}
 
 -- ---- a record that is scored
@@ -41,20 +43,22 @@ module _ (s : Setup) (l : Lent) (query : List Float) (bytes : List ℕ) {x : Flo
   -- the checks of the setup and the query pass
   scored-query : first (queryChecks s l query) accepted ≡ accepted
   unfolding innerProductEstimateOf
-  scored-query = append-left (queryChecks s l query) (readingChecks s bytes (estimate s l query bytes)) (value (estimate s l query bytes)) scored
+  scored-query = first-clear (queryChecks s l query) _ scored
 
   scored-vector : first (vectorChecks s l query) accepted ≡ accepted
   scored-vector = append-left (vectorChecks s l query) (finiteChecks s l query) accepted scored-query
 
-  -- and those from record reading on
-  scored-reading : first (readingChecks s bytes (estimate s l query bytes)) (value (estimate s l query bytes)) ≡ value x
+  -- the record has bytes, and the checks from its reading on pass
+  scored-rest : (isWithdrawn bytes ≡ false) × (first (readingChecks s bytes (estimate s l query bytes)) (value (estimate s l query bytes)) ≡ value x)
   unfolding innerProductEstimateOf
-  scored-reading = append-right (queryChecks s l query) (readingChecks s bytes (estimate s l query bytes)) (value (estimate s l query bytes)) scored
+  scored-rest = unless-value bytes (first (readingChecks s bytes (estimate s l query bytes)) (value (estimate s l query bytes))) (first-ends (queryChecks s l query) _ scored)
 
   -- the record is opened, which needs every check of the reader
   pub scored-open : openedOf s bytes ≡ value (headerOf bytes)
   unfolding openedOf
-  scored-open = first-passed (openChecks s bytes) (value (headerOf bytes)) (append-left (openChecks s bytes) (wrongScore (estimate s l query bytes) ∷ []) (value (estimate s l query bytes)) scored-reading)
+  scored-open =
+      unless-some bytes _ (scored-rest .0)
+      ∙ first-passed (openChecks s bytes) (value (headerOf bytes)) (append-left (openChecks s bytes) (wrongScore (estimate s l query bytes) ∷ []) (value (estimate s l query bytes)) (scored-rest .1))
 
   -- two coordinates for each radius
   pub scored-pairs : 2 * length (radiiOf bytes) ≡ s .dim
@@ -62,13 +66,12 @@ module _ (s : Setup) (l : Lent) (query : List Float) (bytes : List ℕ) {x : Flo
 
   -- what is answered is the record's score
   pub scored-estimate : estimate s l query bytes ≡ x
-  unfolding innerProductEstimateOf
-  scored-estimate = first-value (estimateChecks s l query bytes) (estimate s l query bytes) scored
+  scored-estimate = first-value (readingChecks s bytes (estimate s l query bytes)) (estimate s l query bytes) (scored-rest .1)
 
   -- '12: a score .. is not finite' is not answered
   pub scored-finite : T (finite (estimate s l query bytes))
   scored-finite =
-      let last = append-right (openChecks s bytes) (wrongScore (estimate s l query bytes) ∷ []) (value (estimate s l query bytes)) scored-reading in
+      let last = append-right (openChecks s bytes) (wrongScore (estimate s l query bytes) ∷ []) (value (estimate s l query bytes)) (scored-rest .1) in
       let known = not-false (finite (estimate s l query bytes)) (first-passes (wrongScore (estimate s l query bytes) ∷ []) (estimate s l query bytes) last .0) in
       rw known tt
 

@@ -7,14 +7,14 @@ use native.Mathlib.Omega.{arith}
 use lib.ListN.{length, take, length-take}
 use lib.Ieee.{Float}
 use Rattle.error.specs.Answer.{value}
-use Rattle.error.proofs.Chains.{value-not-refused}
+use Rattle.error.proofs.Chains.{value-not-refused, value-not-withdrawn}
 use Rattle.packed.specs.declared.Header.{Header}
 use Rattle.packed.specs.Reading.{readRecordOf, radiiOf}
 use Rattle.packed.proofs.Accepted.{read-header}
 use Rattle.packed.proofs.Parts.{header-pairs}
 use Rattle.packed.proofs.Payloads.{length-radiiOf}
 use Rattle.turbo.specs.declared.Phased.{Phased}
-use Rattle.turbo.specs.declared.Phased.the-variants.{Score, BeforeReading, FromReading}
+use Rattle.turbo.specs.declared.Phased.the-variants.{Score, BeforeReading, FromReading, Withdrawn}
 use Rattle.turbo.specs.Estimates.{saysPhased}
 use Rattle.turbo.specs.Inner.{RadiiInFront, RadiiLeft, joined}
 
@@ -24,6 +24,7 @@ module _ (bytes : List ℕ) (room : List Float) where
   front-left (Score y) e left = left
   front-left (BeforeReading n p) e left = value-not-refused (sym e)
   front-left (FromReading n p) e left = value-not-refused (sym e)
+  front-left Withdrawn e left = value-not-withdrawn (sym e)
 
   -- by the header that was read
   pub front-put : {header : Header} → readRecordOf bytes ≡ value header → take (header .dim / 2 - 0) room ≡ radiiOf bytes → RadiiInFront bytes room

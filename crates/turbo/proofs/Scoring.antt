@@ -5,7 +5,7 @@ use mathlib.Core.Bool.{true, false}
 use mathlib.Core.List.{List, [], _∷_}
 use lib.Ieee.{Float, binary32, add}
 use lib.Ieee.Scale.{finite}
-use Rattle.error.specs.Answer.{value, refused}
+use Rattle.error.specs.Answer.{value, refused, withdrawn}
 use Rattle.error.specs.Checks.{wrongScore, finiteScoreOf}
 use Rattle.error.proofs.Chains.{append-passed, append-refused}
 use Rattle.setup.specs.declared.Setup.{Setup}
@@ -18,22 +18,31 @@ use Rattle.packed.specs.declared.Header.{Header}
 use Rattle.packed.specs.Fields.{projectionsOf}
 use Rattle.packed.specs.Layout.{headerOf}
 use Rattle.packed.specs.Reading.{radiiOf, indicesOf, signsOf}
+use Rattle.packed.proofs.Withdrawn.{unless-none, unless-some}
 use Rattle.turbo_order.specs.Scores.{scoreFrom}
 use Rattle.turbo_opening.specs.Opening.{openChecks}
 use Rattle.turbo_opening.specs.Inner.{openedOf}
-use Rattle.turbo_opening.proofs.Answers.{opened-projections}
+use Rattle.turbo_opening.proofs.Answers.{opened-passed, opened-refused, opened-withdrawn, opened-projections}
 use Rattle.turbo.specs.Scoring.{recordScore}
 use Rattle.turbo.specs.Inner.{recordScoreOf}
 
 module _ (s : Setup) (directions rotated projected : List Float) (bytes : List ℕ) where
   pub record-refused : {n p : ℕ} → openedOf s bytes ≡ refused n p → recordScoreOf s directions rotated projected bytes ≡ refused n p
-  unfolding openedOf recordScoreOf
-  record-refused e = append-refused (openChecks s bytes) (wrongScore (recordScore s directions rotated projected bytes) ∷ []) (headerOf bytes) _ e
+  unfolding recordScoreOf
+  record-refused e =
+      let refusal = opened-refused s bytes e in
+      unless-some bytes _ (refusal .0) ∙ append-refused (openChecks s bytes) (wrongScore (recordScore s directions rotated projected bytes) ∷ []) (headerOf bytes) _ (refusal .1)
+
+  pub record-withdrawn : openedOf s bytes ≡ withdrawn → recordScoreOf s directions rotated projected bytes ≡ withdrawn
+  unfolding recordScoreOf
+  record-withdrawn e = unless-none bytes _ (opened-withdrawn s bytes e)
 
   module _ {h : Header} (opened : openedOf s bytes ≡ value h) where
     record-rest : recordScoreOf s directions rotated projected bytes ≡ finiteScoreOf (recordScore s directions rotated projected bytes)
-    unfolding openedOf recordScoreOf
-    record-rest = append-passed (openChecks s bytes) (wrongScore (recordScore s directions rotated projected bytes) ∷ []) (headerOf bytes) _ opened
+    unfolding recordScoreOf
+    record-rest =
+        let passed = opened-passed s bytes opened in
+        unless-some bytes _ (passed .0) ∙ append-passed (openChecks s bytes) (wrongScore (recordScore s directions rotated projected bytes) ∷ []) (headerOf bytes) _ (passed .1)
 
     pub record-finite : (x : Float) → x ≡ recordScore s directions rotated projected bytes → finite x ≡ true → recordScoreOf s directions rotated projected bytes ≡ value x
     record-finite x e f = record-rest ∙ ap finiteScoreOf (sym e) ∙ simp f

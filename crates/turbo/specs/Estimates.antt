@@ -1,10 +1,11 @@
 -- This is the score of a record under a setup and a query, and by a prepared query. Document 01: 'Scoring follows `TurboQuantizer::inner_product_estimate`: setup,
--- query length 5, query 11, rotated 11, projected 11, record reading, 5, 20, then 12.' Assumes nothing.
+-- query length 5, query 11, rotated 11, projected 11, record reading, 5, 20, then 12.' Document 02: 'scoring answers withdrawn in place of a score, after the query's
+-- checks.' Assumes nothing.
 use Prim.Native.Nat.{ℕ}
 use mathlib.Core.List.{List, [], _∷_, _++_}
 use lib.ListN.{length}
 use lib.Ieee.{Float}
-use Rattle.error.specs.Answer.{Answer, value, refused, Check, first, each}
+use Rattle.error.specs.Answer.{Answer, value, refused, withdrawn, Check, first, each}
 use Rattle.error.specs.Checks.{wrongInput, badValue}
 use Rattle.setup.specs.Lent.{Lent}
 use Rattle.setup.specs.declared.Setup.{Setup}
@@ -15,8 +16,8 @@ use Rattle.turbo_order.specs.Scores.{scoreOf}
 use Rattle.turbo_query.specs.Query.{queryChecks}
 use Rattle.turbo_opening.specs.Opening.{contentOf}
 use Rattle.turbo.specs.declared.Phased.{Phased}
-use Rattle.turbo.specs.declared.Phased.the-variants.{Score, BeforeReading, FromReading}
-use Rattle.turbo.specs.Scoring.{recordScore, readingChecks}
+use Rattle.turbo.specs.declared.Phased.the-variants.{Score, BeforeReading, FromReading, Withdrawn}
+use Rattle.turbo.specs.Scoring.{recordScore, fromReading}
 
 -- ---- by a query
 
@@ -24,23 +25,24 @@ use Rattle.turbo.specs.Scoring.{recordScore, readingChecks}
 abbrev pub estimate : Setup → Lent → List Float → List ℕ → Float
 estimate s l query bytes = scoreOf s l query (contentOf bytes)
 
--- These are all checks of scoring: 'setup, query length 5, query 11, rotated 11, projected 11, record reading, 5, 20, then 12'.
-abbrev pub estimateChecks : Setup → Lent → List Float → List ℕ → List Check
-estimateChecks s l query bytes = queryChecks s l query ++ readingChecks s bytes (estimate s l query bytes)
+-- Behind all that scoring asks, `a` is answered: 'setup, query length 5, query 11, rotated 11, projected 11', withdrawn, 'record reading, 5, 20, then 12'.
+abbrev pub whereScored : {A : Type 0} → Setup → Lent → List Float → List ℕ → Answer A → Answer A
+whereScored s l query bytes a = first (queryChecks s l query) (fromReading s bytes (estimate s l query bytes) a)
 
 unfoldable pub innerProductEstimateOf : Setup → Lent → List Float → List ℕ → Answer Float
-innerProductEstimateOf s l query bytes = first (estimateChecks s l query bytes) (value (estimate s l query bytes))
+innerProductEstimateOf s l query bytes = whereScored s l query bytes (value (estimate s l query bytes))
 
 -- ---- with the phase of a refusal
 
--- The outer answer refuses before the record is read; the inner one is the answer from its reading on.
+-- The outer answer refuses before the record is read; the inner one is the answer from its reading on, which may be withdrawn.
 abbrev pub saysPhased : Phased → Answer (Answer Float)
 saysPhased (Score x) = value (value x)
 saysPhased (BeforeReading n p) = refused n p
 saysPhased (FromReading n p) = value (refused n p)
+saysPhased Withdrawn = value withdrawn
 
 unfoldable pub innerProductEstimatePhasedOf : Setup → Lent → List Float → List ℕ → Answer (Answer Float)
-innerProductEstimatePhasedOf s l query bytes = first (queryChecks s l query) (value (first (readingChecks s bytes (estimate s l query bytes)) (value (estimate s l query bytes))))
+innerProductEstimatePhasedOf s l query bytes = first (queryChecks s l query) (value (fromReading s bytes (estimate s l query bytes) (value (estimate s l query bytes))))
 
 -- ---- by a prepared query, which needs neither signs nor matrix
 
@@ -59,4 +61,4 @@ preparedChecks s directions rotated projected = scalarChecks s ++ directionCheck
 
 unfoldable pub innerProductEstimatePreparedOf : Setup → List Float → List Float → List Float → List ℕ → Answer Float
 innerProductEstimatePreparedOf s directions rotated projected bytes =
-    first (preparedChecks s directions rotated projected ++ readingChecks s bytes (recordScore s directions rotated projected bytes)) (value (recordScore s directions rotated projected bytes))
+    first (preparedChecks s directions rotated projected) (fromReading s bytes (recordScore s directions rotated projected bytes) (value (recordScore s directions rotated projected bytes)))

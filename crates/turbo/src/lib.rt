@@ -1,6 +1,6 @@
 // Scores of a record, by a query or by a prepared one, and the distance of a record from a query.
 // Ported from turbo-quant/src/turbo.rs and changed: the setup is lent and checked at each call, the code is a record's bytes, and an error is a number
-// and a place.
+// and a place; of a withdrawn position no score is answered.
 // A header holds a `radius::Range`, so crates.txt names that crate beside those whose calls are made.
 
 use error::DIMENSION_MISMATCH;
@@ -30,11 +30,13 @@ ghost use Rattle.turbo.specs.Inner.{RadiiInFront, RadiiLeft, joined, rec
 ghost use Rattle.turbo.specs.Order.{Demand};
 ghost use Rattle.turbo.specs.Prepared.{Prepared};
 
-// A score with its value, or a refusal with its phase: before the record is read, or from its reading on.
+// A score with its value, or a refusal with its phase: before the record is read, or from its reading on. A withdrawn position is told from its reading
+// on.
 pub enum Phased {
     Score(f32),
     BeforeReading { number: u32, place: usize },
     FromReading { number: u32, place: usize },
+    Withdrawn,
 }
 
 // The estimated inner product of a query and the vector that a record stands for.
@@ -104,6 +106,7 @@ pub fn l2_distance_estimate(
             turbo_distance::distance_from_score(query, &radii[0..pairs], score)
         }
         Scored::Refused { number, place } => Scored::Refused { number, place },
+        Scored::Withdrawn => Scored::Withdrawn,
     }
 }
 
@@ -192,6 +195,7 @@ fn record_score(
             }
         }
         Reading::Refused { number, place } => Phased::FromReading { number, place },
+        Reading::Withdrawn => Phased::Withdrawn,
     }
 }
 
@@ -315,6 +319,7 @@ fn without_phase(phased: Phased) -> Scored
         Phased::Score(score) => Scored::Score(score),
         Phased::BeforeReading { number, place } => Scored::Refused { number, place },
         Phased::FromReading { number, place } => Scored::Refused { number, place },
+        Phased::Withdrawn => Scored::Withdrawn,
     }
 }
 

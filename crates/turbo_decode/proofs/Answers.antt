@@ -7,9 +7,9 @@ use native.Mathlib.Omega.{arith}
 use borrow.Author.Tests.{eq-eqb, ne-eqb}
 use lib.ListN.{length}
 use lib.Ieee.{Float}
-use Rattle.error.specs.Answer.{value, refused, first, accepted, after}
+use Rattle.error.specs.Answer.{value, refused, withdrawn, first, accepted, after}
 use Rattle.error.specs.Checks.{wrongRoom}
-use Rattle.error.proofs.Chains.{first-passes, first-accepts, append-passed, append-refused}
+use Rattle.error.proofs.Chains.{first-passes, first-accepts, first-passed, first-refused, append-passed, append-refused}
 use Rattle.error.proofs.Answers.{after-value}
 use Rattle.rotation.specs.Checks.{rotationChecks}
 use Rattle.rotation.specs.Rotation.{unrotated, applyInverseOf}
@@ -22,14 +22,15 @@ use Rattle.polar.specs.Polar.{decodedPairs, polarPairsOf}
 use Rattle.polar.proofs.Answers.{pairs-value}
 use Rattle.packed.specs.declared.Header.{Header}
 use Rattle.packed.specs.Layout.{headerOf}
-use Rattle.packed.specs.Reading.{radiiOf, indicesOf}
+use Rattle.packed.specs.Reading.{unlessWithdrawn, radiiOf, indicesOf}
 use Rattle.packed.proofs.Accepted.{read-header}
+use Rattle.packed.proofs.Withdrawn.{unless-none, unless-some}
 use Rattle.packed.proofs.Parts.{header-pairs}
 use Rattle.packed.proofs.Payloads.{length-radiiOf}
 use Rattle.turbo_opening.specs.Opening.{openChecks}
 use Rattle.turbo_opening.specs.Inner.{openedOf}
-use Rattle.turbo_opening.proofs.Answers.{opened-as-read, opened-accepted, opened-dim}
-use Rattle.turbo_decode.specs.Decode.{decoded, decodeApproximateOf}
+use Rattle.turbo_opening.proofs.Answers.{opened-passed, opened-refused, opened-withdrawn, opened-as-read, opened-accepted, opened-dim}
+use Rattle.turbo_decode.specs.Decode.{decoded, decodeChecks, decodeApproximateOf}
 use Rattle.turbo_decode.specs.Inner.{Paired, Decodable}
 
 -- a setup that has passed its checks can rotate
@@ -46,18 +47,23 @@ module _ (s : Setup) (l : Lent) (bytes : List ℕ) (room : ℕ) where
 
   -- the setup passes
   module _ (passed : first (setupChecks s l) accepted ≡ accepted) where
-    decode-rest : decodeApproximateOf s l bytes room ≡ first (openChecks s bytes ++ (wrongRoom room (s .dim) ∷ [])) (value (decoded s l bytes))
+    decode-rest : decodeApproximateOf s l bytes room ≡ unlessWithdrawn bytes (first (decodeChecks s bytes room) (value (decoded s l bytes)))
     unfolding decodeApproximateOf
-    decode-rest = append-passed (setupChecks s l) (openChecks s bytes ++ (wrongRoom room (s .dim) ∷ [])) tt _ passed
+    decode-rest = first-passed (setupChecks s l) _ passed
+
+    pub decode-withdrawn : openedOf s bytes ≡ withdrawn → decodeApproximateOf s l bytes room ≡ withdrawn
+    decode-withdrawn e = decode-rest ∙ unless-none bytes _ (opened-withdrawn s bytes e)
 
     pub decode-closed : {number place : ℕ} → openedOf s bytes ≡ refused number place → decodeApproximateOf s l bytes room ≡ refused number place
-    unfolding openedOf
-    decode-closed e = decode-rest ∙ append-refused (openChecks s bytes) (wrongRoom room (s .dim) ∷ []) (headerOf bytes) _ e
+    decode-closed e =
+        let refusal = opened-refused s bytes e in
+        decode-rest ∙ unless-some bytes _ (refusal .0) ∙ append-refused (openChecks s bytes) (wrongRoom room (s .dim) ∷ []) (headerOf bytes) _ (refusal .1)
 
     module _ {header : Header} (opened : openedOf s bytes ≡ value header) where
       decode-last : decodeApproximateOf s l bytes room ≡ first (wrongRoom room (s .dim) ∷ []) (value (decoded s l bytes))
-      unfolding openedOf
-      decode-last = decode-rest ∙ append-passed (openChecks s bytes) (wrongRoom room (s .dim) ∷ []) (headerOf bytes) _ opened
+      decode-last =
+          let read = opened-passed s bytes opened in
+          decode-rest ∙ unless-some bytes _ (read .0) ∙ append-passed (openChecks s bytes) (wrongRoom room (s .dim) ∷ []) (headerOf bytes) _ (read .1)
 
       pub decode-room : (room ≡ s .dim → ⊥) → decodeApproximateOf s l bytes room ≡ refused 6 (s .dim)
       decode-room h = decode-last ∙ simp (ne-eqb room (s .dim) h)
@@ -83,7 +89,7 @@ module _ (s : Setup) (l : Lent) (bytes : List ℕ) (room : ℕ) where
   -- the setup is refused
   pub decode-setup : {number place : ℕ} → first (setupChecks s l) accepted ≡ refused number place → decodeApproximateOf s l bytes room ≡ refused number place
   unfolding decodeApproximateOf
-  decode-setup e = append-refused (setupChecks s l) (openChecks s bytes ++ (wrongRoom room (s .dim) ∷ [])) tt _ e
+  decode-setup e = first-refused (setupChecks s l) _ e
 
 -- ---- the steps of decoding: none refuses
 

@@ -2,6 +2,7 @@
 // Ported from turbo-quant/src/turbo.rs (`decode_approximate`) and changed: the code is a record's bytes, the tables are lent, the output is lent, and an
 // error is a number and a place.
 
+use error::Filled;
 use error::OUTPUT_LENGTH;
 use error::Outcome;
 use packed::Header;
@@ -10,7 +11,7 @@ use setup::Setup;
 ghost use mathlib.Core.Path.{_≡_};
 ghost use lib.ListN.{length};
 ghost use Rattle.error.specs.Answer.{done, after};
-ghost use Rattle.error.specs.Outcomes.{says};
+ghost use Rattle.error.specs.Outcomes.{saysFilled};
 ghost use Rattle.setup.specs.Lent.{lent};
 ghost use Rattle.rotation.specs.Rotation.{unrotated};
 ghost use Rattle.polar.specs.Polar.{decodedPairs};
@@ -18,7 +19,7 @@ ghost use Rattle.packed.specs.Reading.{radiiOf, indicesOf};
 ghost use Rattle.turbo_decode.specs.Decode.{decodeApproximateOf};
 ghost use Rattle.turbo_decode.specs.Inner.{Paired, Decodable};
 
-// Decodes a record into the output. Infinities in the output pass.
+// Decodes a record into the output. Infinities in the output pass. For a withdrawn position nothing is written.
 pub fn decode_approximate(
     setup: Setup,
     signs: &[f32],
@@ -26,27 +27,28 @@ pub fn decode_approximate(
     matrix: &[f32],
     bytes: &[u8],
     out: &mut [f32],
-) -> Outcome
-    ensures said { λ r. ⌜ says r ≡ done (decodeApproximateOf setup (lent (now (signs .entry)) (now (directions .entry)) (now (matrix .entry))) (now (bytes .entry)) (length (now (out .entry)))) ⌝ }
+) -> Filled
+    ensures said { λ r. ⌜ saysFilled r ≡ done (decodeApproximateOf setup (lent (now (signs .entry)) (now (directions .entry)) (now (matrix .entry))) (now (bytes .entry)) (length (now (out .entry)))) ⌝ }
     ensures left { λ _. ⌜ now (out .exit) ≡ after (decodeApproximateOf setup (lent (now (signs .entry)) (now (directions .entry)) (now (matrix .entry))) (now (bytes .entry)) (length (now (out .entry)))) (now (out .entry)) ⌝ }
 {
     let checked = setup_tables::check_setup(setup, signs, directions, matrix);
     if let Outcome::Refused { number, place } = checked {
-        return Outcome::Refused { number, place };
+        return Filled::Refused { number, place };
     }
     match turbo_opening::open_record(setup, bytes) {
         Reading::Read(header) => {
             let dim = setup.dim;
             if out.len() != dim {
-                return Outcome::Refused {
+                return Filled::Refused {
                     number: OUTPUT_LENGTH,
                     place: dim,
                 };
             }
             decode(signs, directions, bytes, header, out);
-            Outcome::Done
+            Filled::Done
         }
-        Reading::Refused { number, place } => Outcome::Refused { number, place },
+        Reading::Refused { number, place } => Filled::Refused { number, place },
+        Reading::Withdrawn => Filled::Withdrawn,
     }
 }
 

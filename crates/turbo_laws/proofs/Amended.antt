@@ -5,14 +5,14 @@ use mathlib.Core.Path.{_≡_, ap, _∙_}
 use mathlib.Core.Bool.{false}
 use mathlib.Core.List.{List}
 use lib.Ieee.{Float, isNan}
-use Rattle.error.specs.Answer.{Answer, refused, first}
+use Rattle.error.specs.Answer.{Answer, refused}
 use Rattle.error.specs.Checks.{finiteScoreOf}
 use Rattle.float.proofs.Nan.{nan-only}
 use Rattle.setup.specs.Lent.{Lent}
 use Rattle.setup.specs.declared.Setup.{Setup}
 use Rattle.turbo_distance.specs.Distance.{cutAtZero, distanceBySum}
 use Rattle.turbo_distance.proofs.Answers.{by-sum-nan, by-sum-number, by-sum-lowest, by-sum-highest, cut-nan}
-use Rattle.turbo.specs.Estimates.{estimateChecks, innerProductEstimateOf}
+use Rattle.turbo.specs.Estimates.{whereScored, innerProductEstimateOf}
 use Rattle.turbo.specs.Distance.{l2DistanceEstimateOf}
 use Rattle.turbo.specs.Order.{IsScored}
 use Rattle.turbo.proofs.Answers.{behind-refused, behind-scored, distance-refused}
@@ -25,7 +25,7 @@ formerBySum x = finiteScoreOf (cutAtZero x)
 module _ (s : Setup) (l : Lent) (query : List Float) (bytes : List ℕ) where
   number-kept : isNan (recordSum s l query bytes) ≡ false → l2DistanceEstimateOf s l query bytes ≡ formerDistanceOf s l query bytes
   unfolding l2DistanceEstimateOf formerDistanceOf
-  number-kept h = ap (first (estimateChecks s l query bytes)) (by-sum-number (recordSum s l query bytes) h)
+  number-kept h = ap (whereScored s l query bytes) (by-sum-number (recordSum s l query bytes) h)
 
   refused-before : (n p : ℕ) → innerProductEstimateOf s l query bytes ≡ refused n p → formerDistanceOf s l query bytes ≡ refused n p
   unfolding formerDistanceOf

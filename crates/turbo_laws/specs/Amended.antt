@@ -5,14 +5,14 @@ use mathlib.Core.Path.{_≡_}
 use mathlib.Core.Bool.{true, false}
 use mathlib.Core.List.{List}
 use lib.Ieee.{Float, inf, isNan}
-use Rattle.error.specs.Answer.{Answer, value, refused, first}
+use Rattle.error.specs.Answer.{Answer, value, refused}
 use Rattle.error.specs.Checks.{finiteScoreOf}
 use Rattle.float.specs.Constants.{posZero}
 use Rattle.setup.specs.Lent.{Lent}
 use Rattle.setup.specs.declared.Setup.{Setup}
 use Rattle.packed.specs.Reading.{radiiOf}
 use Rattle.turbo_distance.specs.Distance.{distanceSum, cutAtZero}
-use Rattle.turbo.specs.Estimates.{estimate, estimateChecks, innerProductEstimateOf}
+use Rattle.turbo.specs.Estimates.{estimate, whereScored, innerProductEstimateOf}
 use Rattle.turbo.specs.Distance.{l2DistanceEstimateOf}
 use Rattle.turbo.specs.Order.{IsScored}
 
@@ -23,7 +23,7 @@ recordSum s l query bytes = distanceSum query (radiiOf bytes) (estimate s l quer
 -- Document 01: 'Distance equals `TurboQuantizer::l2_distance_estimate`: both squared norms, less 2 × score, and 0 where that is not greater than zero, minus infinity
 -- included, or is NaN; plus infinity is 12.'
 unfoldable pub formerDistanceOf : Setup → Lent → List Float → List ℕ → Answer Float
-formerDistanceOf s l query bytes = first (estimateChecks s l query bytes) (finiteScoreOf (cutAtZero (recordSum s l query bytes)))
+formerDistanceOf s l query bytes = whereScored s l query bytes (finiteScoreOf (cutAtZero (recordSum s l query bytes)))
 
 pub record Amended : Type 0 where
   -- 'equality with `l2_distance_estimate` is kept for sums that are numbers': an infinity is a number.

@@ -1,1 +1,1 @@
-// What document 02 moves of a distance, and what it leaves: laws over the call.
+// What document 02 moves of scores, distances and decoding, and what it leaves: laws over the calls.

@@ -5,8 +5,9 @@ use Rattle.error.specs.Answer.{Answer, value, first}
 use Rattle.setup.specs.declared.Setup.{Setup}
 use Rattle.packed.specs.declared.Header.{Header}
 use Rattle.packed.specs.Layout.{headerOf}
+use Rattle.packed.specs.Reading.{unlessWithdrawn}
 use Rattle.turbo_opening.specs.Opening.{openChecks}
 
--- This is 'record reading, 5, 20' with no check of the setup: whoever asks has made those before.
+-- This is withdrawn, or 'record reading, 5, 20', with no check of the setup: whoever asks has made those before.
 unfoldable pub openedOf : Setup → List ℕ → Answer Header
-openedOf s bytes = first (openChecks s bytes) (value (headerOf bytes))
+openedOf s bytes = unlessWithdrawn bytes (first (openChecks s bytes) (value (headerOf bytes)))

@@ -1,4 +1,4 @@
--- A record is opened under a setup: read, and held against the setup. Document 01: '.. record reading, 5, 20'. Assumes nothing.
+-- A record is opened under a setup: read, and held against the setup. Document 01: '.. record reading, 5, 20'. A withdrawn position is neither. Assumes nothing.
 use Prim.Native.Nat.{ℕ}
 use mathlib.Core.Bool.{Bool, _||_}
 use mathlib.Core.List.{List, [], _∷_, _++_}
@@ -10,7 +10,7 @@ use Rattle.setup.specs.Setups.{polarBitsOf, countedProjectionsOf}
 use Rattle.packed.specs.declared.Header.{Header}
 use Rattle.packed.specs.Fields.{dimOf, bitsOf, projectionsOf}
 use Rattle.packed.specs.Layout.{headerOf}
-use Rattle.packed.specs.Reading.{recordChecks, radiiOf, indicesOf, signsOf}
+use Rattle.packed.specs.Reading.{unlessWithdrawn, recordChecks, radiiOf, indicesOf, signsOf}
 use Rattle.turbo_order.specs.Scores.{Content}
 
 -- This is what a record holds, as read from its bytes.
@@ -33,6 +33,7 @@ matchChecks s bytes = wrongInput (dimOf bytes) (s .dim) ∷ wrongMatch s bytes �
 abbrev pub openChecks : Setup → List ℕ → List Check
 openChecks s bytes = recordChecks bytes ++ matchChecks s bytes
 
--- This is what `open_record` answers: the checks of the setup's scalars, then 'record reading, 5, 20'. The value is the header of a record that is the setup's.
+-- This is what `open_record` answers: the checks of the setup's scalars, withdrawn, then 'record reading, 5, 20'. The value is the header of a record that is the
+-- setup's.
 unfoldable pub openRecordOf : Setup → List ℕ → Answer Header
-openRecordOf s bytes = first (scalarChecks s ++ openChecks s bytes) (value (headerOf bytes))
+openRecordOf s bytes = first (scalarChecks s) (unlessWithdrawn bytes (first (openChecks s bytes) (value (headerOf bytes))))

@@ -12,7 +12,7 @@ ghost use Rattle.packed.specs.Reading.{saysReading};
 ghost use Rattle.turbo_opening.specs.Opening.{badMatch, openRecordOf};
 ghost use Rattle.turbo_opening.specs.Inner.{openedOf};
 
-// Reads a record and holds it against a setup: its header, where nothing offends.
+// Reads a record and holds it against a setup: its header, where nothing offends. A withdrawn position is told behind the setup's scalars.
 pub fn open_record(setup: Setup, bytes: &[u8]) -> Reading
     ensures { λ r. ⌜ saysReading r ≡ openRecordOf setup (now (bytes .entry)) ⌝ }
 {
@@ -47,6 +47,7 @@ fn hold_against(setup: Setup, bytes: &[u8]) -> Reading
             Reading::Read(header)
         }
         Reading::Refused { number, place } => Reading::Refused { number, place },
+        Reading::Withdrawn => Reading::Withdrawn,
     }
 }
 

@@ -1,4 +1,4 @@
-// A small whole job: an archive of four records, in both modes and both radius forms, and a damaged copy, under one query.
+// A small whole job: an archive of four records, in both modes and both radius forms, a damaged copy and a withdrawn position, under one query.
 use super::show;
 use error::Outcome;
 use packed::Code;
@@ -10,6 +10,7 @@ pub(crate) fn archive() {
     first();
     second();
     damaged();
+    withdrawn();
     third();
     fourth();
 }
@@ -49,6 +50,12 @@ fn second() {
 fn damaged() {
     let record = [0u8, 4, 0, 0, 0, 2, 0, 0, 0x80, 0x3F, 0, 0, 0, 0x40, 0x8E];
     under(0, &record);
+}
+
+// The place of a record that was withdrawn: no bytes.
+fn withdrawn() {
+    let nothing = [0u8; 0];
+    under(0, &nothing);
 }
 
 // R3: radii as they are, with signs; it is scored once more by the prepared query.
@@ -205,8 +212,8 @@ fn prepared(record: &[u8]) {
     let mut rotated = [0.0f32; 4];
     let mut projected = [0.0f32; 3];
     let made = query_prepared(&mut rotated, &mut projected);
-    show::floats(made, &rotated);
-    show::floats(made, &projected);
+    show::floats(error::as_filled(made), &rotated);
+    show::floats(error::as_filled(made), &projected);
     let directions = compass();
     let score = turbo::inner_product_estimate_prepared(
         setup_of(3),

@@ -64,7 +64,10 @@ fn numbers() {
     let plus = [1.0f32; 4];
     let p8 = [1.0f32, 2.0, 3.0, 4.0];
     let mut rotated = [0.0f32; 4];
-    show::floats(rotation::apply(4, &plus, &p8, &mut rotated), &rotated);
+    show::floats(
+        error::as_filled(rotation::apply(4, &plus, &p8, &mut rotated)),
+        &rotated,
+    );
     show::float(float::sqrt(2.0));
     show::angle(polar::dequantize_angle(1, 1));
 }
@@ -94,7 +97,7 @@ fn decompressed(range: Range, payload: &[u8], back: &mut [f32]) {
     let linear = RadiusCodecProfileV1::BlockLinearU16;
     let count = back.len();
     show::floats(
-        radius_reading::decompress(linear, count, range, payload, back),
+        error::as_filled(radius_reading::decompress(linear, count, range, payload, back)),
         back,
     );
 }
@@ -137,6 +140,7 @@ fn header(made: &[u8]) {
             show::numbers(&told);
         }
         Reading::Refused { number, place } => show::refusal(number, place),
+        Reading::Withdrawn => show::withdrawn(),
     }
 }
 

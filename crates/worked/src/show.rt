@@ -1,4 +1,5 @@
 // An answer in its place in the text: each function copies the text up to the next `|`, and then prints the answer, a space before each of its items.
+use error::Filled;
 use error::Length;
 use error::Outcome;
 use error::Scored;
@@ -36,6 +37,12 @@ pub(crate) fn refusal(number: u32, place: usize) {
     decimal(place);
 }
 
+// That a position is withdrawn.
+pub(crate) fn withdrawn() {
+    text();
+    io::write_all(1, b" withdrawn");
+}
+
 // The bytes that a call wrote, hexadecimal, or its refusal.
 pub(crate) fn bytes(outcome: Outcome, written: &[u8]) {
     match outcome {
@@ -44,35 +51,39 @@ pub(crate) fn bytes(outcome: Outcome, written: &[u8]) {
     }
 }
 
-// The floats that a call wrote, as patterns, or its refusal.
-pub(crate) fn floats(outcome: Outcome, written: &[f32]) {
-    match outcome {
-        Outcome::Done => float_list(written),
-        Outcome::Refused { number, place } => refusal(number, place),
+// The floats that a call wrote, as patterns, its refusal, or that the position is withdrawn.
+pub(crate) fn floats(answer: Filled, written: &[f32]) {
+    match answer {
+        Filled::Done => float_list(written),
+        Filled::Refused { number, place } => refusal(number, place),
+        Filled::Withdrawn => withdrawn(),
     }
 }
 
-// The first index that a call wrote, or its refusal.
-pub(crate) fn indices(outcome: Outcome, written: &[u16; 1]) {
-    match outcome {
-        Outcome::Done => number(wide(written[0])),
-        Outcome::Refused { number, place } => refusal(number, place),
+// The first index that a call wrote, its refusal, or that the position is withdrawn.
+pub(crate) fn indices(answer: Filled, written: &[u16; 1]) {
+    match answer {
+        Filled::Done => number(wide(written[0])),
+        Filled::Refused { number, place } => refusal(number, place),
+        Filled::Withdrawn => withdrawn(),
     }
 }
 
-// The signs that a call wrote, + or -, or its refusal.
-pub(crate) fn signs(outcome: Outcome, written: &[i8]) {
-    match outcome {
-        Outcome::Done => sign_list(written),
-        Outcome::Refused { number, place } => refusal(number, place),
+// The signs that a call wrote, + or -, its refusal, or that the position is withdrawn.
+pub(crate) fn signs(answer: Filled, written: &[i8]) {
+    match answer {
+        Filled::Done => sign_list(written),
+        Filled::Refused { number, place } => refusal(number, place),
+        Filled::Withdrawn => withdrawn(),
     }
 }
 
-// A score's pattern, or its refusal.
+// A score's pattern, its refusal, or that the position is withdrawn.
 pub(crate) fn score(answer: Scored) {
     match answer {
         Scored::Score(x) => float(x),
         Scored::Refused { number, place } => refusal(number, place),
+        Scored::Withdrawn => withdrawn(),
     }
 }
 

@@ -140,22 +140,27 @@ fn single<'a>(row: &str, inputs: &'a Inputs) -> Option<Call<'a>> {
         }
         "score" | "score, packed" => Box::new(move || {
             let (query, record) = (black_box(&turbo.query), black_box(&turbo.record));
-            black_box(turbo_setup(turbo).inner_product_estimate(query, record).unwrap());
+            let score = turbo_setup(turbo).inner_product_estimate(query, record);
+            black_box(score.unwrap().kept().unwrap());
         }),
         "prepared score" | "prepared score, packed" => Box::new(move || {
             let (rotated, projected) = (black_box(&turbo.rotated), &turbo.projected);
             let record = black_box(&turbo.record);
             let setup = turbo_setup(turbo);
-            black_box(setup.inner_product_estimate_prepared(rotated, projected, record).unwrap());
+            let score = setup.inner_product_estimate_prepared(rotated, projected, record);
+            black_box(score.unwrap().kept().unwrap());
         }),
         "distance" | "distance, packed" => Box::new(move || {
             let (query, record) = (black_box(&turbo.query), black_box(&turbo.record));
-            black_box(turbo_setup(turbo).l2_distance_estimate(query, record).unwrap());
+            let distance = turbo_setup(turbo).l2_distance_estimate(query, record);
+            black_box(distance.unwrap().kept().unwrap());
         }),
         "decode" | "decode, packed" => {
             let mut out = vec![0.0; 256];
             Box::new(move || {
-                turbo_setup(turbo).decode_approximate(black_box(&turbo.record), &mut out).unwrap();
+                let record = black_box(&turbo.record);
+                let done = turbo_setup(turbo).decode_approximate(record, &mut out);
+                done.unwrap().kept().unwrap();
                 black_box(&out);
             })
         }
@@ -182,27 +187,31 @@ pub fn parts(inputs: &Inputs) -> Vec<(&'static str, Call<'_>)> {
         (
             "read_record",
             Box::new(move || {
-                black_box(foldrima::read_record(black_box(&turbo.record)).unwrap());
+                let header = foldrima::read_record(black_box(&turbo.record));
+                black_box(header.unwrap().kept().unwrap());
             }),
         ),
         (
             "read_radii",
             Box::new(move || {
-                foldrima::read_radii(black_box(&turbo.record), &mut radii).unwrap();
+                let done = foldrima::read_radii(black_box(&turbo.record), &mut radii);
+                done.unwrap().kept().unwrap();
                 black_box(&radii);
             }),
         ),
         (
             "read_indices",
             Box::new(move || {
-                foldrima::read_indices(black_box(&turbo.record), &mut indices).unwrap();
+                let done = foldrima::read_indices(black_box(&turbo.record), &mut indices);
+                done.unwrap().kept().unwrap();
                 black_box(&indices);
             }),
         ),
         (
             "read_signs",
             Box::new(move || {
-                foldrima::read_signs(black_box(&turbo.record), &mut signs).unwrap();
+                let done = foldrima::read_signs(black_box(&turbo.record), &mut signs);
+                done.unwrap().kept().unwrap();
                 black_box(&signs);
             }),
         ),

@@ -203,7 +203,8 @@ fn with_qjl(
     })
 }
 
-/// The code in a record; None where the record can't be taken apart.
+/// The code in a record; None where the record can't be taken apart, and so for no bytes:
+/// the Rust knows no withdrawn position.
 pub fn code(bytes: &[u8]) -> Option<Rust<TurboCode>> {
     let parts = record::split(bytes)?;
     if parts.map & !(record::LINEAR | record::SIGNS) != 0 {

@@ -224,7 +224,35 @@ pub const CALLS: [&str; 28] = [
     "encoded_bytes",
 ];
 
+/// The calls that are lent a record to read.
+pub const TAKE_A_RECORD: [&str; 5] =
+    ["read_record", "score", "distance", "decode", "score_prepared"];
+
 impl Case {
+    /// The record of a call that takes one.
+    pub fn record(&self) -> Option<&Vec<u8>> {
+        match self {
+            Case::ReadRecord { record }
+            | Case::Score { record, .. }
+            | Case::Distance { record, .. }
+            | Case::Decode { record, .. }
+            | Case::ScorePrepared { record, .. } => Some(record),
+            _ => None,
+        }
+    }
+
+    /// The same, to be changed.
+    pub(crate) fn record_mut(&mut self) -> Option<&mut Vec<u8>> {
+        match self {
+            Case::ReadRecord { record }
+            | Case::Score { record, .. }
+            | Case::Distance { record, .. }
+            | Case::Decode { record, .. }
+            | Case::ScorePrepared { record, .. } => Some(record),
+            _ => None,
+        }
+    }
+
     pub fn call(&self) -> &'static str {
         CALLS[match self {
             Case::PackedLen { .. } => 0,

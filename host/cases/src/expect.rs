@@ -1,10 +1,10 @@
-//! What the port must answer to a case: document 01's refusal, or the Rust's value, or
-//! the plain sums' value where the Rust has none.
+//! What the port must answer to a case: document 01's refusal, withdrawn by document 02,
+//! or the Rust's value, or the plain sums' value where the Rust has none.
 
 use crate::{
     ask::{self, ask},
     case::{same, same_float, strictly_same, Answer, Case, Profile, Value},
-    paper::{refusal, Refusal},
+    paper::{ended, Ended, Refusal},
     plain, record,
 };
 
@@ -12,6 +12,8 @@ use crate::{
 #[derive(Debug, Clone, PartialEq)]
 pub enum Expected {
     Refused(Refusal),
+    /// The record has no bytes, and nothing is refused before it would be read.
+    Withdrawn,
     Value {
         value: Value,
         by_rust: bool,
@@ -26,8 +28,10 @@ pub enum Expected {
 
 pub fn expected(case: &Case) -> Expected {
     let answer = ask(case);
-    if let Some(refused) = refusal(case, &answer) {
-        return Expected::Refused(refused);
+    match ended(case, &answer) {
+        Some(Ended::Refused(refused)) => return Expected::Refused(refused),
+        Some(Ended::Withdrawn) => return Expected::Withdrawn,
+        None => {}
     }
     let exact = plain::value(case);
     match (answer, exact) {
@@ -46,13 +50,16 @@ pub fn expected(case: &Case) -> Expected {
 }
 
 /// The sum of a distance before its cut to zero: the Rust's, or the plain sums' where it
-/// has none. None where a refusal comes before, the score's own 12 among them.
+/// has none. None where a refusal comes before, the score's own 12 among them, and where
+/// the position is withdrawn.
 pub fn distance_sum(case: &Case, wanted: &Expected) -> Option<f32> {
     let Case::Distance { setup, query, record } = case else {
         return None;
     };
-    if matches!(wanted, Expected::Refused(refused) if refused.number != 12) {
-        return None;
+    match wanted {
+        Expected::Withdrawn => return None,
+        Expected::Refused(refused) if refused.number != 12 => return None,
+        _ => {}
     }
     match ask::distance_sum(case) {
         Answer::Value(Value::Float(sum)) => Some(sum),
@@ -98,11 +105,11 @@ fn ruled_range(radii: &[f32], min: f32, max: f32) -> (f32, f32) {
     (if same_float(low, min) { low } else { min }, if same_float(high, max) { high } else { max })
 }
 
-/// What the port gave: its refusal or its value, and whether it left alone what is not
-/// its to write: every lent output on a refusal, and all around them on a value.
+/// What the port gave: its value, its refusal or withdrawn, and whether it left alone what
+/// is not its to write: all around a lent output on a value, else all of it.
 #[derive(Debug, Clone, PartialEq)]
 pub struct Given {
-    pub answer: Result<Value, Refusal>,
+    pub answer: Result<Value, Ended>,
     pub untouched: bool,
 }
 
@@ -110,7 +117,10 @@ impl Given {
     /// Agreement by document 01's rule for zeros and NaNs.
     pub fn agrees(&self, wanted: &Expected) -> bool {
         match (&self.answer, wanted) {
-            (Err(given), Expected::Refused(wanted)) => given == wanted && self.untouched,
+            (Err(Ended::Refused(given)), Expected::Refused(wanted)) => {
+                given == wanted && self.untouched
+            }
+            (Err(Ended::Withdrawn), Expected::Withdrawn) => self.untouched,
             (Ok(given), Expected::Value { value, .. }) => same(given, value) && self.untouched,
             _ => false,
         }

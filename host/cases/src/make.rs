@@ -6,7 +6,7 @@ use std::{collections::HashMap, rc::Rc};
 use oracle::thin;
 
 use crate::{
-    case::{Case, Profile, Setup, CALLS},
+    case::{Case, Profile, Setup, CALLS, TAKE_A_RECORD},
     rng::Rng,
 };
 
@@ -26,15 +26,44 @@ pub struct Maker {
     pub(crate) tables: HashMap<u8, Rc<Vec<f32>>>,
     pub(crate) kept: Option<Rc<Setup>>,
     pub(crate) uses: usize,
+    /// How many of a hundred setups are damaged.
+    pub(crate) damaged: usize,
+    /// Makes the cases whose records are cut short, so that all others are the same with
+    /// them and without.
+    cutter: Option<Box<Maker>>,
 }
 
 impl Maker {
     pub fn new(seed: u64, size: Size) -> Self {
-        Self { rng: Rng(seed), size, tables: HashMap::new(), kept: None, uses: 0 }
+        let cutter = Self { damaged: 40, ..Self::alone(!seed, size) };
+        Self { cutter: Some(Box::new(cutter)), ..Self::alone(seed, size) }
     }
 
-    /// The next case of the call with this place in `CALLS`.
+    fn alone(seed: u64, size: Size) -> Self {
+        let (rng, tables) = (Rng(seed), HashMap::new());
+        Self { rng, size, tables, kept: None, uses: 0, damaged: 4, cutter: None }
+    }
+
+    /// The next case of the call with this place in `CALLS`. Of a hundred records ten are cut
+    /// to no bytes, a withdrawn position, and two to 1 to 5; there two of five setups are
+    /// damaged, and queries and outputs as ever.
     pub fn make(&mut self, call: usize) -> Case {
+        match &mut self.cutter {
+            Some(cutter) if TAKE_A_RECORD.contains(&CALLS[call]) => {
+                let kept = match cutter.rng.below(100) {
+                    0..10 => 0,
+                    10..12 => 1 + cutter.rng.below(5),
+                    _ => return self.whole(call),
+                };
+                let mut case = cutter.whole(call);
+                case.record_mut().unwrap().truncate(kept);
+                case
+            }
+            _ => self.whole(call),
+        }
+    }
+
+    fn whole(&mut self, call: usize) -> Case {
         match CALLS[call] {
             "packed_len" => {
                 let bits = self.bits();

@@ -3,6 +3,10 @@
 //! value that is not finite after rotation or projection (11), and whether a score or
 //! a distance's sum is to be refused (12), since both need the sums themselves. The Rust
 //! answers 0 for a distance whose sum is NaN; document 01 as amended refuses it.
+//!
+//! Document 02 has a record of no bytes as a withdrawn position, which the Rust doesn't
+//! know: the reader says so before its first check, and so after all that a call checks
+//! before it reads the record.
 
 use crate::{
     ask,
@@ -13,19 +17,26 @@ use crate::{
 /// A refusal's number and place.
 #[derive(Debug, Clone, Copy, PartialEq, Eq, Hash, PartialOrd, Ord)]
 pub struct Refusal {
-    pub number: u8,
+    pub number: u32,
     pub place: u64,
 }
 
-type Checked = Result<(), Refusal>;
+/// Why a call has no value.
+#[derive(Debug, Clone, Copy, PartialEq, Eq)]
+pub enum Ended {
+    Refused(Refusal),
+    Withdrawn,
+}
+
+type Checked = Result<(), Ended>;
 
 const LARGEST: usize = 4096;
 
-fn refuse<T>(number: u8, place: usize) -> Result<T, Refusal> {
-    Err(Refusal { number, place: place as u64 })
+fn refuse<T>(number: u32, place: usize) -> Result<T, Ended> {
+    Err(Ended::Refused(Refusal { number, place: place as u64 }))
 }
 
-fn need(holds: bool, number: u8, place: usize) -> Checked {
+fn need(holds: bool, number: u32, place: usize) -> Checked {
     if holds {
         Ok(())
     } else {
@@ -34,7 +45,7 @@ fn need(holds: bool, number: u8, place: usize) -> Checked {
 }
 
 /// The first item that offends, by its index.
-fn each<T>(items: &[T], number: u8, good: impl Fn(&T) -> bool) -> Checked {
+fn each<T>(items: &[T], number: u32, good: impl Fn(&T) -> bool) -> Checked {
     match items.iter().position(|item| !good(item)) {
         Some(place) => refuse(number, place),
         None => Ok(()),
@@ -45,7 +56,7 @@ fn width(bits: u8) -> Checked {
     need((1..=16).contains(&bits), 1, bits as usize)
 }
 
-fn bit_len(count: usize, bits: usize) -> Result<usize, Refusal> {
+fn bit_len(count: usize, bits: usize) -> Result<usize, Ended> {
     match count.checked_mul(bits) {
         Some(total) => Ok(total.div_ceil(8)),
         None => refuse(19, 0),
@@ -112,8 +123,11 @@ struct Header {
     projections: usize,
 }
 
-fn read(bytes: &[u8]) -> Result<Header, Refusal> {
+fn read(bytes: &[u8]) -> Result<Header, Ended> {
     let len = bytes.len();
+    if len == 0 {
+        return Err(Ended::Withdrawn);
+    }
     need(len >= 6, 13, len)?;
     let map = bytes[0];
     need(map & !(record::LINEAR | record::SIGNS) == 0, 18, map as usize)?;
@@ -132,6 +146,14 @@ fn read(bytes: &[u8]) -> Result<Header, Refusal> {
     let Some(parts) = record::split(bytes) else {
         return refuse(13, len);
     };
+    radii(&parts)?;
+    padding(&parts.indices, dim / 2 * bits as usize)?;
+    padding(&parts.signs, projections)?;
+    Ok(Header { dim, bits, projections })
+}
+
+/// The range of a linear record, and its radii as read.
+fn radii(parts: &record::Parts) -> Checked {
     if parts.linear() {
         need(radius(&parts.min) && radius(&parts.max) && parts.min <= parts.max, 17, 0)?;
         let span = parts.max - parts.min;
@@ -142,18 +164,14 @@ fn read(bytes: &[u8]) -> Result<Header, Refusal> {
                 parts.min + span * (f32::from(u16::from_le_bytes([two[0], two[1]])) / 65535.0)
             })
             .collect();
-        each(&values, 16, |value| value.is_finite())?;
-    } else {
-        let values: Vec<f32> = parts
-            .radii
-            .chunks_exact(4)
-            .map(|four| f32::from_le_bytes([four[0], four[1], four[2], four[3]]))
-            .collect();
-        each(&values, 16, radius)?;
+        return each(&values, 16, |value| value.is_finite());
     }
-    padding(&parts.indices, dim / 2 * bits as usize)?;
-    padding(&parts.signs, projections)?;
-    Ok(Header { dim, bits, projections })
+    let values: Vec<f32> = parts
+        .radii
+        .chunks_exact(4)
+        .map(|four| f32::from_le_bytes([four[0], four[1], four[2], four[3]]))
+        .collect();
+    each(&values, 16, radius)
 }
 
 fn matches(setup: &Setup, header: &Header) -> Checked {
@@ -200,8 +218,9 @@ fn codebook(bits: u8, min: f32, max: f32) -> Checked {
     need(min.is_finite() && max.is_finite() && min < max, 17, 0)
 }
 
-/// The refusal that document 01 asks for, or none where it asks for a value.
-pub fn refusal(case: &Case, answer: &Answer) -> Option<Refusal> {
+/// The refusal that document 01 asks for, or that the position is withdrawn; none where
+/// a value is asked for.
+pub fn ended(case: &Case, answer: &Answer) -> Option<Ended> {
     judge(case, answer).err()
 }
 

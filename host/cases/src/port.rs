@@ -2,15 +2,15 @@
 //! the feature `capi`.
 //!
 //! Every output is lent between two guards and filled with a known item. After a value
-//! the guards must have kept it; after a refusal all of the output must have, and the
-//! place of a scalar too.
+//! the guards must have kept it; after a refusal or a withdrawn position all of the output
+//! must have, and the place of a scalar too.
 
 use foldrima::{call, call_under, raw};
 
 use crate::{
     case::{Case, Mode, Profile, Value},
     expect::Given,
-    paper::Refusal,
+    paper::{Ended, Refusal},
     record,
 };
 
@@ -68,7 +68,7 @@ impl<T: Copy + PartialEq> Kept for Lent<T> {
     }
 }
 
-/// The lent number and place of a refusal.
+/// The lent number and place.
 struct Told {
     number: Lent<u32>,
     place: Lent<usize>,
@@ -79,18 +79,18 @@ impl Told {
         Self { number: Lent::new(1, 0xA5A5_A5A5), place: Lent::new(1, usize::MAX - 90) }
     }
 
-    /// The answer, number 0 standing for a value; its place must then be 0.
+    /// The answer: number 0 stands for a value and another one for a withdrawn position;
+    /// the place of both must be 0.
     fn given(&self, lent: &[&dyn Kept], value: impl FnOnce() -> Value) -> Given {
         let (number, place) = (self.number.first(), self.place.first());
         let around = self.number.around() && self.place.around();
-        if number == 0 {
-            let untouched = around && place == 0 && lent.iter().all(|one| one.around());
-            return Given { answer: Ok(value()), untouched };
-        }
-        let number = u8::try_from(number).unwrap_or(u8::MAX);
-        let refusal = Refusal { number, place: place as u64 };
-        let untouched = around && lent.iter().all(|one| one.whole());
-        Given { answer: Err(refusal), untouched }
+        let whole = around && lent.iter().all(|one| one.whole());
+        let (answer, untouched) = match number {
+            0 => (Ok(value()), around && place == 0 && lent.iter().all(|one| one.around())),
+            raw::WITHDRAWN => (Err(Ended::Withdrawn), whole && place == 0),
+            _ => (Err(Ended::Refused(Refusal { number, place: place as u64 })), whole),
+        };
+        Given { answer, untouched }
     }
 }
 
@@ -328,19 +328,77 @@ fn plain(value: Value) -> Given {
     Given { answer: Ok(value), untouched: true }
 }
 
-/// A record's header, parts and values. The seven calls must agree: with each other on a
-/// refusal, and with the record's layout on its header and parts.
+/// A record's header, parts and values. The seven calls must agree: with each other where
+/// there is no value, and with the record's layout on its header and parts.
 fn read(bytes: &[u8]) -> Given {
-    let (from, size) = (bytes.as_ptr(), bytes.len());
+    let (header, head) = header(bytes);
+    let parts = parts(bytes);
+    if header.answer.is_err() {
+        // For no length of an output is there another answer.
+        let said = [0, 1, 3].map(|len| values(bytes, (len, len, len)).0);
+        let same = said.iter().flatten().all(|given| *given == header);
+        return Given { untouched: header.untouched && same && parts == [(0, 0); 3], ..header };
+    }
+    let lens = (head.dim / 2, head.dim / 2, head.projections);
+    let (exact, value) = values(bytes, lens);
+    let longer = values(bytes, (lens.0 + 1, lens.1 + 1, lens.2 + 1)).0;
+    let needed = [lens.0, lens.1, lens.2];
+    let refused = longer.iter().zip(needed).all(|(given, needed)| {
+        let wanted = Ended::Refused(Refusal { number: 6, place: needed as u64 });
+        given.answer == Err(wanted) && given.untouched
+    });
+    let done = exact.iter().all(|given| given.answer.is_ok() && given.untouched);
+    let untouched = header.untouched && head.fits(bytes, parts) && refused && done;
+    Given { answer: Ok(value), untouched }
+}
+
+/// What a record's header hands back.
+struct Head {
+    mode: u8,
+    profile: u8,
+    dim: usize,
+    bits: u8,
+    projections: usize,
+    min: f32,
+    max: f32,
+}
+
+impl Head {
+    /// Whether header and parts are the record's own, by its layout.
+    fn fits(&self, bytes: &[u8], parts: [(usize, usize); 3]) -> bool {
+        record::split(bytes).is_some_and(|wanted| {
+            let map = wanted.map;
+            let counted = if wanted.has_signs() { wanted.projections as usize } else { 0 };
+            let (a, b) = (wanted.radii.len(), wanted.indices.len());
+            let start = record::header_len(map);
+            let found = (self.mode, self.profile, self.dim, self.bits, self.projections);
+            found == (map >> 1, map & 1, wanted.dim as usize, wanted.bits, counted)
+                && self.min.to_bits() == wanted.min.to_bits()
+                && self.max.to_bits() == wanted.max.to_bits()
+                && parts == [(start, a), (start + a, b), (start + a + b, wanted.signs.len())]
+        })
+    }
+}
+
+/// Where the three parts of a record start, and how long they are.
+fn parts(bytes: &[u8]) -> [(usize, usize); 3] {
+    [raw::foldrima_radii_part, raw::foldrima_indices_part, raw::foldrima_signs_part].map(|part| {
+        let (mut start, mut count) = (Lent::new(1, usize::MAX), Lent::new(1, usize::MAX));
+        unsafe { part(bytes.as_ptr(), bytes.len(), start.as_mut_ptr(), count.as_mut_ptr()) };
+        (start.first(), count.first())
+    })
+}
+
+/// The answer of `read_record`, and what it left in its outputs.
+fn header(bytes: &[u8]) -> (Given, Head) {
     let mut told = Told::new();
     let (mut mode, mut profile, mut bits) =
         (Lent::new(1, BYTE), Lent::new(1, BYTE), Lent::new(1, BYTE));
     let (mut dim, mut projections) = (Lent::new(1, usize::MAX), Lent::new(1, usize::MAX));
     let (mut min, mut max) = (Lent::new(1, FLOAT), Lent::new(1, FLOAT));
     unsafe {
-        raw::foldrima_read_record(
-            from,
-            size,
+        call!(foldrima_read_record(
+            [bytes],
             told.number.as_mut_ptr(),
             told.place.as_mut_ptr(),
             mode.as_mut_ptr(),
@@ -349,48 +407,20 @@ fn read(bytes: &[u8]) -> Given {
             bits.as_mut_ptr(),
             projections.as_mut_ptr(),
             min.as_mut_ptr(),
-            max.as_mut_ptr(),
-        )
+            max.as_mut_ptr()
+        ))
     };
     let lent: [&dyn Kept; 7] = [&mode, &profile, &dim, &bits, &projections, &min, &max];
-    let header = told.given(&lent, || Value::Done);
-    let parts = [raw::foldrima_radii_part, raw::foldrima_indices_part, raw::foldrima_signs_part]
-        .map(|part| {
-            let (mut start, mut count) = (Lent::new(1, usize::MAX), Lent::new(1, usize::MAX));
-            unsafe { part(from, size, start.as_mut_ptr(), count.as_mut_ptr()) };
-            (start.first(), count.first())
-        });
-    if header.answer.is_err() {
-        let lens = (3, 3, 3);
-        let same = values(bytes, lens).0.iter().all(|given| given.answer == header.answer);
-        let kept = values(bytes, lens).0.iter().all(|given| given.untouched);
-        let empty = parts.iter().all(|part| part.1 == 0);
-        return Given { untouched: header.untouched && same && kept && empty, ..header };
-    }
-    let found = (mode.first(), profile.first(), dim.first(), bits.first(), projections.first());
-    let wanted = record::split(bytes).filter(|wanted| {
-        let map = wanted.map;
-        let counted = if wanted.has_signs() { wanted.projections as usize } else { 0 };
-        let (a, b) = (wanted.radii.len(), wanted.indices.len());
-        let start = record::header_len(map);
-        found == (map >> 1, map & 1, wanted.dim as usize, wanted.bits, counted)
-            && min.first().to_bits() == wanted.min.to_bits()
-            && max.first().to_bits() == wanted.max.to_bits()
-            && parts[0] == (start, a)
-            && parts[1] == (start + a, b)
-            && parts[2] == (start + a + b, wanted.signs.len())
-    });
-    let lens = (dim.first() / 2, dim.first() / 2, projections.first());
-    let (exact, value) = values(bytes, lens);
-    let longer = values(bytes, (lens.0 + 1, lens.1 + 1, lens.2 + 1)).0;
-    let needed = [lens.0, lens.1, lens.2];
-    let refused = longer.iter().zip(needed).all(|(given, needed)| {
-        let wanted = Refusal { number: 6, place: needed as u64 };
-        given.answer == Err(wanted) && given.untouched
-    });
-    let done = exact.iter().all(|given| given.answer.is_ok() && given.untouched);
-    let untouched = header.untouched && wanted.is_some() && refused && done;
-    Given { answer: Ok(value), untouched }
+    let head = Head {
+        mode: mode.first(),
+        profile: profile.first(),
+        dim: dim.first(),
+        bits: bits.first(),
+        projections: projections.first(),
+        min: min.first(),
+        max: max.first(),
+    };
+    (told.given(&lent, || Value::Done), head)
 }
 
 /// The three lists of a record, read into outputs of these lengths.
@@ -453,8 +483,21 @@ mod tests {
         }
         let out = Lent::new(3, FLOAT);
         let given = told(6, 3).given(&[&out], || Value::Done);
-        let refusal = Refusal { number: 6, place: 3 };
+        let refusal = Ended::Refused(Refusal { number: 6, place: 3 });
         assert_eq!(given, Given { answer: Err(refusal), untouched: true });
+    }
+
+    #[test]
+    fn a_write_on_a_withdrawn_position_is_seen() {
+        for at in 0..2 * GUARD + 3 {
+            let mut out = Lent::new(3, FLOAT);
+            out.items[at] = 0.0;
+            assert!(!told(255, 0).given(&[&out], || Value::Done).untouched, "{at}");
+        }
+        let out = Lent::new(3, FLOAT);
+        let given = told(255, 0).given(&[&out], || Value::Done);
+        assert_eq!(given, Given { answer: Err(Ended::Withdrawn), untouched: true });
+        assert!(!told(255, 1).given(&[&out], || Value::Done).untouched);
     }
 
     #[test]

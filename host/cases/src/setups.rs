@@ -39,7 +39,7 @@ impl Maker {
     /// The kept setup; in a few of a hundred another that is damaged.
     pub(crate) fn setup(&mut self) -> Rc<Setup> {
         let kept = self.kept_setup();
-        if self.rng.chance(4) {
+        if self.rng.chance(self.damaged) {
             return self.fresh_setup(100);
         }
         kept

@@ -2,10 +2,10 @@
 //! answer is seen.
 
 use cases::{
-    case::{Value, CALLS},
+    case::{Value, CALLS, TAKE_A_RECORD},
     expect::{expected, Expected, Given},
     make::{Maker, Size},
-    paper::Refusal,
+    paper::{Ended, Refusal},
 };
 
 fn changed(value: &Value) -> Option<Value> {
@@ -36,32 +36,55 @@ fn next(value: f32) -> f32 {
     f32::from_bits(value.to_bits() ^ 1)
 }
 
+fn given(answer: Result<Value, Ended>) -> Given {
+    Given { answer, untouched: true }
+}
+
+/// Any refusal but this one, a value, a withdrawn position and a write to an output differ.
+fn a_refusal_differs(refusal: Refusal, wanted: &Expected) {
+    let Refusal { number, place } = refusal;
+    let answer = |refusal| Err(Ended::Refused(refusal));
+    assert!(given(answer(refusal)).agrees(wanted));
+    assert!(!given(answer(Refusal { number: number + 1, place })).agrees(wanted));
+    assert!(!given(answer(Refusal { number, place: place + 1 })).agrees(wanted));
+    assert!(!given(Ok(Value::Done)).agrees(wanted));
+    assert!(!given(Err(Ended::Withdrawn)).agrees(wanted));
+    assert!(!Given { answer: answer(refusal), untouched: false }.agrees(wanted));
+}
+
+/// A refusal differs, that of a length too; a value, and a write to an output.
+fn withdrawn_differs(wanted: &Expected) {
+    assert!(given(Err(Ended::Withdrawn)).agrees(wanted));
+    for number in [1, 13, 255] {
+        let refusal = Refusal { number, place: 0 };
+        assert!(!given(Err(Ended::Refused(refusal))).agrees(wanted));
+    }
+    assert!(!given(Ok(Value::Done)).agrees(wanted));
+    assert!(!given(Ok(Value::Float(0.0))).agrees(wanted));
+    assert!(!Given { answer: Err(Ended::Withdrawn), untouched: false }.agrees(wanted));
+}
+
 #[test]
 fn every_change_is_seen() {
     cases::ask::hush();
-    for call in 0..CALLS.len() {
+    for (call, name) in CALLS.into_iter().enumerate() {
         let mut maker = Maker::new(9, Size::Small);
+        let mut withdrawn = 0;
         for _ in 0..300 {
             let case = maker.make(call);
             let wanted = expected(&case);
-            let given = |answer| Given { answer, untouched: true };
             match &wanted {
                 Expected::Open => panic!("{case}: nothing to be held against"),
-                Expected::Refused(refusal) => {
-                    let Refusal { number, place } = *refusal;
-                    assert!(given(Err(*refusal)).agrees(&wanted));
-                    let other = Refusal { number: number + 1, place };
-                    assert!(!given(Err(other)).agrees(&wanted));
-                    let other = Refusal { number, place: place + 1 };
-                    assert!(!given(Err(other)).agrees(&wanted));
-                    assert!(!given(Ok(Value::Done)).agrees(&wanted));
-                    let touched = Given { answer: Err(*refusal), untouched: false };
-                    assert!(!touched.agrees(&wanted));
+                Expected::Refused(refusal) => a_refusal_differs(*refusal, &wanted),
+                Expected::Withdrawn => {
+                    withdrawn += 1;
+                    withdrawn_differs(&wanted);
                 }
                 Expected::Value { value, .. } => {
                     assert!(given(Ok(value.clone())).agrees(&wanted));
-                    let refusal = Refusal { number: 1, place: 0 };
+                    let refusal = Ended::Refused(Refusal { number: 1, place: 0 });
                     assert!(!given(Err(refusal)).agrees(&wanted));
+                    assert!(!given(Err(Ended::Withdrawn)).agrees(&wanted));
                     let astray = Given { answer: Ok(value.clone()), untouched: false };
                     assert!(!astray.agrees(&wanted));
                     if let Some(other) = changed(value) {
@@ -70,5 +93,6 @@ fn every_change_is_seen() {
                 }
             }
         }
+        assert_eq!(withdrawn > 0, TAKE_A_RECORD.contains(&name), "{name}");
     }
 }

@@ -17,7 +17,7 @@ fn value(case: Case) -> Value {
     }
 }
 
-fn refused(case: Case) -> (u8, u64) {
+fn refused(case: Case) -> (u32, u64) {
     assert!(matches!(ask(&case), Answer::Error(_)), "{case}: the Rust does not refuse");
     match expected(&case) {
         Expected::Refused(Refusal { number, place }) => (number, place),

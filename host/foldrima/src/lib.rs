@@ -1,12 +1,13 @@
 //! The port's calls for Rust programs: safe functions over the C functions of its static
 //! library, under the Rust's names. Outputs are lent and must have exactly the needed
-//! length; a refused call writes to none of them.
+//! length; a refused call writes to none of them. A record of no bytes is a withdrawn
+//! position, neither a refusal nor a value: calls that take a record answer a [`Position`].
 //!
 //! The library's answers rest on the float mode that a thread starts with: round to
 //! nearest, subnormals kept. A call panics in a thread that has changed it.
 //!
 //! ```
-//! use foldrima::{refusal, Refusal, Setup, TurboMode};
+//! use foldrima::{refusal, Position, Refusal, Setup, TurboMode};
 //!
 //! # fn main() -> Result<(), Refusal> {
 //! let signs = [1.0, 1.0]; // drawn by a generator that is seeded with `hadamard_seed`
@@ -18,12 +19,12 @@
 //! let (mut rotated, mut projected) = ([0.0; 2], [0.0; 3]);
 //! setup.prepare_query(&[1.0, 3.0], &mut rotated, &mut projected)?;
 //! let record = [2, 2, 0, 0, 0, 1, 3, 0, 0, 0, 0, 0, 0x80, 0x3F, 1, 5];
-//! let score = setup.inner_product_estimate_prepared(&rotated, &projected, &record)?;
-//! assert!(score > 3.66 && score < 3.67);
-//! let cut = setup.inner_product_estimate_prepared(&rotated, &projected, &record[..9]);
+//! let score = |record: &[u8]| setup.inner_product_estimate_prepared(&rotated, &projected, record);
+//! assert!(matches!(score(&record)?, Position::Kept(x) if x > 3.66 && x < 3.67));
 //! let refused = Refusal { number: refusal::MALFORMED_LENGTH, place: 9 };
-//! assert_eq!(cut, Err(refused));
+//! assert_eq!(score(&record[..9]), Err(refused));
 //! assert_eq!(refused.to_string(), "refused (13): byte length wrong; the length found: 9");
+//! assert_eq!(score(&[])?, Position::Withdrawn);
 //! # Ok(())
 //! # }
 //! ```
@@ -37,6 +38,7 @@ pub mod refusal;
 mod bits;
 mod codebook;
 mod environment;
+mod position;
 mod radii;
 mod record;
 mod setup;
@@ -45,6 +47,7 @@ pub use bits::{
     pack_indices, pack_signs, packed_len, unpack_indices, unpack_signs, validate_padding_zero,
 };
 pub use codebook::{dequantize_angle, hadamard_seed, matrix_seed, sqrt, ScalarCodebook};
+pub use position::Position;
 pub use radii::{compress, decompress, encoded_bytes, Range};
 pub use record::{
     indices_part, radii_part, read_indices, read_radii, read_record, read_signs, record_size,
@@ -70,19 +73,38 @@ pub enum RadiusCodecProfileV1 {
     BlockLogU8 = 2,
 }
 
-/// Makes a call with room for its number and place, and reads them as an answer.
+/// Makes a call that takes a record with room for its number and place, and reads them as
+/// an answer.
 #[inline]
-fn asked(call: impl FnOnce(*mut u32, *mut usize)) -> Result<(), Refusal> {
+fn of_record(call: impl FnOnce(*mut u32, *mut usize)) -> Result<Position<()>, Refusal> {
     environment::look();
     let (mut number, mut place) = (0, 0);
     call(&mut number, &mut place);
     match number {
-        0 => Ok(()),
+        0 => Ok(Position::Kept(())),
+        raw::WITHDRAWN => Ok(Position::Withdrawn),
         _ => Err(Refusal { number, place }),
     }
 }
 
-/// The same for a call with room for a value.
+/// The same for a call that takes none, which can't answer that it is withdrawn.
+#[inline]
+fn asked(call: impl FnOnce(*mut u32, *mut usize)) -> Result<(), Refusal> {
+    match of_record(call)? {
+        Position::Kept(()) => Ok(()),
+        Position::Withdrawn => unreachable!("withdrawn, without a record"),
+    }
+}
+
+/// The same for a call that takes a record, with room for a score or a distance.
+#[inline]
+fn scored(call: impl FnOnce(*mut u32, *mut usize, *mut f32)) -> Result<Position<f32>, Refusal> {
+    let mut value = 0.0;
+    let answer = of_record(|number, place| call(number, place, &mut value))?;
+    Ok(answer.map(|()| value))
+}
+
+/// The same for a call that takes none, with room for a value.
 #[inline]
 fn valued<T: Default>(call: impl FnOnce(*mut u32, *mut usize, *mut T)) -> Result<T, Refusal> {
     let mut value = T::default();

@@ -1,6 +1,9 @@
 //! The C functions of `libcapi.a`, as its header has them. A slice is a pointer and a
-//! length. `number` and `place` come back as a refusal's, or as 0 and 0; on a refusal
-//! the other outputs keep what they held.
+//! length. `number` and `place` come back as a refusal's, as 0 and 0 beside a value, or as
+//! `WITHDRAWN` and 0; where there is no value, the other outputs keep what they held.
+
+/// The number of a withdrawn position, which no refusal has.
+pub const WITHDRAWN: u32 = 255;
 
 // Bits.
 extern "C" {

@@ -1,7 +1,8 @@
 //! Records: written, read, and their three parts.
 
 use crate::{
-    asked, call, environment::look, raw, valued, RadiusCodecProfileV1, Range, Refusal, TurboMode,
+    asked, call, environment::look, of_record, raw, valued, Position, RadiusCodecProfileV1, Range,
+    Refusal, TurboMode,
 };
 
 /// What an accepted record says of itself.
@@ -68,11 +69,12 @@ pub fn write_record(
     })
 }
 
-/// Reads a record: all of it is checked, and its header handed back.
-pub fn read_record(bytes: &[u8]) -> Result<Header, Refusal> {
+/// Reads a record: all of it is checked, and its header handed back. No bytes are withdrawn,
+/// before every check; 1 to 5 are refused.
+pub fn read_record(bytes: &[u8]) -> Result<Position<Header>, Refusal> {
     let (mut mode, mut profile, mut dim, mut bits, mut projections) = (0, 0, 0, 0, 0);
     let mut range = Range { min: 0.0, max: 0.0 };
-    asked(|number, place| unsafe {
+    let answer = of_record(|number, place| unsafe {
         call!(foldrima_read_record(
             [bytes],
             number,
@@ -91,7 +93,7 @@ pub fn read_record(bytes: &[u8]) -> Result<Header, Refusal> {
         0 => RadiusCodecProfileV1::F32,
         _ => RadiusCodecProfileV1::BlockLinearU16,
     };
-    Ok(Header { mode, profile, dim, bits, projections, range })
+    Ok(answer.map(|()| Header { mode, profile, dim, bits, projections, range }))
 }
 
 type Part = unsafe extern "C" fn(*const u8, usize, *mut usize, *mut usize);
@@ -103,34 +105,40 @@ fn part(bytes: &[u8], find: Part) -> &[u8] {
     &bytes[start..start + count]
 }
 
-/// The record's own bytes that hold its radii; empty where it is refused.
+/// The record's own bytes that hold its radii; empty where it is refused or withdrawn.
 pub fn radii_part(bytes: &[u8]) -> &[u8] {
     part(bytes, raw::foldrima_radii_part)
 }
 
-/// The record's own bytes that hold its indices; empty where it is refused.
+/// The record's own bytes that hold its indices; empty where it is refused or withdrawn.
 pub fn indices_part(bytes: &[u8]) -> &[u8] {
     part(bytes, raw::foldrima_indices_part)
 }
 
-/// The record's own bytes that hold its signs; empty where it has none or is refused.
+/// The record's own bytes that hold its signs; empty where it has none, is refused or
+/// withdrawn.
 pub fn signs_part(bytes: &[u8]) -> &[u8] {
     part(bytes, raw::foldrima_signs_part)
 }
 
-/// The radii of a record, one for each pair.
-pub fn read_radii(bytes: &[u8], out: &mut [f32]) -> Result<(), Refusal> {
-    asked(|number, place| unsafe { call!(foldrima_read_radii([bytes], [mut out], number, place)) })
+/// The radii of a record, one for each pair. No bytes are withdrawn, before every check.
+pub fn read_radii(bytes: &[u8], out: &mut [f32]) -> Result<Position<()>, Refusal> {
+    of_record(|number, place| unsafe {
+        call!(foldrima_read_radii([bytes], [mut out], number, place))
+    })
 }
 
-/// The indices of a record, one for each pair.
-pub fn read_indices(bytes: &[u8], out: &mut [u16]) -> Result<(), Refusal> {
-    asked(|number, place| unsafe {
+/// The indices of a record, one for each pair. No bytes are withdrawn, before every check.
+pub fn read_indices(bytes: &[u8], out: &mut [u16]) -> Result<Position<()>, Refusal> {
+    of_record(|number, place| unsafe {
         call!(foldrima_read_indices([bytes], [mut out], number, place))
     })
 }
 
-/// The signs of a record, one for each projection.
-pub fn read_signs(bytes: &[u8], out: &mut [i8]) -> Result<(), Refusal> {
-    asked(|number, place| unsafe { call!(foldrima_read_signs([bytes], [mut out], number, place)) })
+/// The signs of a record, one for each projection. No bytes are withdrawn, before every
+/// check.
+pub fn read_signs(bytes: &[u8], out: &mut [i8]) -> Result<Position<()>, Refusal> {
+    of_record(|number, place| unsafe {
+        call!(foldrima_read_signs([bytes], [mut out], number, place))
+    })
 }

@@ -2,7 +2,8 @@
 
 use std::fmt;
 
-/// Why a call gave no value: document 01's number, and the place that it names.
+/// Why a call was refused: document 01's number, and the place that it names. A withdrawn
+/// position is no refusal: `Position`.
 #[derive(Debug, Clone, Copy, PartialEq, Eq, Hash)]
 pub struct Refusal {
     pub number: u32,

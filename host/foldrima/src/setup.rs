@@ -1,6 +1,6 @@
 //! The rotation by itself, and all that is asked under a setup.
 
-use crate::{asked, call, call_under, valued, Refusal, TurboMode};
+use crate::{asked, call, call_under, of_record, scored, valued, Position, Refusal, TurboMode};
 
 /// Rotates the input.
 pub fn apply(dim: usize, signs: &[f32], input: &[f32], output: &mut [f32]) -> Result<(), Refusal> {
@@ -78,10 +78,15 @@ impl Setup<'_> {
         })
     }
 
-    /// The score of a record against a query.
-    pub fn inner_product_estimate(&self, query: &[f32], record: &[u8]) -> Result<f32, Refusal> {
+    /// The score of a record against a query. A record of no bytes is withdrawn, after the
+    /// checks of the setup and of the query.
+    pub fn inner_product_estimate(
+        &self,
+        query: &[f32],
+        record: &[u8],
+    ) -> Result<Position<f32>, Refusal> {
         let mode = self.mode as u8;
-        valued(|number, place, value| unsafe {
+        scored(|number, place, value| unsafe {
             call_under!(
                 self,
                 mode,
@@ -90,14 +95,15 @@ impl Setup<'_> {
         })
     }
 
-    /// The score of a record against a prepared query; needs no signs and no matrix.
+    /// The score of a record against a prepared query; needs no signs and no matrix. A record
+    /// of no bytes is withdrawn, after the checks of all else.
     pub fn inner_product_estimate_prepared(
         &self,
         rotated: &[f32],
         projected: &[f32],
         record: &[u8],
-    ) -> Result<f32, Refusal> {
-        valued(|number, place, value| unsafe {
+    ) -> Result<Position<f32>, Refusal> {
+        scored(|number, place, value| unsafe {
             call!(foldrima_inner_product_estimate_prepared(
                 self.mode as u8,
                 self.dim,
@@ -116,9 +122,14 @@ impl Setup<'_> {
 
     /// The squared distance of a record from a query: 12 where its sum (both squared norms,
     /// less twice the score) is NaN or plus infinity, and 0 where it is not greater than zero.
-    pub fn l2_distance_estimate(&self, query: &[f32], record: &[u8]) -> Result<f32, Refusal> {
+    /// A record of no bytes is withdrawn where it is for a score.
+    pub fn l2_distance_estimate(
+        &self,
+        query: &[f32],
+        record: &[u8],
+    ) -> Result<Position<f32>, Refusal> {
         let mode = self.mode as u8;
-        valued(|number, place, value| unsafe {
+        scored(|number, place, value| unsafe {
             call_under!(
                 self,
                 mode,
@@ -127,10 +138,15 @@ impl Setup<'_> {
         })
     }
 
-    /// The vector that a record's polar code stands for.
-    pub fn decode_approximate(&self, record: &[u8], out: &mut [f32]) -> Result<(), Refusal> {
+    /// The vector that a record's polar code stands for. A record of no bytes is withdrawn,
+    /// after the setup's checks and before the output's.
+    pub fn decode_approximate(
+        &self,
+        record: &[u8],
+        out: &mut [f32],
+    ) -> Result<Position<()>, Refusal> {
         let mode = self.mode as u8;
-        asked(|number, place| unsafe {
+        of_record(|number, place| unsafe {
             call_under!(self, mode, foldrima_decode_approximate([record], [mut out], number, place))
         })
     }

@@ -171,17 +171,19 @@ fn numbers(list: impl Fn(Empty) -> Vec<(&'static str, u32, usize)>) -> Vec<u32> 
 
 #[test]
 fn null_for_an_empty_slice() {
-    // Nothing packed or compressed is a value; a rotation or a setup misses its signs.
+    // Nothing packed or compressed is a value; a rotation or a setup misses its signs, and
+    // a record of no bytes is withdrawn.
+    const GONE: u32 = raw::WITHDRAWN;
     let all = numbers(all_empty);
     assert_eq!(all[..10], [0; 10]);
-    assert_eq!(all[10..17], [5, 5, 13, 13, 13, 13, 5]);
+    assert_eq!(all[10..17], [5, 5, GONE, GONE, GONE, GONE, 5]);
     assert_eq!(all[17..], [5; 8]);
     let wanted = [
         [5, 5, 5, 5, 5, 5, 5, 0],
         [5, 5, 5, 5, 5, 5, 5, 5],
         [5, 5, 5, 5, 5, 5, 5, 5],
         [0, 5, 5, 5, 5, 5, 0, 5],
-        [0, 0, 0, 0, 13, 13, 13, 13],
+        [0, 0, 0, 0, GONE, GONE, GONE, GONE],
         [0, 0, 5, 0, 0, 0, 0, 0],
     ];
     for (k, wanted) in wanted.iter().enumerate() {
@@ -205,7 +207,7 @@ fn parts_of_an_empty_record() {
 
 #[test]
 fn a_record_without_range_and_signs() {
-    let header = foldrima::read_record(&RECORD).unwrap();
+    let header = foldrima::read_record(&RECORD).unwrap().kept().unwrap();
     assert_eq!((header.range.min.to_bits(), header.range.max.to_bits()), (0, 0));
     assert_eq!(header.projections, 0);
     let (mut start, mut count) = (9, 9);

@@ -37,13 +37,13 @@ fn panicked(mode: u32, call: fn()) -> Option<String> {
 }
 
 fn score() {
-    SETUP.inner_product_estimate(&QUERY, &RECORD).unwrap();
+    SETUP.inner_product_estimate(&QUERY, &RECORD).unwrap().kept().unwrap();
 }
 
 #[test]
 fn the_default_passes() {
     assert_eq!(panicked(DEFAULT, score), None);
-    let score = SETUP.inner_product_estimate(&QUERY, &RECORD).unwrap();
+    let score = SETUP.inner_product_estimate(&QUERY, &RECORD).unwrap().kept().unwrap();
     assert!((6.58e-10..6.60e-10).contains(&score));
 }
 
@@ -57,11 +57,12 @@ fn another_mode_panics() {
 
 #[test]
 fn every_kind_of_call_looks() {
-    let calls: [fn(); 5] = [
+    let calls: [fn(); 6] = [
         || _ = foldrima::packed_len(1, 1),
         || _ = foldrima::sqrt(2.0),
         || _ = foldrima::hadamard_seed(1),
         || _ = foldrima::radii_part(&RECORD),
+        || _ = foldrima::read_record(&RECORD),
         || _ = SETUP.check(),
     ];
     for call in calls {

@@ -1,8 +1,10 @@
 //! The declarations of `raw.rs`, of the C header and of the port's sources are the same,
-//! and so are the numbers of refusals, modes and profiles, as far as header and sources
-//! stand beside this folder.
+//! and so are the numbers of refusals, of a withdrawn position, of modes and profiles, as
+//! far as header and sources stand beside this folder.
 
 use std::{collections::BTreeMap, fs, path::Path};
+
+use foldrima::raw;
 
 /// The types of a function's parameters, and of what it returns.
 type Signatures = BTreeMap<String, (Vec<String>, String)>;
@@ -147,10 +149,17 @@ fn capitals(name: &str) -> String {
 fn the_numbers_are_the_same() {
     let (header, error) = (file("include/foldrima.h"), file("crates/error/src/lib.rt"));
     let (Some(header), Some(error)) = (header, error) else { return };
-    let Some(codes) = file("crates/capi/src/codes.rt") else { return };
+    let (codes, answers) = (file("crates/capi/src/codes.rt"), file("crates/capi/src/answers.rt"));
+    let (Some(codes), Some(answers)) = (codes, answers) else { return };
     let mut wanted = numbers(&error, "pub const ", ": u32 = ");
     let named = foldrima::refusal::NAMES.map(|(name, number)| (name.to_string(), number));
     assert_eq!(wanted, BTreeMap::from(named));
+    // No refusal has the number of a value or of a withdrawn position.
+    let withdrawn = numbers(&answers, "pub const ", ": u32 = ");
+    assert_eq!(withdrawn, BTreeMap::from([("WITHDRAWN".to_string(), raw::WITHDRAWN)]));
+    let taken = |number: &u32| *number == 0 || *number == raw::WITHDRAWN;
+    assert!(!wanted.values().any(taken), "{wanted:?}");
+    wanted.extend(withdrawn);
     for (before, count) in [("TurboMode::", 2), ("RadiusCodecProfileV1::", 3)] {
         let cases = numbers(&codes, before, " => ");
         assert_eq!(cases.len(), count, "{before}");

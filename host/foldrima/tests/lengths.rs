@@ -2,8 +2,8 @@
 //! with it.
 
 use foldrima::{
-    packed_len, refusal::OUTPUT_LENGTH, RadiusCodecProfileV1 as Profile, Range, Refusal, Setup,
-    TurboMode as Mode,
+    packed_len, refusal::OUTPUT_LENGTH, Position, RadiusCodecProfileV1 as Profile, Range, Refusal,
+    Setup, TurboMode as Mode,
 };
 use one_pair::{RECORD, SETUP};
 
@@ -62,8 +62,9 @@ fn of_every_other_output() {
     needs(both.prepare_query(&[1.0; 2], &mut [0.0; 2], &mut []), 3);
     assert_eq!(SETUP.prepare_query(&[1.0; 2], &mut [0.0; 2], &mut []), Ok(()));
     needs(SETUP.decode_approximate(&RECORD, &mut []), 2);
-    let header = foldrima::read_record(&RECORD).unwrap();
+    let header = foldrima::read_record(&RECORD).unwrap().kept().unwrap();
     needs(foldrima::read_radii(&RECORD, &mut []), header.dim / 2);
     needs(foldrima::read_indices(&RECORD, &mut []), header.dim / 2);
-    assert_eq!((foldrima::read_signs(&RECORD, &mut []), header.projections), (Ok(()), 0));
+    let none = foldrima::read_signs(&RECORD, &mut []);
+    assert_eq!((none, header.projections), (Ok(Position::Kept(())), 0));
 }

@@ -1,11 +1,11 @@
 //! The example of the README.
 
-use foldrima::{Refusal, Setup, TurboMode};
+use foldrima::{Position, Refusal, Setup, TurboMode};
 use one_pair::{RECORD, SETUP};
 
 mod one_pair;
 
-fn scores(setup: &Setup, query: &[f32], records: &[&[u8]]) -> Result<Vec<f32>, Refusal> {
+fn scores(setup: &Setup, query: &[f32], records: &[&[u8]]) -> Result<Vec<Position<f32>>, Refusal> {
     let mut rotated = vec![0.0; setup.dim];
     let mut projected = match setup.mode {
         TurboMode::PolarOnly => vec![],
@@ -18,13 +18,22 @@ fn scores(setup: &Setup, query: &[f32], records: &[&[u8]]) -> Result<Vec<f32>, R
 }
 
 #[test]
-fn two_records() {
+fn it_stands_there() {
+    let (from, own) = ("fn scores(", include_str!("readme.rs"));
+    let start = own.find(from).unwrap();
+    let end = start + own[start..].find("\n}\n").unwrap() + 3;
+    assert!(include_str!("../../README.md").contains(&own[start..end]));
+}
+
+#[test]
+fn two_records_and_a_withdrawn_position() {
     let mut records = [RECORD; 2];
     records[0][10] = 0;
-    let lent: Vec<&[u8]> = records.iter().map(|record| &record[..]).collect();
+    let lent = [&records[0][..], &[], &records[1]];
     let root = 1.0 / 2.0f32.sqrt();
-    assert_eq!(scores(&SETUP, &[1.0, 3.0], &lent), Ok(vec![-4.0 * root, 4.0 * root]));
-    let cut = [&records[0][..], &records[1][..8]];
+    let wanted = [Position::Kept(-4.0 * root), Position::Withdrawn, Position::Kept(4.0 * root)];
+    assert_eq!(scores(&SETUP, &[1.0, 3.0], &lent), Ok(wanted.to_vec()));
+    let cut = [&records[0][..], &[], &records[1][..8]];
     let refused = Err(Refusal { number: 13, place: 8 });
     assert_eq!(scores(&SETUP, &[1.0, 3.0], &cut), refused);
 }

@@ -1,7 +1,7 @@
 //! A refusal of each of document 01's kinds, with its place; outputs stay as they were.
 
 use foldrima::{
-    refusal, RadiusCodecProfileV1 as Profile, Range, Refusal, ScalarCodebook, Setup,
+    refusal, Position, RadiusCodecProfileV1 as Profile, Range, Refusal, ScalarCodebook, Setup,
     TurboMode as Mode,
 };
 use one_pair::RECORD;
@@ -119,7 +119,8 @@ fn by_a_distance_whose_sum_overflows() {
     let (power, higher) = ([0, 0, 0x80, 0x5F], [0, 0, 0, 0x60]);
     let query = [2f32.powi(64), 0.0];
     let nan = record(power, 1);
-    assert_eq!(setup.inner_product_estimate(&query, &nan), Ok(f32::from_bits(0x7F35_04F3)));
+    let score = Position::Kept(f32::from_bits(0x7F35_04F3));
+    assert_eq!(setup.inner_product_estimate(&query, &nan), Ok(score));
     assert_eq!(setup.l2_distance_estimate(&query, &nan), refused(12, 0));
     assert_eq!(setup.l2_distance_estimate(&query, &record(power, 0)), refused(12, 0));
     let own = record(higher, 1);
@@ -134,7 +135,8 @@ fn by_a_distance_whose_sum_overflows() {
     assert_eq!(row.l2_distance_estimate(&query, &signed), refused(12, 0));
     let long = Setup { directions: &[-1.0, 0.0, 1.0, 1.0], ..setup };
     let below = record([0, 0, 0x20, 0x5F], 1);
-    assert_eq!(long.l2_distance_estimate(&[1.25 * 2f32.powi(63), 0.0], &below), Ok(0.0));
+    let cut = long.l2_distance_estimate(&[1.25 * 2f32.powi(63), 0.0], &below);
+    assert_eq!(cut, Ok(Position::Kept(0.0)));
 }
 
 #[test]
@@ -186,11 +188,11 @@ fn in_words() {
 #[test]
 fn a_linear_record_that_is_not_written_again() {
     let linear = [1, 4, 0, 0, 0, 1, 0, 0, 0, 0, 0xFF, 0xFF, 0x7F, 0x7F, 0x81, 1, 0xFF, 0xFF, 0];
-    let header = foldrima::read_record(&linear).unwrap();
+    let header = foldrima::read_record(&linear).unwrap().kept().unwrap();
     assert_eq!((header.profile, header.dim, header.bits), (Profile::BlockLinearU16, 4, 1));
     let (mut radii, mut indices) = ([0.0; 2], [9; 2]);
-    foldrima::read_radii(&linear, &mut radii).unwrap();
-    foldrima::read_indices(&linear, &mut indices).unwrap();
+    foldrima::read_radii(&linear, &mut radii).unwrap().kept().unwrap();
+    foldrima::read_indices(&linear, &mut indices).unwrap().kept().unwrap();
     assert_eq!(radii[1], f32::MAX);
     let again = |profile, out: &mut [u8]| {
         foldrima::write_record(profile, 4, 1, header.mode, 0, &radii, &indices, &[], out)

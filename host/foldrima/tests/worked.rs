@@ -1,6 +1,8 @@
 //! Document 01's worked cases P1 to P13, through the safe calls.
 
-use foldrima::{RadiusCodecProfileV1 as Profile, Range, Refusal, Setup, TurboMode as Mode};
+use foldrima::{
+    Position, RadiusCodecProfileV1 as Profile, Range, Refusal, Setup, TurboMode as Mode,
+};
 use one_pair::{RECORD as P12, SETUP};
 
 mod one_pair;
@@ -79,13 +81,13 @@ fn p12_and_p13_records() {
     foldrima::write_record(Profile::F32, 2, 1, both, 3, &[1.0], &[1], &signs, &mut out).unwrap();
     assert_eq!(out, P13);
     for (record, mode, projections) in [(&P12[..], only, 0), (&P13[..], both, 3)] {
-        let header = foldrima::read_record(record).unwrap();
+        let header = foldrima::read_record(record).unwrap().kept().unwrap();
         assert_eq!((header.mode, header.profile), (mode, Profile::F32));
         assert_eq!((header.dim, header.bits, header.projections), (2, 1, projections));
         let (mut radii, mut indices, mut found) = ([9.0], [9], vec![9; projections]);
-        foldrima::read_radii(record, &mut radii).unwrap();
-        foldrima::read_indices(record, &mut indices).unwrap();
-        foldrima::read_signs(record, &mut found).unwrap();
+        foldrima::read_radii(record, &mut radii).unwrap().kept().unwrap();
+        foldrima::read_indices(record, &mut indices).unwrap().kept().unwrap();
+        foldrima::read_signs(record, &mut found).unwrap().kept().unwrap();
         assert_eq!((radii, indices, &found[..]), ([1.0], [1], &signs[..projections]));
         assert_eq!(foldrima::radii_part(record), [0, 0, 0x80, 0x3F]);
         assert_eq!(foldrima::indices_part(record), [1]);
@@ -102,10 +104,11 @@ fn scores_of_one_pair() {
     let setup = SETUP;
     assert_eq!(setup.check(), Ok(()));
     let query = [1.0, 3.0];
-    assert_eq!(setup.inner_product_estimate(&query, &P12), Ok(4.0 * root));
-    assert_eq!(setup.l2_distance_estimate(&query, &P12), Ok(11.0 - 2.0 * (4.0 * root)));
+    let kept = |value: f32| Ok(Position::Kept(value));
+    assert_eq!(setup.inner_product_estimate(&query, &P12), kept(4.0 * root));
+    assert_eq!(setup.l2_distance_estimate(&query, &P12), kept(11.0 - 2.0 * (4.0 * root)));
     let mut out = [9.0; 2];
-    setup.decode_approximate(&P12, &mut out).unwrap();
+    setup.decode_approximate(&P12, &mut out).unwrap().kept().unwrap();
     assert_eq!(out, [root, root]);
 
     // Projections (1, 3, 4) with signs (+, −, +) add up to 2.
@@ -118,8 +121,8 @@ fn scores_of_one_pair() {
     assert_eq!((rotated, projected), ([4.0 * root, -2.0 * root], [1.0, 3.0, 4.0]));
     assert_eq!(both.sketch_score(&query, &[1, -1, 1]), Ok(residual));
     let score = 4.0 * root + residual;
-    assert_eq!(both.inner_product_estimate(&query, &P13), Ok(score));
-    assert_eq!(both.inner_product_estimate_prepared(&rotated, &projected, &P13), Ok(score));
+    assert_eq!(both.inner_product_estimate(&query, &P13), kept(score));
+    assert_eq!(both.inner_product_estimate_prepared(&rotated, &projected, &P13), kept(score));
     let mut sketch = [9; 3];
     both.sketch(&[1.0, -3.0], &mut sketch).unwrap();
     assert_eq!(sketch, [1, -1, -1]);

@@ -1,9 +1,9 @@
--- `packed_values::read_signs` meets its contract: the reader's refusal, or the values by the header that was read. Assumes nothing.
+-- `packed_values::read_signs` meets its contract: withdrawn, the reader's refusal, or the values by the header that was read. Assumes nothing.
 use mathlib.Core.Path.{sym, ap, _∙_}
 use denote.Ref.{now}
-use Rattle.error.proofs.Answers.{both-refused}
+use Rattle.error.proofs.Answers.{both-refused, both-withdrawn}
 use Rattle.packed.specs.Reading.{saysReading}
-use Rattle.packed_values.proofs.Values.{both-as, signs-at-read, signs-refused}
+use Rattle.packed_values.proofs.Values.{both-as, signs-at-read, signs-refused, signs-withdrawn}
 use borrow.Author.Needs.{needs}
 use Rattle.packed_values.proofs.read_signs.Statement.{statement}
 use Rattle.packed_values.proofs.read_signs.Tie as tie
@@ -17,19 +17,42 @@ enum-known-header c = search needs
 signs-at-requires : tie.Need-signs-at-requires
 signs-at-requires c κs = search needs
 
+as-filled-requires : tie.Need-as-filled-requires
+as-filled-requires c κs = search needs
+
 enum-known-number : tie.Need-enum-known-number
 enum-known-number c = search needs
+
+enum-told : tie.Need-enum-told
+enum-told c = search needs
 
 same-length : tie.Need-same-length
 same-length c = search needs
 
 returns : tie.Need-returns
-returns c = both-as (now (c .before .before .before .before .before .before .before .before .args .out)) (signs-at-read (now (c .before .before .before .before .before .before .before .before .args .bytes)) _ (sym (c .before .before .before .before .before .before .read-record .ensures) ∙ ap saysReading (c .before .before .before .before .header .given .1))) (c .before .signs-at .ensures)
+returns c =
+    let v = c .before .before in
+    let h = v .before .before .before in
+    let a = h .before .before .before .before .args in
+    both-as (now (a .out)) (signs-at-read (now (a .bytes)) _ (sym (h .before .before .read-record .ensures) ∙ ap saysReading (h .header .given .1))) (c .as-filled .ensures ∙ v .signs-at .ensures .0, v .signs-at .ensures .1)
 
 returns-2 : tie.Need-returns-2
 returns-2 c = both-refused _ _ (signs-refused (now (c .before .before .before .before .before .args .bytes)) _ (sym (c .before .before .before .read-record .ensures) ∙ ap saysReading (c .before .number .given .1)))
 
+returns-3 : tie.Need-returns-3
+returns-3 c = both-withdrawn _ _ (signs-withdrawn (now (c .before .before .before .before .args .bytes)) _ (sym (c .before .before .read-record .ensures) ∙ ap saysReading (c .enum-told .given .1)))
+
 pub read-signs-spec : {M : Type 1} → statement M
 read-signs-spec =
     tie.close
-    (tie.spec read-record-requires enum-known-header signs-at-requires enum-known-number same-length returns returns-2)
+    (tie.spec
+    read-record-requires
+    enum-known-header
+    signs-at-requires
+    as-filled-requires
+    enum-known-number
+    enum-told
+    same-length
+    returns
+    returns-2
+    returns-3)

@@ -1,4 +1,5 @@
--- `turbo::l2_distance_estimate` meets its contract: a refused score is refused, and a score gives the distance by the radii that it has left. Assumes nothing.
+-- `turbo::l2_distance_estimate` meets its contract: a refused score is refused, a withdrawn one is withdrawn, and a score gives the distance by the radii that it has
+-- left. Assumes nothing.
 use mathlib.Core.Path.{_≡_, sym, ap, _∙_}
 use mathlib.Core.List.{List}
 use borrow.Author.Needs.{needs}
@@ -9,7 +10,7 @@ use Rattle.setup.specs.Lent.{lent}
 use Rattle.turbo_distance.specs.Distance.{distanceFromScoreOf}
 use Rattle.turbo.specs.Estimates.{innerProductEstimateOf}
 use Rattle.turbo.specs.Inner.{RadiiInFront, joined}
-use Rattle.turbo.proofs.Answers.{phased-joined, distance-refused, distance-scored}
+use Rattle.turbo.proofs.Answers.{phased-joined, distance-refused, distance-withdrawn, distance-scored}
 use Rattle.turbo.proofs.Demand.{scored-pairs}
 use Rattle.turbo.proofs.Front.{front-left, front-enough, front-taken}
 use Rattle.turbo.proofs.l2_distance_estimate.Statement.{statement}
@@ -64,6 +65,9 @@ distance-from-score-requires c κs = search needs
 enum-known-number : tie.Need-enum-known-number
 enum-known-number c = search needs
 
+enum-told : tie.Need-enum-told
+enum-told c = search needs
+
 returns : tie.Need-returns
 returns c =
     let k = c .before .before .before in
@@ -79,6 +83,11 @@ returns-2 c =
     let a = c .before .before .before .before .before .before .before .before .before .before .before .before .before .before .args in
     sym (distance-refused (a .setup) (lent (a .signs .now) (a .directions .now) (a .matrix .now)) (a .query .now) (a .bytes .now) (sym (answered (c .before .before .before)) ∙ ap saysScore (c .before .number .given .1)))
 
+returns-3 : tie.Need-returns-3
+returns-3 c =
+    let a = c .before .before .before .before .before .before .before .before .before .before .before .before .before .args in
+    sym (distance-withdrawn (a .setup) (lent (a .signs .now) (a .directions .now) (a .matrix .now)) (a .query .now) (a .bytes .now) (sym (answered (c .before .before)) ∙ ap saysScore (c .enum-told .given .1)))
+
 pub l2-distance-estimate-spec : {M : Type 1} → statement M
 l2-distance-estimate-spec =
     tie.close
@@ -93,5 +102,7 @@ l2-distance-estimate-spec =
     part-distance-from-score-end
     distance-from-score-requires
     enum-known-number
+    enum-told
     returns
-    returns-2)
+    returns-2
+    returns-3)

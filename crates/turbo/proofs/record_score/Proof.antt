@@ -5,7 +5,7 @@ use Rattle.error.specs.Answer.{value}
 use Rattle.packed.specs.Reading.{saysReading}
 use Rattle.turbo_opening.specs.Inner.{openedOf}
 use Rattle.turbo_opening.proofs.Answers.{open-usable}
-use Rattle.turbo.proofs.Scoring.{record-refused, record-finite, record-infinite}
+use Rattle.turbo.proofs.Scoring.{record-refused, record-withdrawn, record-finite, record-infinite}
 use Rattle.turbo.proofs.record_score.Statement.{statement}
 use Rattle.turbo.proofs.record_score.Tie as tie
 
@@ -40,6 +40,9 @@ returns c =
 enum-known-number : tie.Need-enum-known-number
 enum-known-number c = search needs
 
+enum-told : tie.Need-enum-told
+enum-told c = search needs
+
 same-length-2 : tie.Need-same-length-2
 same-length-2 c = search needs
 
@@ -56,6 +59,12 @@ returns-3 c =
     let a = s .args in
     (ap value (sym (record-refused (a .setup) (a .directions .now) (a .rotated .now) (a .projected .now) (a .bytes .now) (sym (open-usable (a .setup) (a .bytes .now) (s .pre .0)) ∙ sym (c .before .before .before .open-record .ensures) ∙ ap saysReading (c .before .number .given .1)))), tt)
 
+returns-4 : tie.Need-returns-4
+returns-4 c =
+    let s = c .before .before .before .before .before .before .before .before in
+    let a = s .args in
+    (ap value (sym (record-withdrawn (a .setup) (a .directions .now) (a .rotated .now) (a .projected .now) (a .bytes .now) (sym (open-usable (a .setup) (a .bytes .now) (s .pre .0)) ∙ sym (c .before .before .open-record .ensures) ∙ ap saysReading (c .enum-told .given .1)))), tt)
+
 pub record-score-spec : {M : Type 1} → statement M
 record-score-spec =
     tie.close
@@ -67,6 +76,8 @@ record-score-spec =
     same-length
     returns
     enum-known-number
+    enum-told
     same-length-2
     returns-2
-    returns-3)
+    returns-3
+    returns-4)

@@ -1,4 +1,4 @@
--- `turbo::without_phase` meets its contract: a score keeps its value, and a refusal its number and place. Assumes nothing.
+-- `turbo::without_phase` meets its contract: a score keeps its value, a refusal its number and place, and a withdrawn position stays one. Assumes nothing.
 use mathlib.Core.Path.{sym, ap}
 use borrow.Author.Needs.{needs}
 use Rattle.turbo.specs.declared.Phased.{Phased}
@@ -16,6 +16,9 @@ enum-known-phased-2 c = search needs
 enum-known-phased-3 : tie.Need-enum-known-phased-3
 enum-known-phased-3 c = search needs
 
+enum-told : tie.Need-enum-told
+enum-told c = search needs
+
 returns : tie.Need-returns
 returns c = ap (λ (p : Phased). joined (saysPhased p)) (sym (c .before .phased .given .1))
 
@@ -25,6 +28,9 @@ returns-2 c = ap (λ (p : Phased). joined (saysPhased p)) (sym (c .before .phase
 returns-3 : tie.Need-returns-3
 returns-3 c = ap (λ (p : Phased). joined (saysPhased p)) (sym (c .before .phased3 .given .1))
 
+returns-4 : tie.Need-returns-4
+returns-4 c = search needs
+
 pub without-phase-spec : {M : Type 1} → statement M
 without-phase-spec =
     tie.close
@@ -32,6 +38,8 @@ without-phase-spec =
     enum-known-phased
     enum-known-phased-2
     enum-known-phased-3
+    enum-told
     returns
     returns-2
-    returns-3)
+    returns-3
+    returns-4)

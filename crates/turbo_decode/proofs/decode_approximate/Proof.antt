@@ -4,7 +4,7 @@ use borrow.Author.Needs.{needs}
 use lib.ListN.{length}
 use Rattle.error.specs.Answer.{value, first, accepted}
 use Rattle.error.specs.Outcomes.{says}
-use Rattle.error.proofs.Answers.{both-refused, both-value}
+use Rattle.error.proofs.Answers.{both-refused, both-withdrawn, both-value}
 use Rattle.setup.specs.Lent.{lent}
 use Rattle.setup_tables.specs.Checks.{setupChecks}
 use Rattle.packed.specs.Reading.{saysReading}
@@ -12,7 +12,7 @@ use Rattle.setup_tables.proofs.Accepted.{setup-scalars}
 use Rattle.turbo_opening.specs.Opening.{openRecordOf}
 use Rattle.turbo_opening.specs.Inner.{openedOf}
 use Rattle.turbo_opening.proofs.Answers.{open-usable}
-use Rattle.turbo_decode.proofs.Answers.{decode-setup, decode-closed, decode-room, decode-value, decode-ready}
+use Rattle.turbo_decode.proofs.Answers.{decode-setup, decode-withdrawn, decode-closed, decode-room, decode-value, decode-ready}
 use Rattle.turbo_decode.proofs.decode_approximate.Statement.{statement}
 use Rattle.turbo_decode.proofs.decode_approximate.Tie as tie
 
@@ -70,6 +70,9 @@ decode-requires c κs =
 enum-known-number : tie.Need-enum-known-number
 enum-known-number c = search needs
 
+enum-told-2 : tie.Need-enum-told-2
+enum-told-2 c = search needs
+
 same-length : tie.Need-same-length
 same-length c = search needs
 
@@ -88,6 +91,12 @@ returns-4 c =
     let a = o .before .before .before .before .before .before .before .before .before .args in
     both-refused _ (a .out .now) (decode-closed (a .setup) (lent (a .signs .now) (a .directions .now) (a .matrix .now)) (a .bytes .now) (length (a .out .now)) (passed (o .before)) (sym (usable (o .before)) ∙ sym (o .open-record .ensures) ∙ ap saysReading (c .before .number .given .1)))
 
+returns-5 : tie.Need-returns-5
+returns-5 c =
+    let o = c .before .before in
+    let a = o .before .before .before .before .before .before .before .before .before .args in
+    both-withdrawn _ (a .out .now) (decode-withdrawn (a .setup) (lent (a .signs .now) (a .directions .now) (a .matrix .now)) (a .bytes .now) (length (a .out .now)) (passed (o .before)) (sym (usable (o .before)) ∙ sym (o .open-record .ensures) ∙ ap saysReading (c .enum-told2 .given .1)))
+
 pub decode-approximate-spec : {M : Type 1} → statement M
 decode-approximate-spec =
     tie.close
@@ -101,6 +110,8 @@ decode-approximate-spec =
     returns-2
     decode-requires
     enum-known-number
+    enum-told-2
     same-length
     returns-3
-    returns-4)
+    returns-4
+    returns-5)

@@ -3,7 +3,7 @@ use mathlib.Core.Path.{_≡_, sym, ap, _∙_}
 use borrow.Author.Needs.{needs}
 use Rattle.error.specs.Answer.{value}
 use Rattle.packed.specs.Reading.{saysReading, readRecordOf}
-use Rattle.turbo_opening.proofs.Answers.{open-refused, open-dim, open-match, open-value}
+use Rattle.turbo_opening.proofs.Answers.{open-refused, open-withdrawn, open-dim, open-match, open-value}
 use Rattle.turbo_opening.proofs.hold_against.Statement.{statement}
 use Rattle.turbo_opening.proofs.hold_against.Tie as tie
 
@@ -36,6 +36,9 @@ returns-2 c =
 enum-known-number : tie.Need-enum-known-number
 enum-known-number c = search needs
 
+enum-told : tie.Need-enum-told
+enum-told c = search needs
+
 returns-3 : tie.Need-returns-3
 returns-3 c =
     let o = c .before .before in
@@ -45,6 +48,9 @@ returns-3 c =
 
 returns-4 : tie.Need-returns-4
 returns-4 c = let a = c .before .before .before .before .before .args in sym (open-refused (a .setup) (a .bytes .now) (sym (c .before .before .before .read-record .ensures) ∙ ap saysReading (c .before .number .given .1)))
+
+returns-5 : tie.Need-returns-5
+returns-5 c = let a = c .before .before .before .before .args in sym (open-withdrawn (a .setup) (a .bytes .now) (sym (c .before .before .read-record .ensures) ∙ ap saysReading (c .enum-told .given .1)))
 
 pub hold-against-spec : {M : Type 1} → statement M
 hold-against-spec =
@@ -56,5 +62,7 @@ hold-against-spec =
     returns
     returns-2
     enum-known-number
+    enum-told
     returns-3
-    returns-4)
+    returns-4
+    returns-5)

@@ -7,7 +7,7 @@ use cases::{
     case::{same, Answer, Case, Value, CALLS},
     expect::{distance_sum, expected, sum_name, Expected},
     make::{Maker, Size},
-    paper::{refusal, Refusal},
+    paper::{ended, Ended, Refusal},
     plain,
 };
 
@@ -18,6 +18,7 @@ const HELP: &str = "\
 cases COMMAND [--seed N] [--count N] [--call NAME]
 
   run      puts cases to the Rust and holds its answers against document 01's refusals
+           and document 02's withdrawn positions
   largest  the same at the limits of a setup, 4,096 x 4,096
   list     prints small cases with the answer that is expected
   replay   prints a few of them for each kind of answer
@@ -61,18 +62,22 @@ fn wrong(why: &str) -> ! {
     std::process::exit(2)
 }
 
-/// One line: the case, the Rust's answer, and what document 01 asks for.
-fn line(case: &Case, answer: &Answer, refused: Option<Refusal>) -> String {
-    match refused {
-        Some(refused) => format!("{case} => {answer} | {}@{}", refused.number, refused.place),
+/// One line: the case, the Rust's answer, and what the documents ask for.
+fn line(case: &Case, answer: &Answer, end: Option<Ended>) -> String {
+    match end {
+        Some(Ended::Refused(refused)) => {
+            format!("{case} => {answer} | {}@{}", refused.number, refused.place)
+        }
+        Some(Ended::Withdrawn) => format!("{case} => {answer} | withdrawn"),
         None => format!("{case} => {answer} | value"),
     }
 }
 
-/// How the Rust's outcome and document 01's stand to each other.
-fn kind(answer: &Answer, refused: Option<Refusal>) -> String {
-    let ours = match refused {
-        Some(refused) => format!("refusal {:>2}", refused.number),
+/// How the Rust's outcome and the documents' stand to each other.
+fn kind(answer: &Answer, end: Option<Ended>) -> String {
+    let ours = match end {
+        Some(Ended::Refused(refused)) => format!("refusal {:>2}", refused.number),
+        Some(Ended::Withdrawn) => "withdrawn ".into(),
         None => "value     ".into(),
     };
     let theirs = match answer {
@@ -113,6 +118,30 @@ impl Sums {
     }
 }
 
+/// How many records of no bytes each call had: withdrawn positions, and those that are
+/// refused before.
+#[derive(Default)]
+struct Empty(BTreeMap<&'static str, (usize, usize)>);
+
+impl Empty {
+    fn count(&mut self, case: &Case, wanted: &Expected) {
+        if case.record().is_some_and(|record| record.is_empty()) {
+            let (withdrawn, before) = self.0.entry(case.call()).or_default();
+            *withdrawn += matches!(wanted, Expected::Withdrawn) as usize;
+            *before += matches!(wanted, Expected::Refused(_)) as usize;
+        }
+    }
+
+    fn print(&self) {
+        let told = self.0.iter().map(|(call, (withdrawn, before))| {
+            format!("{call} {withdrawn} withdrawn, {before} refused before")
+        });
+        if !self.0.is_empty() {
+            println!("records of no bytes: {}", told.collect::<Vec<_>>().join("; "));
+        }
+    }
+}
+
 fn main() {
     if std::env::args().skip(1).any(|word| word == "--help") {
         print!("{HELP}\ncalls: {}\n", CALLS.join(", "));
@@ -136,77 +165,102 @@ fn main() {
     }
 }
 
+/// The kinds of a call's answers: how many there are, and a short case.
+type Kinds = BTreeMap<String, (usize, String)>;
+
+/// What `run` counts over all calls.
+#[derive(Default)]
+struct Ran {
+    total: usize,
+    broken: usize,
+    held: usize,
+    apart: usize,
+    open: usize,
+    sums: Sums,
+    empty: Empty,
+}
+
+impl Ran {
+    fn add(&mut self, case: &Case, kinds: &mut Kinds) {
+        let answer = ask(case);
+        let end = ended(case, &answer);
+        self.broken += inverse_broken(case, &answer) as usize;
+        let wanted = expected(case);
+        self.open += matches!(wanted, Expected::Open) as usize;
+        self.sums.count(case, &wanted);
+        self.empty.count(case, &wanted);
+        if let Some(differs) = plain_differs(case, &answer, end) {
+            self.apart += differs as usize;
+            self.held += 1;
+            if differs && self.apart <= 5 {
+                println!("  plain sums differ: {}", line(case, &answer, end));
+                println!("  {}", plain::value(case).unwrap());
+            }
+        }
+        let entry = kinds.entry(kind(&answer, end)).or_default();
+        entry.0 += 1;
+        if entry.1.is_empty() || entry.1.len() > 240 {
+            let text = line(case, &answer, end);
+            if entry.1.is_empty() || text.len() < entry.1.len() {
+                entry.1 = text;
+            }
+        }
+        self.total += 1;
+    }
+}
+
+/// Whether a kind is worth an example: a panic, and where the Rust has a value and the
+/// documents have none, or the other way round; but for 6, which the Rust doesn't know.
+fn odd(kind: &str) -> bool {
+    let theirs = kind.ends_with("/ value");
+    let ours = kind.starts_with("value");
+    kind.contains("panic") || (ours != theirs && !kind.starts_with("refusal  6"))
+}
+
 fn run(options: &Options, calls: &[usize]) {
     println!("seed {}, {} cases for each call", options.seed, options.count);
-    let mut total = 0;
-    let (mut broken, mut held, mut apart, mut open) = (0, 0, 0, 0);
-    let mut sums = Sums::default();
+    let mut ran = Ran::default();
     for &call in calls {
         let mut maker = Maker::new(options.seed.wrapping_add(call as u64) << 8, Size::Full);
-        let mut kinds: BTreeMap<String, (usize, String)> = BTreeMap::new();
+        let mut kinds = Kinds::new();
         for _ in 0..options.count {
-            let case = maker.make(call);
-            let answer = ask(&case);
-            let refused = refusal(&case, &answer);
-            broken += inverse_broken(&case, &answer) as usize;
-            let wanted = expected(&case);
-            open += matches!(wanted, Expected::Open) as usize;
-            sums.count(&case, &wanted);
-            if let Some(differs) = plain_differs(&case, &answer, refused) {
-                apart += differs as usize;
-                held += 1;
-                if differs && apart <= 5 {
-                    println!("  plain sums differ: {}", line(&case, &answer, refused));
-                    println!("  {}", plain::value(&case).unwrap());
-                }
-            }
-            let entry = kinds.entry(kind(&answer, refused)).or_default();
-            entry.0 += 1;
-            if entry.1.is_empty() || entry.1.len() > 240 {
-                let text = line(&case, &answer, refused);
-                if entry.1.is_empty() || text.len() < entry.1.len() {
-                    entry.1 = text;
-                }
-            }
-            total += 1;
+            ran.add(&maker.make(call), &mut kinds);
         }
         println!("{}", CALLS[call]);
         for (kind, (count, example)) in &kinds {
             println!("  {count:>8}  {kind}");
-            let odd = (kind.starts_with("value") && !kind.ends_with("/ value"))
-                || kind.contains("panic")
-                || (kind.starts_with("refusal")
-                    && kind.ends_with("/ value")
-                    && !kind.starts_with("refusal  6"));
-            if odd {
+            if odd(kind) {
                 println!("            {}", example.chars().take(300).collect::<String>());
             }
         }
     }
-    sums.print();
-    println!("{total} cases, {broken} round trips broken");
-    println!("{open} cases have nothing to be held against");
-    println!("plain sums held against the Rust {held} times, {apart} differ");
+    ran.sums.print();
+    ran.empty.print();
+    println!("{} cases, {} round trips broken", ran.total, ran.broken);
+    println!("{} cases have nothing to be held against", ran.open);
+    println!("plain sums held against the Rust {} times, {} differ", ran.held, ran.apart);
 }
 
 /// One case of each call that takes a setup, at its limits; one gigabyte of memory.
 fn largest(options: &Options) {
     for case in Maker::new(options.seed, Size::Full).largest() {
         let answer = ask(&case);
-        let refused = refusal(&case, &answer);
-        let apart = match plain_differs(&case, &answer, refused) {
+        let end = ended(&case, &answer);
+        let apart = match plain_differs(&case, &answer, end) {
             Some(true) => ", the plain sums differ",
             Some(false) => ", as the plain sums",
             None => "",
         };
-        println!("{}: {}{apart}", case.call(), kind(&answer, refused));
+        println!("{}: {}{apart}", case.call(), kind(&answer, end));
     }
 }
 
 /// Whether the plain sums and the Rust differ; None where they can't be held together.
-fn plain_differs(case: &Case, answer: &Answer, refused: Option<Refusal>) -> Option<bool> {
-    if refused.is_some_and(|refused| refused.number != 6) {
-        return None;
+fn plain_differs(case: &Case, answer: &Answer, end: Option<Ended>) -> Option<bool> {
+    match end {
+        Some(Ended::Refused(refused)) if refused.number == 6 => {}
+        Some(_) => return None,
+        None => {}
     }
     let Answer::Value(found) = answer else {
         return None;
@@ -255,21 +309,24 @@ fn list(options: &Options, calls: &[usize], most: usize) {
     println!("# seed {}, {} cases tried for each call", options.seed, options.count);
     for &call in calls {
         let mut maker = Maker::new(options.seed.wrapping_add(call as u64) << 8, Size::Small);
-        let mut kept: BTreeMap<u8, usize> = BTreeMap::new();
+        let mut kept: BTreeMap<String, usize> = BTreeMap::new();
         for _ in 0..options.count {
             let case = maker.make(call);
             let wanted = expected(&case);
             let sum = distance_sum(&case, &wanted).map(|sum| format!(" sum={}", sum_name(sum)));
-            let (number, text) = match wanted {
-                Expected::Refused(refused) => {
-                    (refused.number, format!("refused {} {}", refused.number, refused.place))
+            let (kind, text) = match wanted {
+                Expected::Refused(Refusal { number, place }) => {
+                    (number.to_string(), format!("refused {number} {place}"))
                 }
-                Expected::Value { value, by_rust: true, .. } => (0, format!("rust {value}")),
-                Expected::Value { value, by_rust: false, .. } => (0, format!("plain {value}")),
+                Expected::Withdrawn => ("withdrawn".into(), "withdrawn".into()),
+                Expected::Value { value, by_rust, .. } => {
+                    let by = if by_rust { "rust" } else { "plain" };
+                    ("value".into(), format!("{by} {value}"))
+                }
                 Expected::Open => continue,
             };
             let text = format!("{case}{} => {text}", sum.unwrap_or_default());
-            let count = kept.entry(number).or_default();
+            let count = kept.entry(kind).or_default();
             if *count < most && text.len() <= LONGEST {
                 *count += 1;
                 println!("{text}");
@@ -278,66 +335,108 @@ fn list(options: &Options, calls: &[usize], most: usize) {
     }
 }
 
+/// The cases of one call, by what is expected, and how many answers of the port differ.
+#[cfg(feature = "capi")]
+#[derive(Default)]
+struct Row {
+    rust: usize,
+    plain: usize,
+    refused: usize,
+    withdrawn: usize,
+    wrong: usize,
+    /// The shortest case that differs.
+    smallest: Option<String>,
+}
+
+#[cfg(feature = "capi")]
+impl Row {
+    fn print(&self, call: &str) {
+        let Self { rust, plain, refused, withdrawn, wrong, .. } = self;
+        println!(
+            "{call:<22} {rust:>8} values of the Rust {plain:>6} plain {refused:>8} refusals \
+             {withdrawn:>6} withdrawn {wrong:>6} differ"
+        );
+        if let Some(text) = &self.smallest {
+            println!("  {text}");
+        }
+    }
+}
+
+/// What `differ` counts over all calls.
+#[cfg(feature = "capi")]
+#[derive(Default)]
+struct Differed {
+    total: usize,
+    differ: usize,
+    zeros: usize,
+    numbers: BTreeMap<u32, usize>,
+    sums: Sums,
+    empty: Empty,
+}
+
+#[cfg(feature = "capi")]
+impl Differed {
+    fn add(&mut self, case: &Case, row: &mut Row) {
+        let given = cases::port::answer(case);
+        let wanted = expected(case);
+        match &wanted {
+            Expected::Refused(refusal) => {
+                row.refused += 1;
+                *self.numbers.entry(refusal.number).or_default() += 1;
+            }
+            Expected::Withdrawn => row.withdrawn += 1,
+            Expected::Value { by_rust: true, .. } => row.rust += 1,
+            Expected::Value { by_rust: false, .. } => row.plain += 1,
+            Expected::Open => {}
+        }
+        self.sums.count(case, &wanted);
+        self.empty.count(case, &wanted);
+        self.zeros += !given.agrees_in_zeros(&wanted) as usize;
+        if !given.agrees(&wanted) {
+            row.wrong += 1;
+            let text = format!("{case}\n    wanted {wanted:?}\n    given  {given:?}");
+            if row.smallest.as_ref().is_none_or(|other| text.len() < other.len()) {
+                row.smallest = Some(text);
+            }
+        }
+    }
+
+    fn add_largest(&mut self, case: &Case) {
+        let given = cases::port::answer(case);
+        let wanted = expected(case);
+        self.zeros += !given.agrees_in_zeros(&wanted) as usize;
+        let agrees = given.agrees(&wanted);
+        println!("largest {:<22} {}", case.call(), if agrees { "agrees" } else { "DIFFERS" });
+        self.total += 1;
+        self.differ += !agrees as usize;
+    }
+}
+
 /// Holds the port against what is expected of it.
 #[cfg(feature = "capi")]
 fn differ(options: &Options, calls: &[usize]) {
-    use cases::port;
     println!("seed {}, {} cases for each call", options.seed, options.count);
-    let (mut total, mut differ, mut zeros) = (0, 0, 0);
-    let mut sums = Sums::default();
-    let mut numbers: BTreeMap<u8, usize> = BTreeMap::new();
+    let mut all = Differed::default();
     for &call in calls {
         let mut maker = Maker::new(options.seed.wrapping_add(call as u64) << 8, Size::Full);
-        let (mut values, mut plain, mut refused, mut wrong) = (0, 0, 0, 0);
-        let mut smallest: Option<String> = None;
+        let mut row = Row::default();
         for _ in 0..options.count {
-            let case = maker.make(call);
-            let given = port::answer(&case);
-            let wanted = expected(&case);
-            match &wanted {
-                Expected::Refused(refusal) => {
-                    refused += 1;
-                    *numbers.entry(refusal.number).or_default() += 1;
-                }
-                Expected::Value { by_rust: true, .. } => values += 1,
-                Expected::Value { by_rust: false, .. } => plain += 1,
-                Expected::Open => {}
-            }
-            sums.count(&case, &wanted);
-            zeros += !given.agrees_in_zeros(&wanted) as usize;
-            if !given.agrees(&wanted) {
-                wrong += 1;
-                let text = format!("{case}\n    wanted {wanted:?}\n    given  {given:?}");
-                if smallest.as_ref().is_none_or(|other| text.len() < other.len()) {
-                    smallest = Some(text);
-                }
-            }
+            all.add(&maker.make(call), &mut row);
         }
-        println!(
-            "{:<22} {values:>8} values of the Rust {plain:>6} plain {refused:>8} refusals \
-             {wrong:>6} differ",
-            CALLS[call]
-        );
-        if let Some(text) = smallest {
-            println!("  {text}");
-        }
-        total += values + plain + refused;
-        differ += wrong;
+        row.print(CALLS[call]);
+        all.total += row.rust + row.plain + row.refused + row.withdrawn;
+        all.differ += row.wrong;
     }
     if options.call.is_none() {
         for case in Maker::new(options.seed, Size::Full).largest() {
-            let given = port::answer(&case);
-            let wanted = expected(&case);
-            zeros += !given.agrees_in_zeros(&wanted) as usize;
-            let agrees = given.agrees(&wanted);
-            println!("largest {:<22} {}", case.call(), if agrees { "agrees" } else { "DIFFERS" });
-            total += 1;
-            differ += !agrees as usize;
+            all.add_largest(&case);
         }
     }
-    let numbers: Vec<String> = numbers.iter().map(|(n, count)| format!("{n}: {count}")).collect();
-    println!("refusals by number: {}", numbers.join(", "));
-    sums.print();
+    let numbers = all.numbers.iter().map(|(n, count)| format!("{n}: {count}"));
+    println!("refusals by number: {}", numbers.collect::<Vec<_>>().join(", "));
+    all.sums.print();
+    all.empty.print();
+    let Differed { total, zeros, differ, .. } = all;
     println!("{total} cases, {zeros} with zeros of another sign, {differ} differ");
     if differ > 0 {
         std::process::exit(1);

@@ -9,7 +9,7 @@ use cases::{
     ask::{ask, hush},
     case::{Answer, Case, Profile, Value, CALLS},
     make::{Maker, Size},
-    paper::refusal,
+    paper::ended,
     plain,
     rng::Rng,
 };
@@ -25,7 +25,7 @@ fn main() {
         for _ in 0..count {
             let case = maker.make(call);
             let answer = ask(&case);
-            if refusal(&case, &answer).is_some() {
+            if ended(&case, &answer).is_some() {
                 continue;
             }
             let Answer::Value(theirs) = answer else { continue };

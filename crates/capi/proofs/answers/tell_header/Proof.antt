@@ -3,7 +3,7 @@ use mathlib.Core.Path.{ap, _∙_}
 use denote.Ref.{now}
 use Rattle.packed.specs.Reading.{saysReading}
 use Rattle.capi.specs.Codes.{headerMode, headerProfile, headerDim, headerBits, headerProjections, headerMin, headerMax}
-use Rattle.capi.proofs.Tell.{part-value, part-refused}
+use Rattle.capi.proofs.Tell.{part-value, part-refused, part-withdrawn}
 use borrow.Author.Needs.{needs}
 use Rattle.capi.proofs.answers.tell_header.Statement.{statement}
 use Rattle.capi.proofs.answers.tell_header.Tie as tie
@@ -20,6 +20,9 @@ profile-number-requires c κs = search needs
 enum-told : tie.Need-enum-told
 enum-told c = search needs
 
+enum-told-2 : tie.Need-enum-told-2
+enum-told-2 c = search needs
+
 returns : tie.Need-returns
 returns c =
     let a = c .before .before .before .before .before .args in
@@ -32,6 +35,12 @@ returns-2 c =
     let e = ap saysReading (c .enum-told .given .1) in
     (part-refused headerMode (now (a .mode)) e, (part-refused headerProfile (now (a .profile)) e, (part-refused headerDim (now (a .dim)) e, (part-refused headerBits (now (a .bits)) e, (part-refused headerProjections (now (a .projections)) e, (part-refused headerMin (now (a .min)) e, part-refused headerMax (now (a .max)) e))))))
 
+returns-3 : tie.Need-returns-3
+returns-3 c =
+    let a = c .before .before .args in
+    let e = ap saysReading (c .enum-told2 .given .1) in
+    (part-withdrawn headerMode (now (a .mode)) e, (part-withdrawn headerProfile (now (a .profile)) e, (part-withdrawn headerDim (now (a .dim)) e, (part-withdrawn headerBits (now (a .bits)) e, (part-withdrawn headerProjections (now (a .projections)) e, (part-withdrawn headerMin (now (a .min)) e, part-withdrawn headerMax (now (a .max)) e))))))
+
 pub tell-header-spec : {M : Type 1} → statement M
 tell-header-spec =
     tie.close
@@ -40,5 +49,7 @@ tell-header-spec =
     mode-number-requires
     profile-number-requires
     enum-told
+    enum-told-2
     returns
-    returns-2)
+    returns-2
+    returns-3)

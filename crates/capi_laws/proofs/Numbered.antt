@@ -1,9 +1,11 @@
--- No call refuses with the number 0, so that a caller tells a refusal by its number alone. Assumes nothing.
-use Prim.Native.Nat.{ℕ, zero, suc, _*_}
-use mathlib.Core.Path.{_≡_, refl}
-use mathlib.Core.Bool.{Bool, true, false}
+-- No call refuses with the number 0 or with that of a withdrawn position. Assumes nothing.
+use Prim.Native.Nat.{ℕ, _*_, _<_}
+use mathlib.Core.Path.{_≡_, refl, sym}
+use mathlib.Core.Bool.{Bool, true, false, _&&_, true≢false}
 use mathlib.Core.List.{List, [], _∷_, _++_}
 use native.Mathlib.Omega.{arith}
+use borrow.Author.Tests.{ltb-true}
+use lib.Dec.{ltb}
 use lib.IntN.{ℤ}
 use lib.ListN.{length}
 use lib.Ieee.{Float}
@@ -34,41 +36,53 @@ use Rattle.qjl.specs.Score.{signedChecks, signedScore, modeScore, sketchScoreOf
 use Rattle.packed.specs.declared.Code.{Code}
 use Rattle.packed.specs.Layout.{pairsOf}
 use Rattle.packed.specs.Fields.{projectionsOf}
-use Rattle.packed.specs.Reading.{recordChecks, readRecordOf, radiiOf, readRadiiOf, readIndicesOf, readSignsOf}
+use Rattle.packed.specs.Reading.{unlessWithdrawn, recordChecks, readRecordOf, radiiOf, readRadiiOf, readIndicesOf, readSignsOf}
+use Rattle.packed.proofs.Withdrawn.{unless-refused}
 use Rattle.packed_size.specs.Size.{neededFor, codeChecks, recordSizeOf}
 use Rattle.packed_writing.specs.Writing.{fieldChecks, valueChecks, writeRecordOf}
-use Rattle.turbo_query.specs.Query.{prepareChecks, prepareRotatedOf}
+use Rattle.turbo_query.specs.Query.{queryChecks, prepareChecks, prepareRotatedOf}
 use Rattle.turbo.specs.Scoring.{recordScore, readingChecks}
-use Rattle.turbo.specs.Estimates.{estimate, estimateChecks, innerProductEstimateOf, preparedChecks, innerProductEstimatePreparedOf}
+use Rattle.turbo.specs.Estimates.{estimate, whereScored, innerProductEstimateOf, preparedChecks, innerProductEstimatePreparedOf}
 use Rattle.turbo_distance.specs.Distance.{distanceSum, cutAtZero, wrongSum, distanceBySum}
 use Rattle.turbo.specs.Distance.{l2DistanceEstimateOf}
 use Rattle.turbo_decode.specs.Decode.{decodeChecks, decodeApproximateOf}
+use Rattle.capi.specs.Told.{withdrawnNumber}
 
--- whether every check of a list has a number above 0
-abbrev above : List Check → Bool
-above [] = true
-above (check offends zero p ∷ cs) = false
-above (check offends (suc n) p ∷ cs) = above cs
+-- whether every check of a list has a number above 0 and below that of a withdrawn position
+abbrev between : List Check → Bool
+between [] = true
+between (check offends n p ∷ cs) = ltb 0 n && (ltb n withdrawnNumber && between cs)
 
--- not refused with the number 0
+-- refused with such a number, if at all
 abbrev pub Numbered : {A : Type 0} → Answer A → Type 0
-Numbered a = (p : ℕ) → a ≡ refused 0 p → ⊥
-
-unequal : {X : Type 0} → false ≡ true → X
-unequal e = let z : _≡_ {A = ℕ} 0 1 = cc in absurd (omega arith)
+Numbered a = (n p : ℕ) → a ≡ refused n p → (0 < n) × (n < withdrawnNumber)
 
 pub value-numbered : {A : Type 0} (x : A) → Numbered (value x)
-value-numbered x p e = value-not-refused e
+value-numbered x n p e = value-not-refused e
 
-pub first-numbered : {A : Type 0} (cs : List Check) (a : Answer A) → above cs ≡ true → Numbered a → Numbered (first cs a)
-first-numbered [] a t end p e = end p e
-first-numbered (check true zero q ∷ cs) a t end p e = unequal t
-first-numbered (check true (suc n) q ∷ cs) a t end p e = let z : suc n ≡ 0 = cc in absurd (omega arith)
-first-numbered (check false zero q ∷ cs) a t end p e = unequal t
-first-numbered (check false (suc n) q ∷ cs) a t end p e = first-numbered cs a t end p e
+and-true : (a b : Bool) → (a && b) ≡ true → (a ≡ true) × (b ≡ true)
+and-true true b e = (refl, e)
+and-true false b e = absurd (true≢false (sym e))
+
+pub first-numbered : {A : Type 0} (cs : List Check) (a : Answer A) → between cs ≡ true → Numbered a → Numbered (first cs a)
+first-numbered [] a t end n p e = end n p e
+first-numbered (check true m q ∷ cs) a t end n p e =
+    let low = and-true (ltb 0 m) (ltb m withdrawnNumber && between cs) t in
+    let high = and-true (ltb m withdrawnNumber) (between cs) (low .1) in
+    let same : m ≡ n = cc in
+    let least = ltb-true 0 m (low .0) in
+    let most = ltb-true m withdrawnNumber (high .0) in
+    (omega (arith, same, least), omega (arith, same, most))
+first-numbered (check false m q ∷ cs) a t end n p e =
+    let low = and-true (ltb 0 m) (ltb m withdrawnNumber && between cs) t in
+    first-numbered cs a (and-true (ltb m withdrawnNumber) (between cs) (low .1) .1) end n p e
+
+-- a withdrawn position is not refused, nor is an answer behind one that is not
+unless-numbered : {A : Type 0} (bytes : List ℕ) (a : Answer A) → Numbered a → Numbered (unlessWithdrawn bytes a)
+unless-numbered bytes a end n p e = end n p (unless-refused bytes a e .1)
 
 -- a chain with a value at its end
-chain : {A : Type 0} (cs : List Check) (x : A) → above cs ≡ true → Numbered (first cs (value x))
+chain : {A : Type 0} (cs : List Check) (x : A) → between cs ≡ true → Numbered (first cs (value x))
 chain cs x t = first-numbered cs (value x) t (value-numbered x)
 
 -- ---- bits
@@ -161,7 +175,7 @@ module _ (s : Setup) (l : Lent) where
 
   pub decode-numbered : (bytes : List ℕ) (room : ℕ) → Numbered (decodeApproximateOf s l bytes room)
   unfolding decodeApproximateOf
-  decode-numbered bytes room = chain (decodeChecks s l bytes room) _ refl
+  decode-numbered bytes room = first-numbered (setupChecks s l) _ refl (unless-numbered bytes _ (chain (decodeChecks s bytes room) _ refl))
 
 mode-score-numbered : (mode : TurboMode) (n m : ℕ) (matrix query : List Float) (signs : List ℤ) → Numbered (modeScore mode n m matrix query signs)
 unfolding modeScore signedScore
@@ -192,34 +206,38 @@ write-numbered code radii indices signs room =
 
 pub read-numbered : (bytes : List ℕ) → Numbered (readRecordOf bytes)
 unfolding readRecordOf
-read-numbered bytes = chain (recordChecks bytes) _ refl
+read-numbered bytes = unless-numbered bytes _ (chain (recordChecks bytes) _ refl)
 
 pub read-radii-numbered : (bytes : List ℕ) (room : ℕ) → Numbered (readRadiiOf bytes room)
 unfolding readRadiiOf
-read-radii-numbered bytes room = chain (recordChecks bytes ++ (wrongRoom room (pairsOf bytes) ∷ [])) _ refl
+read-radii-numbered bytes room = unless-numbered bytes _ (chain (recordChecks bytes ++ (wrongRoom room (pairsOf bytes) ∷ [])) _ refl)
 
 pub read-indices-numbered : (bytes : List ℕ) (room : ℕ) → Numbered (readIndicesOf bytes room)
 unfolding readIndicesOf
-read-indices-numbered bytes room = chain (recordChecks bytes ++ (wrongRoom room (pairsOf bytes) ∷ [])) _ refl
+read-indices-numbered bytes room = unless-numbered bytes _ (chain (recordChecks bytes ++ (wrongRoom room (pairsOf bytes) ∷ [])) _ refl)
 
 pub read-signs-numbered : (bytes : List ℕ) (room : ℕ) → Numbered (readSignsOf bytes room)
 unfolding readSignsOf
-read-signs-numbered bytes room = chain (recordChecks bytes ++ (wrongRoom room (projectionsOf bytes) ∷ [])) _ refl
+read-signs-numbered bytes room = unless-numbered bytes _ (chain (recordChecks bytes ++ (wrongRoom room (projectionsOf bytes) ∷ [])) _ refl)
 
 -- ---- scores
+
+-- what stands behind all that scoring asks
+scored-numbered : {A : Type 0} (s : Setup) (l : Lent) (query : List Float) (bytes : List ℕ) (a : Answer A) → Numbered a → Numbered (whereScored s l query bytes a)
+scored-numbered s l query bytes a end = first-numbered (queryChecks s l query) _ refl (unless-numbered bytes _ (first-numbered (readingChecks s bytes (estimate s l query bytes)) a refl end))
 
 module _ (s : Setup) (l : Lent) (query : List Float) (bytes : List ℕ) where
   pub estimate-numbered : Numbered (innerProductEstimateOf s l query bytes)
   unfolding innerProductEstimateOf
-  estimate-numbered = chain (estimateChecks s l query bytes) _ refl
+  estimate-numbered = scored-numbered s l query bytes _ (value-numbered (estimate s l query bytes))
 
   pub distance-numbered : Numbered (l2DistanceEstimateOf s l query bytes)
   unfolding l2DistanceEstimateOf distanceBySum
   distance-numbered =
       let sum = distanceSum query (radiiOf bytes) (estimate s l query bytes) in
-      first-numbered (estimateChecks s l query bytes) (distanceBySum sum) refl (chain (wrongSum sum ∷ wrongScore (cutAtZero sum) ∷ []) _ refl)
+      scored-numbered s l query bytes (distanceBySum sum) (chain (wrongSum sum ∷ wrongScore (cutAtZero sum) ∷ []) _ refl)
 
 pub estimate-prepared-numbered : (s : Setup) (directions rotated values : List Float) (bytes : List ℕ) → Numbered (innerProductEstimatePreparedOf s directions rotated values bytes)
 unfolding innerProductEstimatePreparedOf
 estimate-prepared-numbered s directions rotated values bytes =
-    chain (preparedChecks s directions rotated values ++ readingChecks s bytes (recordScore s directions rotated values bytes)) _ refl
+    first-numbered (preparedChecks s directions rotated values) _ refl (unless-numbered bytes _ (chain (readingChecks s bytes (recordScore s directions rotated values bytes)) _ refl))
