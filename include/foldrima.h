@@ -18,8 +18,9 @@
  * parts have no *number: of a record that is refused or withdrawn they find an empty part.
  *
  * Outputs. What a call writes to need not be initialised: it is written whole, or not at all. An output must have exactly the needed length, else 6 with
- * the needed length as the place, after all other checks. A withdrawn position needs no length: it is answered before 6, whatever length is lent. So a
- * call with an output of length 0 tells the needed length, unless something else is refused, the record is withdrawn, or 0 was right; beforehand:
+ * the needed length as the place, after all other checks. So a call with an output of length 0 tells the needed length, unless something else is refused,
+ * the record is withdrawn, or 0 was right. A withdrawn position needs no length: it is answered before 6, whatever length is lent. The needed length
+ * beforehand:
  *
  *     pack_indices                    foldrima_packed_len(indices_len, bits, ..)
  *     unpack_indices, unpack_signs    count

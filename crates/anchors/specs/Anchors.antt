@@ -1,6 +1,6 @@
 -- Score, exact score, bound, distance and decoding of document 01's records P12 and P13 stand here as numbers, and beside them each exact form and each size that a
--- bound is made of; then distances near the top of f32, and withdrawn positions. A definition that stands on the generous side of an inequality could grow without any proof failing:
--- these lines pin it. Assumes nothing.
+-- bound is made of; then distances near the top of f32, and withdrawn positions. A definition that stands on the generous side of an inequality could grow without any
+-- proof failing: these lines pin it. Assumes nothing.
 use Prim.Native.Nat.{ℕ, _+_, _-_, _*_, _^_}
 use mathlib.Core.Path.{_≡_}
 use mathlib.Core.Bool.{true, false}

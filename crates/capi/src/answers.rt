@@ -246,7 +246,7 @@ pub fn tell_score(answer: Scored, number: &mut u32, place: &mut usize, value: &m
     }
 }
 
-// Whether a record was read.
+// Whether a record was read, refused or withdrawn.
 pub fn tell_read(answer: Reading, number: &mut u32, place: &mut usize)
     ensures { λ _. ⌜ said (now (number .exit)) (now (place .exit)) ≡ told (saysReading answer) ⌝ }
 {

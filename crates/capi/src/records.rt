@@ -16,7 +16,7 @@ ghost use Rattle.packed_writing.specs.Writing.{writeRecordOf};
 ghost use Rattle.capi.specs.Told.{said, told, part};
 ghost use Rattle.capi.specs.Codes.{codeFrom, headerMode, headerProfile, headerDim, headerBits, headerProjections, headerMin, headerMax};
 
-// Reads a record: its header, where nothing offends.
+// Reads a record: its header, where nothing offends. A record of no bytes is withdrawn.
 #[no_mangle]
 pub extern "C" fn foldrima_read_record(
     bytes: &[u8],

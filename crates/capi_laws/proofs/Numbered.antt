@@ -1,4 +1,4 @@
--- No call refuses with the number 0 or with that of a withdrawn position. Assumes nothing.
+-- No call refuses with the number 0 or with that of a withdrawn position, and one that takes no record does not answer withdrawn. Assumes nothing.
 use Prim.Native.Nat.{ℕ, _*_, _<_}
 use mathlib.Core.Path.{_≡_, refl, sym}
 use mathlib.Core.Bool.{Bool, true, false, _&&_, true≢false}
@@ -9,9 +9,9 @@ use lib.Dec.{ltb}
 use lib.IntN.{ℤ}
 use lib.ListN.{length}
 use lib.Ieee.{Float}
-use Rattle.error.specs.Answer.{Answer, value, refused, Check, check, first, each, accepted}
+use Rattle.error.specs.Answer.{Answer, value, refused, withdrawn, Check, check, first, each, accepted}
 use Rattle.error.specs.Checks.{wrongBits, wrongRoom, wrongIndex, wrongInput, wrongScore, badIndex}
-use Rattle.error.proofs.Chains.{value-not-refused}
+use Rattle.error.proofs.Chains.{value-not-refused, value-not-withdrawn, refused-not-withdrawn}
 use Rattle.bitpack.specs.Padding.{bytesFor, wrongLength, wrongPadding, validatePaddingZeroOf}
 use Rattle.bitpack.specs.Packing.{wrongOverflow, packedLenOf, packIndicesOf, unpackIndicesOf}
 use Rattle.bitpack.specs.Signs.{badSketchSign, packSignsOf, unpackSignsOf}
@@ -77,125 +77,137 @@ first-numbered (check false m q ∷ cs) a t end n p e =
     let low = and-true (ltb 0 m) (ltb m withdrawnNumber && between cs) t in
     first-numbered cs a (and-true (ltb m withdrawnNumber) (between cs) (low .1) .1) end n p e
 
--- a withdrawn position is not refused, nor is an answer behind one that is not
+-- nor withdrawn
+abbrev pub Plain : {A : Type 0} → Answer A → Type 0
+Plain a = Numbered a × (a ≡ withdrawn → ⊥)
+
+first-settled : {A : Type 0} (cs : List Check) (a : Answer A) → (a ≡ withdrawn → ⊥) → first cs a ≡ withdrawn → ⊥
+first-settled [] a end e = end e
+first-settled (check true m q ∷ cs) a end e = refused-not-withdrawn e
+first-settled (check false m q ∷ cs) a end e = first-settled cs a end e
+
+first-plain : {A : Type 0} (cs : List Check) (a : Answer A) → between cs ≡ true → Plain a → Plain (first cs a)
+first-plain cs a t end = (first-numbered cs a t (end .0), first-settled cs a (end .1))
+
+-- where an answer is refused with such a number, so it is behind the check for a withdrawn position
 unless-numbered : {A : Type 0} (bytes : List ℕ) (a : Answer A) → Numbered a → Numbered (unlessWithdrawn bytes a)
 unless-numbered bytes a end n p e = end n p (unless-refused bytes a e .1)
 
 -- a chain with a value at its end
-chain : {A : Type 0} (cs : List Check) (x : A) → between cs ≡ true → Numbered (first cs (value x))
-chain cs x t = first-numbered cs (value x) t (value-numbered x)
+chain : {A : Type 0} (cs : List Check) (x : A) → between cs ≡ true → Plain (first cs (value x))
+chain cs x t = first-plain cs (value x) t (value-numbered x, λ e. value-not-withdrawn e)
 
 -- ---- bits
 
-pub packed-len-numbered : (count bits : ℕ) → Numbered (packedLenOf count bits)
+pub packed-len-numbered : (count bits : ℕ) → Plain (packedLenOf count bits)
 unfolding packedLenOf
 packed-len-numbered count bits = chain (wrongBits bits ∷ wrongOverflow count bits ∷ []) _ refl
 
-pub pack-numbered : (indices : List ℕ) (bits room : ℕ) → Numbered (packIndicesOf indices bits room)
+pub pack-numbered : (indices : List ℕ) (bits room : ℕ) → Plain (packIndicesOf indices bits room)
 unfolding packIndicesOf
 pack-numbered indices bits room =
     chain (wrongBits bits ∷ wrongOverflow (length indices) bits ∷ each (badIndex bits) 15 indices ∷ wrongRoom room (bytesFor (length indices * bits)) ∷ []) _ refl
 
-pub unpack-numbered : (packed : List ℕ) (count bits room : ℕ) → Numbered (unpackIndicesOf packed count bits room)
+pub unpack-numbered : (packed : List ℕ) (count bits room : ℕ) → Plain (unpackIndicesOf packed count bits room)
 unfolding unpackIndicesOf
 unpack-numbered packed count bits room =
     chain (wrongBits bits ∷ wrongOverflow count bits ∷ wrongLength packed (count * bits) ∷ wrongPadding packed (count * bits) ∷ wrongRoom room count ∷ []) _ refl
 
-pub pack-signs-numbered : (signs : List ℤ) (room : ℕ) → Numbered (packSignsOf signs room)
+pub pack-signs-numbered : (signs : List ℤ) (room : ℕ) → Plain (packSignsOf signs room)
 unfolding packSignsOf
 pack-signs-numbered signs room = chain (each badSketchSign 10 signs ∷ wrongRoom room (bytesFor (length signs)) ∷ []) _ refl
 
-pub unpack-signs-numbered : (packed : List ℕ) (count room : ℕ) → Numbered (unpackSignsOf packed count room)
+pub unpack-signs-numbered : (packed : List ℕ) (count room : ℕ) → Plain (unpackSignsOf packed count room)
 unfolding unpackSignsOf
 unpack-signs-numbered packed count room = chain (wrongLength packed count ∷ wrongPadding packed count ∷ wrongRoom room count ∷ []) _ refl
 
-pub padding-numbered : (packed : List ℕ) (used : ℕ) → Numbered (validatePaddingZeroOf packed used)
+pub padding-numbered : (packed : List ℕ) (used : ℕ) → Plain (validatePaddingZeroOf packed used)
 unfolding validatePaddingZeroOf
 padding-numbered packed used = chain (wrongLength packed used ∷ wrongPadding packed used ∷ []) _ refl
 
 -- ---- codebook and angle
 
-pub uniform-numbered : (bits : ℕ) (lo hi : Float) → Numbered (uniformOf bits lo hi)
+pub uniform-numbered : (bits : ℕ) (lo hi : Float) → Plain (uniformOf bits lo hi)
 unfolding uniformOf
 uniform-numbered bits lo hi = chain (wrongBits bits ∷ wrongBounds lo hi ∷ []) _ refl
 
-pub levels-numbered : (bits : ℕ) (lo hi : Float) → Numbered (levelsOf bits lo hi)
+pub levels-numbered : (bits : ℕ) (lo hi : Float) → Plain (levelsOf bits lo hi)
 unfolding levelsOf
 levels-numbered bits lo hi = chain (wrongBits bits ∷ wrongBounds lo hi ∷ []) _ refl
 
-pub quantize-numbered : (bits : ℕ) (lo hi x : Float) → Numbered (quantizeOf bits lo hi x)
+pub quantize-numbered : (bits : ℕ) (lo hi x : Float) → Plain (quantizeOf bits lo hi x)
 unfolding quantizeOf
 quantize-numbered bits lo hi x = chain (wrongBits bits ∷ wrongBounds lo hi ∷ wrongValue x ∷ []) _ refl
 
-pub midpoint-numbered : (bits : ℕ) (lo hi : Float) (index : ℕ) → Numbered (dequantizeMidpointOf bits lo hi index)
+pub midpoint-numbered : (bits : ℕ) (lo hi : Float) (index : ℕ) → Plain (dequantizeMidpointOf bits lo hi index)
 unfolding dequantizeMidpointOf
 midpoint-numbered bits lo hi index = chain (wrongBits bits ∷ wrongBounds lo hi ∷ wrongIndex bits index ∷ []) _ refl
 
-pub angle-numbered : (bits index : ℕ) → Numbered (dequantizeAngleOf bits index)
+pub angle-numbered : (bits index : ℕ) → Plain (dequantizeAngleOf bits index)
 unfolding dequantizeAngleOf
 angle-numbered bits index = chain (wrongBits bits ∷ wrongIndex bits index ∷ []) _ refl
 
 -- ---- radii
 
-pub compress-numbered : (radii : List Float) (profile : RadiusCodecProfileV1) (room : ℕ) → Numbered (compressRangeOf radii profile room)
+pub compress-numbered : (radii : List Float) (profile : RadiusCodecProfileV1) (room : ℕ) → Plain (compressRangeOf radii profile room)
 unfolding compressRangeOf
 compress-numbered radii profile room = chain (compressChecks radii profile room) _ refl
 
-pub decompress-numbered : (profile : RadiusCodecProfileV1) (count : ℕ) (range : Range) (payload : List ℕ) (room : ℕ) → Numbered (decompressOf profile count range payload room)
+pub decompress-numbered : (profile : RadiusCodecProfileV1) (count : ℕ) (range : Range) (payload : List ℕ) (room : ℕ) → Plain (decompressOf profile count range payload room)
 unfolding decompressOf
 decompress-numbered F32 count range payload room = chain (decompressChecks F32 count range payload room) _ refl
 decompress-numbered BlockLinearU16 count range payload room = chain (decompressChecks BlockLinearU16 count range payload room) _ refl
 decompress-numbered BlockLogU8 count range payload room = chain (decompressChecks BlockLogU8 count range payload room) (radiiFor BlockLogU8 count range payload) refl
 
-pub encoded-numbered : (profile : RadiusCodecProfileV1) (payload : List ℕ) → Numbered (encodedBytesOf profile payload)
+pub encoded-numbered : (profile : RadiusCodecProfileV1) (payload : List ℕ) → Plain (encodedBytesOf profile payload)
 unfolding encodedBytesOf
 encoded-numbered profile payload = chain (check (badProfile profile) 18 0 ∷ []) _ refl
 
 -- ---- rotation, setup and sketch
 
-pub apply-numbered : (n : ℕ) (signs xs : List Float) (room : ℕ) → Numbered (applyOf n signs xs room)
+pub apply-numbered : (n : ℕ) (signs xs : List Float) (room : ℕ) → Plain (applyOf n signs xs room)
 unfolding applyOf
 apply-numbered n signs xs room = chain (rotationChecks n signs (length xs) room) _ refl
 
-pub inverse-numbered : (n : ℕ) (signs xs : List Float) (room : ℕ) → Numbered (applyInverseOf n signs xs room)
+pub inverse-numbered : (n : ℕ) (signs xs : List Float) (room : ℕ) → Plain (applyInverseOf n signs xs room)
 unfolding applyInverseOf
 inverse-numbered n signs xs room = chain (rotationChecks n signs (length xs) room) _ refl
 
 module _ (s : Setup) (l : Lent) where
-  pub setup-numbered : Numbered (first (setupChecks s l) accepted)
+  pub setup-numbered : Plain (first (setupChecks s l) accepted)
   setup-numbered = chain (setupChecks s l) _ refl
 
-  pub sketch-numbered : (vector : List Float) (room : ℕ) → Numbered (sketchOf s l vector room)
+  pub sketch-numbered : (vector : List Float) (room : ℕ) → Plain (sketchOf s l vector room)
   unfolding sketchOf
   sketch-numbered vector room = chain (vectorChecks s l vector ++ (wrongRoom room (countedProjectionsOf s) ∷ [])) _ refl
 
-  pub prepare-numbered : (query : List Float) (room space : ℕ) → Numbered (prepareRotatedOf s l query room space)
+  pub prepare-numbered : (query : List Float) (room space : ℕ) → Plain (prepareRotatedOf s l query room space)
   unfolding prepareRotatedOf
   prepare-numbered query room space = chain (prepareChecks s l query room space) _ refl
 
   pub decode-numbered : (bytes : List ℕ) (room : ℕ) → Numbered (decodeApproximateOf s l bytes room)
   unfolding decodeApproximateOf
-  decode-numbered bytes room = first-numbered (setupChecks s l) _ refl (unless-numbered bytes _ (chain (decodeChecks s bytes room) _ refl))
+  decode-numbered bytes room = first-numbered (setupChecks s l) _ refl (unless-numbered bytes _ (chain (decodeChecks s bytes room) _ refl .0))
 
-mode-score-numbered : (mode : TurboMode) (n m : ℕ) (matrix query : List Float) (signs : List ℤ) → Numbered (modeScore mode n m matrix query signs)
+mode-score-numbered : (mode : TurboMode) (n m : ℕ) (matrix query : List Float) (signs : List ℤ) → Plain (modeScore mode n m matrix query signs)
 unfolding modeScore signedScore
 mode-score-numbered PolarOnly n m matrix query signs = chain (wrongInput (length signs) 0 ∷ []) _ refl
 mode-score-numbered PolarWithQjl n m matrix query signs =
     chain (signedChecks m (projected n m matrix query) signs (unitResidual m (projected n m matrix query) signs)) _ refl
 
-pub sketch-score-numbered : (s : Setup) (l : Lent) (query : List Float) (sketch : List ℤ) → Numbered (sketchScoreOf s l query sketch)
+pub sketch-score-numbered : (s : Setup) (l : Lent) (query : List Float) (sketch : List ℤ) → Plain (sketchScoreOf s l query sketch)
 unfolding sketchScoreOf
 sketch-score-numbered s l query sketch =
-    first-numbered (vectorChecks s l query) _ refl (mode-score-numbered (s .mode) (s .dim) (s .projections) (l .matrix) query sketch)
+    first-plain (vectorChecks s l query) _ refl (mode-score-numbered (s .mode) (s .dim) (s .projections) (l .matrix) query sketch)
 
 -- ---- record
 
-pub record-size-numbered : (code : Code) → Numbered (recordSizeOf code)
+pub record-size-numbered : (code : Code) → Plain (recordSizeOf code)
 unfolding recordSizeOf
 record-size-numbered code = chain (codeChecks code) _ refl
 
 pub write-numbered : (code : Code) (radii : List Float) (indices : List ℕ) (signs : List ℤ) (room : ℕ)
-    → Numbered (writeRecordOf code radii indices signs room)
+    → Plain (writeRecordOf code radii indices signs room)
 unfolding writeRecordOf
 write-numbered code radii indices signs room =
     chain
@@ -206,19 +218,19 @@ write-numbered code radii indices signs room =
 
 pub read-numbered : (bytes : List ℕ) → Numbered (readRecordOf bytes)
 unfolding readRecordOf
-read-numbered bytes = unless-numbered bytes _ (chain (recordChecks bytes) _ refl)
+read-numbered bytes = unless-numbered bytes _ (chain (recordChecks bytes) _ refl .0)
 
 pub read-radii-numbered : (bytes : List ℕ) (room : ℕ) → Numbered (readRadiiOf bytes room)
 unfolding readRadiiOf
-read-radii-numbered bytes room = unless-numbered bytes _ (chain (recordChecks bytes ++ (wrongRoom room (pairsOf bytes) ∷ [])) _ refl)
+read-radii-numbered bytes room = unless-numbered bytes _ (chain (recordChecks bytes ++ (wrongRoom room (pairsOf bytes) ∷ [])) _ refl .0)
 
 pub read-indices-numbered : (bytes : List ℕ) (room : ℕ) → Numbered (readIndicesOf bytes room)
 unfolding readIndicesOf
-read-indices-numbered bytes room = unless-numbered bytes _ (chain (recordChecks bytes ++ (wrongRoom room (pairsOf bytes) ∷ [])) _ refl)
+read-indices-numbered bytes room = unless-numbered bytes _ (chain (recordChecks bytes ++ (wrongRoom room (pairsOf bytes) ∷ [])) _ refl .0)
 
 pub read-signs-numbered : (bytes : List ℕ) (room : ℕ) → Numbered (readSignsOf bytes room)
 unfolding readSignsOf
-read-signs-numbered bytes room = unless-numbered bytes _ (chain (recordChecks bytes ++ (wrongRoom room (projectionsOf bytes) ∷ [])) _ refl)
+read-signs-numbered bytes room = unless-numbered bytes _ (chain (recordChecks bytes ++ (wrongRoom room (projectionsOf bytes) ∷ [])) _ refl .0)
 
 -- ---- scores
 
@@ -235,9 +247,9 @@ module _ (s : Setup) (l : Lent) (query : List Float) (bytes : List ℕ) where
   unfolding l2DistanceEstimateOf distanceBySum
   distance-numbered =
       let sum = distanceSum query (radiiOf bytes) (estimate s l query bytes) in
-      scored-numbered s l query bytes (distanceBySum sum) (chain (wrongSum sum ∷ wrongScore (cutAtZero sum) ∷ []) _ refl)
+      scored-numbered s l query bytes (distanceBySum sum) (chain (wrongSum sum ∷ wrongScore (cutAtZero sum) ∷ []) _ refl .0)
 
 pub estimate-prepared-numbered : (s : Setup) (directions rotated values : List Float) (bytes : List ℕ) → Numbered (innerProductEstimatePreparedOf s directions rotated values bytes)
 unfolding innerProductEstimatePreparedOf
 estimate-prepared-numbered s directions rotated values bytes =
-    first-numbered (preparedChecks s directions rotated values) _ refl (unless-numbered bytes _ (chain (readingChecks s bytes (recordScore s directions rotated values bytes)) _ refl))
+    first-numbered (preparedChecks s directions rotated values) _ refl (unless-numbered bytes _ (chain (readingChecks s bytes (recordScore s directions rotated values bytes)) _ refl .0))

@@ -1,11 +1,11 @@
 -- By the number alone a caller in C tells a value, a refusal and a withdrawn position apart: 0 is told of a value, 255 of a withdrawn position, and no call refuses with
--- either. Each field is named by its call. Assumes nothing.
-use Prim.Native.Nat.{ℕ}
+-- either. A call that takes no record never answers withdrawn. Each field is named by its call. Assumes nothing.
+use Prim.Native.Nat.{ℕ, _<_}
 use mathlib.Core.Path.{_≡_}
 use mathlib.Core.List.{List}
 use lib.IntN.{ℤ}
 use lib.Ieee.{Float}
-use Rattle.error.specs.Answer.{Answer, withdrawn, first, accepted, done}
+use Rattle.error.specs.Answer.{Answer, refused, withdrawn, first, accepted, done}
 use Rattle.bitpack.specs.Padding.{validatePaddingZeroOf}
 use Rattle.bitpack.specs.Packing.{packedLenOf, packIndicesOf, unpackIndicesOf}
 use Rattle.bitpack.specs.Signs.{packSignsOf, unpackSignsOf}
@@ -30,41 +30,49 @@ use Rattle.turbo.specs.Distance.{l2DistanceEstimateOf}
 use Rattle.turbo_decode.specs.Decode.{decodeApproximateOf}
 use Rattle.capi.specs.Told.{said, withdrawnNumber, told}
 
--- What the two lent numbers hold tells which kind of answer it was.
-pub record Apart {A : Type 0} (a : Answer A) : Type 0 where
+-- What the two lent numbers hold tells which of three kinds of answer it was, and which refusal.
+pub record ThreeKinds {A : Type 0} (a : Answer A) : Type 0 where
   pub value-by-zero : (p : ℕ) → told a ≡ said 0 p → done a ≡ accepted
   pub withdrawn-by-number : (p : ℕ) → told a ≡ said withdrawnNumber p → a ≡ withdrawn
+  pub refused-by-others : (n p : ℕ) → told a ≡ said n p → 0 < n → (n ≡ withdrawnNumber → ⊥) → a ≡ refused n p
+
+-- Of these the answer is a value or a refusal, and not withdrawn.
+pub record TwoKinds {A : Type 0} (a : Answer A) : Type 0 where
+  pub kinds : ThreeKinds a
+  pub not-withdrawn : a ≡ withdrawn → ⊥
 
 pub record Numbers : Type 1 where
-  -- A call without a value of its own tells what stands here of the answer with one.
+  -- The answer of a call whose value stands in lent memory is told by the same numbers as the answer with that value, of which the fields below speak.
   pub without-value : {A : Type 0} (a : Answer A) → told (done a) ≡ told a
-  pub check-setup : (s : Setup) (l : Lent) → Apart (first (setupChecks s l) accepted)
-  pub packed-len : (count bits : ℕ) → Apart (packedLenOf count bits)
-  pub pack-indices : (indices : List ℕ) (bits room : ℕ) → Apart (packIndicesOf indices bits room)
-  pub unpack-indices : (packed : List ℕ) (count bits room : ℕ) → Apart (unpackIndicesOf packed count bits room)
-  pub pack-signs : (signs : List ℤ) (room : ℕ) → Apart (packSignsOf signs room)
-  pub unpack-signs : (packed : List ℕ) (count room : ℕ) → Apart (unpackSignsOf packed count room)
-  pub validate-padding-zero : (packed : List ℕ) (used : ℕ) → Apart (validatePaddingZeroOf packed used)
-  pub apply : (n : ℕ) (signs xs : List Float) (room : ℕ) → Apart (applyOf n signs xs room)
-  pub apply-inverse : (n : ℕ) (signs xs : List Float) (room : ℕ) → Apart (applyInverseOf n signs xs room)
-  pub dequantize-angle : (bits index : ℕ) → Apart (dequantizeAngleOf bits index)
-  pub sketch : (s : Setup) (l : Lent) (vector : List Float) (room : ℕ) → Apart (sketchOf s l vector room)
-  pub sketch-score : (s : Setup) (l : Lent) (query : List Float) (sketch : List ℤ) → Apart (sketchScoreOf s l query sketch)
-  pub prepare-query : (s : Setup) (l : Lent) (query : List Float) (room space : ℕ) → Apart (prepareRotatedOf s l query room space)
-  pub inner-product-estimate : (s : Setup) (l : Lent) (query : List Float) (bytes : List ℕ) → Apart (innerProductEstimateOf s l query bytes)
-  pub inner-product-estimate-prepared : (s : Setup) (directions rotated values : List Float) (bytes : List ℕ) → Apart (innerProductEstimatePreparedOf s directions rotated values bytes)
-  pub l2-distance-estimate : (s : Setup) (l : Lent) (query : List Float) (bytes : List ℕ) → Apart (l2DistanceEstimateOf s l query bytes)
-  pub decode-approximate : (s : Setup) (l : Lent) (bytes : List ℕ) (room : ℕ) → Apart (decodeApproximateOf s l bytes room)
-  pub compress : (radii : List Float) (profile : RadiusCodecProfileV1) (room : ℕ) → Apart (compressRangeOf radii profile room)
-  pub decompress : (profile : RadiusCodecProfileV1) (count : ℕ) (range : Range) (payload : List ℕ) (room : ℕ) → Apart (decompressOf profile count range payload room)
-  pub encoded-bytes : (profile : RadiusCodecProfileV1) (payload : List ℕ) → Apart (encodedBytesOf profile payload)
-  pub uniform : (bits : ℕ) (lo hi : Float) → Apart (uniformOf bits lo hi)
-  pub levels : (bits : ℕ) (lo hi : Float) → Apart (levelsOf bits lo hi)
-  pub quantize : (bits : ℕ) (lo hi x : Float) → Apart (quantizeOf bits lo hi x)
-  pub dequantize-midpoint : (bits : ℕ) (lo hi : Float) (index : ℕ) → Apart (dequantizeMidpointOf bits lo hi index)
-  pub read-record : (bytes : List ℕ) → Apart (readRecordOf bytes)
-  pub read-radii : (bytes : List ℕ) (room : ℕ) → Apart (readRadiiOf bytes room)
-  pub read-indices : (bytes : List ℕ) (room : ℕ) → Apart (readIndicesOf bytes room)
-  pub read-signs : (bytes : List ℕ) (room : ℕ) → Apart (readSignsOf bytes room)
-  pub record-size : (code : Code) → Apart (recordSizeOf code)
-  pub write-record : (code : Code) (radii : List Float) (indices : List ℕ) (signs : List ℤ) (room : ℕ) → Apart (writeRecordOf code radii indices signs room)
+  -- These calls take a record.
+  pub inner-product-estimate : (s : Setup) (l : Lent) (query : List Float) (bytes : List ℕ) → ThreeKinds (innerProductEstimateOf s l query bytes)
+  pub inner-product-estimate-prepared : (s : Setup) (directions rotated values : List Float) (bytes : List ℕ) → ThreeKinds (innerProductEstimatePreparedOf s directions rotated values bytes)
+  pub l2-distance-estimate : (s : Setup) (l : Lent) (query : List Float) (bytes : List ℕ) → ThreeKinds (l2DistanceEstimateOf s l query bytes)
+  pub decode-approximate : (s : Setup) (l : Lent) (bytes : List ℕ) (room : ℕ) → ThreeKinds (decodeApproximateOf s l bytes room)
+  pub read-record : (bytes : List ℕ) → ThreeKinds (readRecordOf bytes)
+  pub read-radii : (bytes : List ℕ) (room : ℕ) → ThreeKinds (readRadiiOf bytes room)
+  pub read-indices : (bytes : List ℕ) (room : ℕ) → ThreeKinds (readIndicesOf bytes room)
+  pub read-signs : (bytes : List ℕ) (room : ℕ) → ThreeKinds (readSignsOf bytes room)
+  -- These take none.
+  pub check-setup : (s : Setup) (l : Lent) → TwoKinds (first (setupChecks s l) accepted)
+  pub packed-len : (count bits : ℕ) → TwoKinds (packedLenOf count bits)
+  pub pack-indices : (indices : List ℕ) (bits room : ℕ) → TwoKinds (packIndicesOf indices bits room)
+  pub unpack-indices : (packed : List ℕ) (count bits room : ℕ) → TwoKinds (unpackIndicesOf packed count bits room)
+  pub pack-signs : (signs : List ℤ) (room : ℕ) → TwoKinds (packSignsOf signs room)
+  pub unpack-signs : (packed : List ℕ) (count room : ℕ) → TwoKinds (unpackSignsOf packed count room)
+  pub validate-padding-zero : (packed : List ℕ) (used : ℕ) → TwoKinds (validatePaddingZeroOf packed used)
+  pub apply : (n : ℕ) (signs xs : List Float) (room : ℕ) → TwoKinds (applyOf n signs xs room)
+  pub apply-inverse : (n : ℕ) (signs xs : List Float) (room : ℕ) → TwoKinds (applyInverseOf n signs xs room)
+  pub dequantize-angle : (bits index : ℕ) → TwoKinds (dequantizeAngleOf bits index)
+  pub sketch : (s : Setup) (l : Lent) (vector : List Float) (room : ℕ) → TwoKinds (sketchOf s l vector room)
+  pub sketch-score : (s : Setup) (l : Lent) (query : List Float) (sketch : List ℤ) → TwoKinds (sketchScoreOf s l query sketch)
+  pub prepare-query : (s : Setup) (l : Lent) (query : List Float) (room space : ℕ) → TwoKinds (prepareRotatedOf s l query room space)
+  pub compress : (radii : List Float) (profile : RadiusCodecProfileV1) (room : ℕ) → TwoKinds (compressRangeOf radii profile room)
+  pub decompress : (profile : RadiusCodecProfileV1) (count : ℕ) (range : Range) (payload : List ℕ) (room : ℕ) → TwoKinds (decompressOf profile count range payload room)
+  pub encoded-bytes : (profile : RadiusCodecProfileV1) (payload : List ℕ) → TwoKinds (encodedBytesOf profile payload)
+  pub uniform : (bits : ℕ) (lo hi : Float) → TwoKinds (uniformOf bits lo hi)
+  pub levels : (bits : ℕ) (lo hi : Float) → TwoKinds (levelsOf bits lo hi)
+  pub quantize : (bits : ℕ) (lo hi x : Float) → TwoKinds (quantizeOf bits lo hi x)
+  pub dequantize-midpoint : (bits : ℕ) (lo hi : Float) (index : ℕ) → TwoKinds (dequantizeMidpointOf bits lo hi index)
+  pub record-size : (code : Code) → TwoKinds (recordSizeOf code)
+  pub write-record : (code : Code) (radii : List Float) (indices : List ℕ) (signs : List ℤ) (room : ℕ) → TwoKinds (writeRecordOf code radii indices signs room)

@@ -69,14 +69,14 @@ pub enum Length {
     Refused { number: u32, place: usize },
 }
 
-// A score or a distance with its value, a refusal, or a withdrawn position, which has neither.
+// A score or a distance with its value, a refusal, or a withdrawn position, which is neither.
 pub enum Scored {
     Score(f32),
     Refused { number: u32, place: usize },
     Withdrawn,
 }
 
-// The outcome of a call that is no record's, as an answer of one that is.
+// The outcome of a call that can't say withdrawn, as an answer of one that can.
 pub fn as_filled(outcome: Outcome) -> Filled
     ensures { λ r. ⌜ saysFilled r ≡ says outcome ⌝ }
 {

@@ -1,5 +1,5 @@
--- Document 01's worked records, computed: P12 and P13, and the linear record whose radius reads as infinite; then one record for each refusal,
--- in the order of the checks. Bytes are hexadecimal, as there. Assumes nothing.
+-- Document 01's worked records, computed: P12 and P13, and the linear record whose radius reads as infinite; then a withdrawn position, and one record
+-- for each refusal, in the order of the checks. Bytes are hexadecimal, as there. Assumes nothing.
 use Prim.Native.Nat.{ℕ}
 use mathlib.Core.Path.{_≡_, refl}
 use mathlib.Core.Bool.{false}
@@ -90,7 +90,7 @@ pub length-first : readRecordOf (linear (0x00 ∷ 0x00 ∷ 0x80 ∷ 0xBF ∷ 0x0
 unfolding readRecordOf boundsOf projectionsOf number ones onesIn
 length-first = refl
 
--- ---- the other refusals, in their order
+-- ---- a withdrawn position, and the other refusals, in their order
 
 -- 'A record of no bytes now means a withdrawn position'; 'Lengths 1 to 5 still answer 13'
 pub no-bytes : readRecordOf [] ≡ withdrawn

@@ -1,7 +1,7 @@
 -- This is the reader: its checks in document 01's order, its answer, and the values that an accepted record holds. 'Reading checks, in order: under six bytes 13;
 -- 18; 2; 3; 4; 1 (16 is refused beside bit 1); header cut short 13; 8; total length 13; 17 ..; 16; 14 for indices; 14 for signs.' Before them stands document 02's
 -- request b): 'A record of no bytes now means a withdrawn position. Reading it answers withdrawn'. Assumes nothing.
-use Prim.Native.Nat.{ℕ, _^_}
+use Prim.Native.Nat.{ℕ}
 use mathlib.Core.Bool.{Bool, cond, not, _||_}
 use mathlib.Core.List.{List, [], _∷_, _++_, map}
 use lib.Count.{ones}

@@ -1,5 +1,5 @@
 // Reading the record: a polar code and, beside it, a residual sketch, as bytes. Ported from turbo-quant/src/packed.rs and changed: the byte layout
-// is this port's own, payloads are parts of the record's own bytes, outputs are lent, refusals are numbers, and no bytes are a withdrawn position.
+// is this port's own, payloads are parts of the record's own bytes, outputs are lent, refusals are numbers, and a record of no bytes is withdrawn.
 use error::INVALID_BIT_WIDTH;
 use error::MALFORMED_LENGTH;
 use error::MALFORMED_RADIUS;
@@ -57,7 +57,7 @@ pub enum Reading {
     Withdrawn,
 }
 
-// Reads a record: its header, where nothing offends. No bytes are a withdrawn position.
+// Reads a record: its header, where nothing offends. A record of no bytes is a withdrawn position.
 pub fn read_record(bytes: &[u8]) -> Reading
     ensures { λ r. ⌜ saysReading r ≡ readRecordOf (now (bytes .entry)) ⌝ }
 {

@@ -1,20 +1,20 @@
--- What document 02's request b) says of records holds: no bytes are withdrawn, and a record that has bytes is answered as before. Assumes nothing.
-use Prim.Native.Nat.{ℕ, zero, suc, _+_, _≤_}
+-- What document 02's request b) says of records holds: a record of no bytes is withdrawn, and one that has bytes is answered as it was. Assumes nothing.
+use Prim.Native.Nat.{ℕ, _≤_}
 use mathlib.Core.Path.{_≡_, refl, sym, ap, _∙_}
-use mathlib.Core.Bool.{true, false, true≢false}
+use mathlib.Core.Bool.{false, true≢false}
 use mathlib.Core.List.{List, [], _∷_, _++_}
 use native.Mathlib.Omega.{arith}
 use borrow.Author.Tests.{eqb-true, ne-eqb, lt-ltb}
 use lib.IntN.{ℤ}
 use lib.ListN.{length}
 use lib.Ieee.{Float}
-use Rattle.error.specs.Answer.{value, refused, withdrawn, first}
+use Rattle.error.specs.Answer.{Answer, value, refused, withdrawn, first}
 use Rattle.error.specs.Checks.{wrongRoom}
 use Rattle.error.proofs.Chains.{first-value}
 use Rattle.packed.specs.declared.Code.{Code}
-use Rattle.packed.specs.Layout.{headerOf}
-use Rattle.packed.specs.Reading.{isWithdrawn, recordChecks, readRecordOf, radiiPartOf, indicesPartOf, signsPartOf, readRadiiOf, readIndicesOf, readSignsOf}
-use Rattle.packed.specs.Accepted.{Accepted}
+use Rattle.packed.specs.declared.Header.{Header}
+use Rattle.packed.specs.Layout.{radiiBytes, indicesBytes, signsBytes, headerOf}
+use Rattle.packed.specs.Reading.{isWithdrawn, recordChecks, readRecordOf, partWhere, radiiPartOf, indicesPartOf, signsPartOf, readRadiiOf, readIndicesOf, readSignsOf}
 use Rattle.packed.proofs.Withdrawn.{unless-some, read-withdrawn}
 use Rattle.packed.proofs.Accepted.{accepted-some}
 use Rattle.packed_size.specs.Size.{neededFor}
@@ -34,6 +34,19 @@ read-kept bytes h = unless-some bytes _ (some bytes h)
 
 short : (bytes : List ℕ) → 1 ≤ length bytes → length bytes ≤ 5 → readRecordOf bytes ≡ refused 13 (length bytes)
 short bytes h k = read-kept bytes h ∙ rw (lt-ltb (length bytes) 6 (omega (arith, k))) refl
+
+module _ (bytes : List ℕ) (h : 1 ≤ length bytes) where
+  radii-part-kept : radiiPartOf bytes ≡ partWhere (first (recordChecks bytes) (value (headerOf bytes))) (radiiBytes bytes)
+  unfolding radiiPartOf
+  radii-part-kept = ap (λ (answer : Answer Header). partWhere answer (radiiBytes bytes)) (read-kept bytes h)
+
+  indices-part-kept : indicesPartOf bytes ≡ partWhere (first (recordChecks bytes) (value (headerOf bytes))) (indicesBytes bytes)
+  unfolding indicesPartOf
+  indices-part-kept = ap (λ (answer : Answer Header). partWhere answer (indicesBytes bytes)) (read-kept bytes h)
+
+  signs-part-kept : signsPartOf bytes ≡ partWhere (first (recordChecks bytes) (value (headerOf bytes))) (signsBytes bytes)
+  unfolding signsPartOf
+  signs-part-kept = ap (λ (answer : Answer Header). partWhere answer (signsBytes bytes)) (read-kept bytes h)
 
 -- what is written begins with its map byte
 written-some : (code : Code) (radii : List Float) (indices : List ℕ) (signs : List ℤ) → isWithdrawn (recordOf code radii indices signs) ≡ false
@@ -59,8 +72,8 @@ withdrawn-records = record {
   none = refl;
   only = λ bytes e. no-bytes bytes (eqb-true (length bytes) 0 (read-withdrawn bytes e));
   short = short;
-  accepted-not = λ bytes a e. not-both bytes (accepted-some bytes a) e;
-  written-not = λ code radii indices signs room bytes told e.
+  accepted-not-withdrawn = λ bytes a e. not-both bytes (accepted-some bytes a) e;
+  written-not-withdrawn = λ code radii indices signs room bytes told e.
       not-both bytes (ap isWithdrawn (sym (written-is code radii indices signs room told)) ∙ written-some code radii indices signs) e;
   radii-part = refl;
   indices-part = refl;
@@ -69,6 +82,9 @@ withdrawn-records = record {
   indices-none = λ room. refl;
   signs-none = λ room. refl;
   read-kept = read-kept;
+  radii-part-kept = radii-part-kept;
+  indices-part-kept = indices-part-kept;
+  signs-part-kept = signs-part-kept;
   radii-kept = λ bytes room h. unless-some bytes _ (some bytes h);
   indices-kept = λ bytes room h. unless-some bytes _ (some bytes h);
   signs-kept = λ bytes room h. unless-some bytes _ (some bytes h);

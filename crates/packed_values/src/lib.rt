@@ -24,7 +24,7 @@ pub fn read_radii(bytes: &[u8], out: &mut [f32]) -> Filled
     }
 }
 
-// The indices of a record: one for each pair; none of a withdrawn position.
+// The indices of a record: one for each pair. A withdrawn position has none, and nothing is written for it.
 pub fn read_indices(bytes: &[u8], out: &mut [u16]) -> Filled
     ensures said { λ r. ⌜ saysFilled r ≡ done (readIndicesOf (now (bytes .entry)) (length (now (out .entry)))) ⌝ }
     ensures left { λ r. ⌜ now (out .exit) ≡ after (readIndicesOf (now (bytes .entry)) (length (now (out .entry)))) (now (out .entry)) ⌝ }
@@ -36,7 +36,7 @@ pub fn read_indices(bytes: &[u8], out: &mut [u16]) -> Filled
     }
 }
 
-// The signs of a record: one for each projection, none without them, and none of a withdrawn position.
+// The signs of a record: one for each projection, none without them. A withdrawn position has none, and nothing is written for it.
 pub fn read_signs(bytes: &[u8], out: &mut [i8]) -> Filled
     ensures said { λ r. ⌜ saysFilled r ≡ done (readSignsOf (now (bytes .entry)) (length (now (out .entry)))) ⌝ }
     ensures left { λ r. ⌜ now (out .exit) ≡ after (readSignsOf (now (bytes .entry)) (length (now (out .entry)))) (now (out .entry)) ⌝ }

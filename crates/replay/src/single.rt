@@ -1,4 +1,4 @@
-// The calls that need no setup and write nothing: the answer is a number, a float, a part of a record or a refusal.
+// The calls that need no setup and write nothing: the answer is a number, a float, a part of a record, a refusal or withdrawn.
 
 use super::frame;
 use super::same;

@@ -26,7 +26,7 @@ use Rattle.turbo_order.specs.Scores.{accountOf, scoreFrom, scoreOf}
 use Rattle.turbo_order.proofs.Within.{polarPart}
 use Rattle.turbo_query.specs.Query.{rotatedQuery, projectedQuery, finiteChecks, queryChecks, prepareChecks, prepareRotatedOf, prepareProjectedOf}
 use Rattle.turbo_opening.specs.Opening.{contentOf}
-use Rattle.turbo.specs.Scoring.{recordScore, readingChecks, fromReading}
+use Rattle.turbo.specs.Scoring.{recordScore, readingChecks, sinceReading}
 use Rattle.turbo.specs.Inner.{joined, recordScoreOf}
 use Rattle.turbo.specs.Estimates.{innerProductEstimatePhasedOf, estimate, whereScored, innerProductEstimateOf, preparedChecks, innerProductEstimatePreparedOf, lengthsAndValues}
 use Rattle.turbo_distance.specs.Distance.{distanceFromScoreOf}
@@ -64,12 +64,12 @@ module _ (s : Setup) (l : Lent) (query : List Float) (bytes : List ℕ) where
   unfolding innerProductEstimatePhasedOf recordScoreOf
   phased-passed e =
       first-passed (queryChecks s l query) _ e
-      ∙ ap (λ (x : Float). value (fromReading s bytes x (value x))) estimate-record
+      ∙ ap (λ (x : Float). value (sinceReading s bytes x (value x))) estimate-record
 
   -- without the phase it is the estimate
   pub phased-joined : joined (innerProductEstimatePhasedOf s l query bytes) ≡ innerProductEstimateOf s l query bytes
   unfolding innerProductEstimatePhasedOf innerProductEstimateOf
-  phased-joined = joined-first (queryChecks s l query) (fromReading s bytes (estimate s l query bytes) (value (estimate s l query bytes)))
+  phased-joined = joined-first (queryChecks s l query) (sinceReading s bytes (estimate s l query bytes) (value (estimate s l query bytes)))
 
   pub estimate-passed : first (queryChecks s l query) accepted ≡ accepted
       → innerProductEstimateOf s l query bytes ≡ recordScoreOf s (l .directions) (rotatedQuery s l query) (projectedQuery s l query) bytes

@@ -62,7 +62,7 @@ module _ (s : Setup) (l : Lent) (query : List Float) (passed : first (queryCheck
         (differs-not (length (projectedQuery s l query)) (countedProjectionsOf s) (length-projected (s .dim) (countedProjectionsOf s) (l .matrix) query), k),
       )
 
-  -- Prepared once, a query gives each record the answer that it has without: a value or a refusal.
+  -- Prepared once, a query gives each record the answer that it has without: a value, a refusal or withdrawn.
   pub estimate-equal-prepared : (bytes : List ℕ) → innerProductEstimatePreparedOf s (l .directions) (rotatedQuery s l query) (projectedQuery s l query) bytes ≡ innerProductEstimateOf s l query bytes
   estimate-equal-prepared bytes =
       prepared-passed s (l .directions) (rotatedQuery s l query) (projectedQuery s l query) bytes passed-ready ∙ sym (estimate-passed s l query bytes passed)

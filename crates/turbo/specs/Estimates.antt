@@ -17,7 +17,7 @@ use Rattle.turbo_query.specs.Query.{queryChecks}
 use Rattle.turbo_opening.specs.Opening.{contentOf}
 use Rattle.turbo.specs.declared.Phased.{Phased}
 use Rattle.turbo.specs.declared.Phased.the-variants.{Score, BeforeReading, FromReading, Withdrawn}
-use Rattle.turbo.specs.Scoring.{recordScore, fromReading}
+use Rattle.turbo.specs.Scoring.{recordScore, sinceReading}
 
 -- ---- by a query
 
@@ -27,7 +27,7 @@ estimate s l query bytes = scoreOf s l query (contentOf bytes)
 
 -- Behind all that scoring asks, `a` is answered: 'setup, query length 5, query 11, rotated 11, projected 11', withdrawn, 'record reading, 5, 20, then 12'.
 abbrev pub whereScored : {A : Type 0} → Setup → Lent → List Float → List ℕ → Answer A → Answer A
-whereScored s l query bytes a = first (queryChecks s l query) (fromReading s bytes (estimate s l query bytes) a)
+whereScored s l query bytes a = first (queryChecks s l query) (sinceReading s bytes (estimate s l query bytes) a)
 
 unfoldable pub innerProductEstimateOf : Setup → Lent → List Float → List ℕ → Answer Float
 innerProductEstimateOf s l query bytes = whereScored s l query bytes (value (estimate s l query bytes))
@@ -42,7 +42,7 @@ saysPhased (FromReading n p) = value (refused n p)
 saysPhased Withdrawn = value withdrawn
 
 unfoldable pub innerProductEstimatePhasedOf : Setup → Lent → List Float → List ℕ → Answer (Answer Float)
-innerProductEstimatePhasedOf s l query bytes = first (queryChecks s l query) (value (fromReading s bytes (estimate s l query bytes) (value (estimate s l query bytes))))
+innerProductEstimatePhasedOf s l query bytes = first (queryChecks s l query) (value (sinceReading s bytes (estimate s l query bytes) (value (estimate s l query bytes))))
 
 -- ---- by a prepared query, which needs neither signs nor matrix
 
@@ -61,4 +61,4 @@ preparedChecks s directions rotated projected = scalarChecks s ++ directionCheck
 
 unfoldable pub innerProductEstimatePreparedOf : Setup → List Float → List Float → List Float → List ℕ → Answer Float
 innerProductEstimatePreparedOf s directions rotated projected bytes =
-    first (preparedChecks s directions rotated projected) (fromReading s bytes (recordScore s directions rotated projected bytes) (value (recordScore s directions rotated projected bytes)))
+    first (preparedChecks s directions rotated projected) (sinceReading s bytes (recordScore s directions rotated projected bytes) (value (recordScore s directions rotated projected bytes)))

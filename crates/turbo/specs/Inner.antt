@@ -9,7 +9,7 @@ use Rattle.setup.specs.declared.Setup.{Setup}
 use Rattle.packed.specs.Reading.{radiiOf}
 use Rattle.turbo.specs.declared.Phased.{Phased}
 use Rattle.turbo.specs.declared.Phased.the-variants.{Score, BeforeReading, FromReading, Withdrawn}
-use Rattle.turbo.specs.Scoring.{recordScore, fromReading}
+use Rattle.turbo.specs.Scoring.{recordScore, sinceReading}
 
 -- The radii of a record stand in front of the memory that was lent for them, `radii`.
 abbrev pub RadiiInFront : List ℕ → List Float → Type 0
@@ -30,4 +30,4 @@ joined withdrawn = withdrawn
 
 -- This is the answer from record reading on, by a query that is rotated and projected.
 unfoldable pub recordScoreOf : Setup → List Float → List Float → List Float → List ℕ → Answer Float
-recordScoreOf s directions rotated projected bytes = fromReading s bytes (recordScore s directions rotated projected bytes) (value (recordScore s directions rotated projected bytes))
+recordScoreOf s directions rotated projected bytes = sinceReading s bytes (recordScore s directions rotated projected bytes) (value (recordScore s directions rotated projected bytes))

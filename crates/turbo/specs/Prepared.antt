@@ -1,5 +1,5 @@
 -- A prepared query stands for the query that it was prepared from: wherever `prepare_query` answers the two lists that are lent, every record has the answer
--- that it has by that query, a value or a refusal, and demand 3 holds of those answers. Assumes nothing.
+-- that it has by that query, a value, a refusal or withdrawn, and demand 3 holds of those answers. Assumes nothing.
 use Prim.Native.Nat.{ℕ}
 use mathlib.Core.Path.{_≡_}
 use mathlib.Core.List.{List}

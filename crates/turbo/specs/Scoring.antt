@@ -19,5 +19,5 @@ abbrev pub readingChecks : Setup → List ℕ → Float → List Check
 readingChecks s bytes x = openChecks s bytes ++ (wrongScore x ∷ [])
 
 -- From record reading on, `a` is answered of a record whose score is x: withdrawn comes before all checks of the record.
-abbrev pub fromReading : {A : Type 0} → Setup → List ℕ → Float → Answer A → Answer A
-fromReading s bytes x a = unlessWithdrawn bytes (first (readingChecks s bytes x) a)
+abbrev pub sinceReading : {A : Type 0} → Setup → List ℕ → Float → Answer A → Answer A
+sinceReading s bytes x a = unlessWithdrawn bytes (first (readingChecks s bytes x) a)

@@ -39,7 +39,8 @@ pub enum Phased {
     Withdrawn,
 }
 
-// The estimated inner product of a query and the vector that a record stands for.
+// The estimated inner product of a query and the vector that a record stands for; of a withdrawn position that it is withdrawn, behind the query's
+// checks.
 pub fn inner_product_estimate(
     setup: Setup,
     signs: &[f32],
@@ -54,7 +55,7 @@ pub fn inner_product_estimate(
     without_phase(inner_product_estimate_phased(setup, signs, directions, matrix, query, bytes))
 }
 
-// The answer of `inner_product_estimate`, with a refusal that tells whether it came before the record was read.
+// The answer of `inner_product_estimate`, with a refusal that tells whether it came before the record was read; a withdrawn position never does.
 pub fn inner_product_estimate_phased(
     setup: Setup,
     signs: &[f32],
@@ -69,7 +70,8 @@ pub fn inner_product_estimate_phased(
     measure(setup, signs, directions, matrix, query, bytes, &mut radii)
 }
 
-// The estimated inner product by a query that is prepared, which needs neither signs nor matrix.
+// The estimated inner product by a query that is prepared, which needs neither signs nor matrix. A withdrawn position is told behind the checks of what
+// is prepared.
 pub fn inner_product_estimate_prepared(
     setup: Setup,
     directions: &[f32],
@@ -88,7 +90,7 @@ pub fn inner_product_estimate_prepared(
     without_phase(record_score(setup, directions, rotated, projected, bytes, &mut radii))
 }
 
-// The estimated squared distance of a query from the vector that a record stands for.
+// The estimated squared distance of a query from the vector that a record stands for; of a withdrawn position that it is withdrawn, where scoring says so.
 pub fn l2_distance_estimate(
     setup: Setup,
     signs: &[f32],

@@ -23,7 +23,7 @@ pub fn open_record(setup: Setup, bytes: &[u8]) -> Reading
     hold_against(setup, bytes)
 }
 
-// Reads a record and holds it against a setup whose scalars have passed: its header, where nothing offends.
+// Reads a record and holds it against a setup whose scalars have passed: its header, where nothing offends, or that the position is withdrawn.
 fn hold_against(setup: Setup, bytes: &[u8]) -> Reading
     ensures { λ r. ⌜ saysReading r ≡ openedOf setup (now (bytes .entry)) ⌝ }
 {

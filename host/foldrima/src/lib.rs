@@ -1,7 +1,8 @@
 //! The port's calls for Rust programs: safe functions over the C functions of its static
 //! library, under the Rust's names. Outputs are lent and must have exactly the needed
 //! length; a refused call writes to none of them. A record of no bytes is a withdrawn
-//! position, neither a refusal nor a value: calls that take a record answer a [`Position`].
+//! position, neither a refusal nor a value: calls that take a record answer a [`Position`],
+//! and write nothing where it is withdrawn.
 //!
 //! The library's answers rest on the float mode that a thread starts with: round to
 //! nearest, subnormals kept. A call panics in a thread that has changed it.

@@ -69,8 +69,8 @@ pub fn write_record(
     })
 }
 
-/// Reads a record: all of it is checked, and its header handed back. No bytes are withdrawn,
-/// before every check; 1 to 5 are refused.
+/// Reads a record: all of it is checked, and its header handed back. A record of no
+/// bytes is withdrawn, before every check; one of 1 to 5 is refused.
 pub fn read_record(bytes: &[u8]) -> Result<Position<Header>, Refusal> {
     let (mut mode, mut profile, mut dim, mut bits, mut projections) = (0, 0, 0, 0, 0);
     let mut range = Range { min: 0.0, max: 0.0 };
@@ -121,22 +121,24 @@ pub fn signs_part(bytes: &[u8]) -> &[u8] {
     part(bytes, raw::foldrima_signs_part)
 }
 
-/// The radii of a record, one for each pair. No bytes are withdrawn, before every check.
+/// The radii of a record, one for each pair. A record of no bytes is withdrawn, before every
+/// check.
 pub fn read_radii(bytes: &[u8], out: &mut [f32]) -> Result<Position<()>, Refusal> {
     of_record(|number, place| unsafe {
         call!(foldrima_read_radii([bytes], [mut out], number, place))
     })
 }
 
-/// The indices of a record, one for each pair. No bytes are withdrawn, before every check.
+/// The indices of a record, one for each pair. A record of no bytes is withdrawn, before
+/// every check.
 pub fn read_indices(bytes: &[u8], out: &mut [u16]) -> Result<Position<()>, Refusal> {
     of_record(|number, place| unsafe {
         call!(foldrima_read_indices([bytes], [mut out], number, place))
     })
 }
 
-/// The signs of a record, one for each projection. No bytes are withdrawn, before every
-/// check.
+/// The signs of a record, one for each projection. A record of no bytes is withdrawn, before
+/// every check.
 pub fn read_signs(bytes: &[u8], out: &mut [i8]) -> Result<Position<()>, Refusal> {
     of_record(|number, place| unsafe {
         call!(foldrima_read_signs([bytes], [mut out], number, place))

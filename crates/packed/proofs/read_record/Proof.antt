@@ -1,4 +1,4 @@
--- `packed::read_record` meets its contract: no bytes are withdrawn; else the header's checks, then the payloads'. Assumes nothing.
+-- `packed::read_record` meets its contract: a record of no bytes is withdrawn; of another come the header's checks, then the payloads'. Assumes nothing.
 use mathlib.Core.Path.{_≡_, sym, ap, _∙_}
 use mathlib.Core.Bool.{false}
 use borrow.Author.Tests.{eq-eqb, ne-eqb}
