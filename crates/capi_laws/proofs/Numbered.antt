@@ -11,7 +11,7 @@ use lib.ListN.{length}
 use lib.Ieee.{Float}
 use Rattle.error.specs.Answer.{Answer, value, refused, withdrawn, Check, check, first, each, accepted}
 use Rattle.error.specs.Checks.{wrongBits, wrongRoom, wrongIndex, wrongInput, wrongScore, badIndex}
-use Rattle.error.proofs.Chains.{value-not-refused, value-not-withdrawn, refused-not-withdrawn}
+use Rattle.error.proofs.Chains.{value-not-refused, value-not-withdrawn, first-not-withdrawn}
 use Rattle.bitpack.specs.Padding.{bytesFor, wrongLength, wrongPadding, validatePaddingZeroOf}
 use Rattle.bitpack.specs.Packing.{wrongOverflow, packedLenOf, packIndicesOf, unpackIndicesOf}
 use Rattle.bitpack.specs.Signs.{badSketchSign, packSignsOf, unpackSignsOf}
@@ -81,13 +81,8 @@ first-numbered (check false m q ∷ cs) a t end n p e =
 abbrev pub Plain : {A : Type 0} → Answer A → Type 0
 Plain a = Numbered a × (a ≡ withdrawn → ⊥)
 
-first-settled : {A : Type 0} (cs : List Check) (a : Answer A) → (a ≡ withdrawn → ⊥) → first cs a ≡ withdrawn → ⊥
-first-settled [] a end e = end e
-first-settled (check true m q ∷ cs) a end e = refused-not-withdrawn e
-first-settled (check false m q ∷ cs) a end e = first-settled cs a end e
-
 first-plain : {A : Type 0} (cs : List Check) (a : Answer A) → between cs ≡ true → Plain a → Plain (first cs a)
-first-plain cs a t end = (first-numbered cs a t (end .0), first-settled cs a (end .1))
+first-plain cs a t end = (first-numbered cs a t (end .0), first-not-withdrawn cs a (end .1))
 
 -- where an answer is refused with such a number, so it is behind the check for a withdrawn position
 unless-numbered : {A : Type 0} (bytes : List ℕ) (a : Answer A) → Numbered a → Numbered (unlessWithdrawn bytes a)

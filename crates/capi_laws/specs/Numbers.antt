@@ -36,7 +36,7 @@ pub record ThreeKinds {A : Type 0} (a : Answer A) : Type 0 where
   pub withdrawn-by-number : (p : ℕ) → told a ≡ said withdrawnNumber p → a ≡ withdrawn
   pub refused-by-others : (n p : ℕ) → told a ≡ said n p → 0 < n → (n ≡ withdrawnNumber → ⊥) → a ≡ refused n p
 
--- Of these the answer is a value or a refusal, and not withdrawn.
+-- Beside that, the answer is never withdrawn: it is a value or a refusal.
 pub record TwoKinds {A : Type 0} (a : Answer A) : Type 0 where
   pub kinds : ThreeKinds a
   pub not-withdrawn : a ≡ withdrawn → ⊥

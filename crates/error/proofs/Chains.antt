@@ -47,6 +47,12 @@ module _ {A : Type 0} where
   first-value (check true m q ∷ cs) x {y} e = let f : value y ≡ refused m q = cc in value-not-refused f
   first-value (check false m q ∷ cs) x e = first-value cs x e
 
+  -- nor is what is not withdrawn withdrawn behind a chain
+  pub first-not-withdrawn : (cs : List Check) (a : Answer A) → (a ≡ withdrawn → ⊥) → first cs a ≡ withdrawn → ⊥
+  first-not-withdrawn [] a h e = h e
+  first-not-withdrawn (check true n p ∷ cs) a h e = refused-not-withdrawn e
+  first-not-withdrawn (check false n p ∷ cs) a h e = first-not-withdrawn cs a h e
+
   -- ---- two chains
 
   pub first-append : (cs ds : List Check) (a : Answer A) → first (cs ++ ds) a ≡ first cs (first ds a)

@@ -25,7 +25,7 @@ use Rattle.packed.specs.Radii.{badBounds, badBoundsFor}
 use Rattle.packed.specs.Reading.{radiiOf, badPolarBits, isWithdrawn, recordChecks, readRecordOf}
 use Rattle.setup.specs.Checks.{badProjections}
 use Rattle.packed.specs.Accepted.{Accepted}
-use Rattle.packed.proofs.Withdrawn.{unless-some, read-passed}
+use Rattle.packed.proofs.Withdrawn.{some-bytes, unless-some, read-passed}
 
 -- ---- the checks that depend on a bit of the map byte, both ways
 
@@ -98,7 +98,7 @@ module _ (bytes : List ℕ) {header : Header} (read : readRecordOf bytes ≡ val
 
 -- an accepted record is no withdrawn position
 pub accepted-some : (bytes : List ℕ) → Accepted bytes → isWithdrawn bytes ≡ false
-accepted-some bytes a = ne-eqb (length bytes) 0 (λ z. omega (arith, z, a .long))
+accepted-some bytes a = some-bytes bytes (omega (arith, a .long))
 
 -- an accepted record is read
 pub accepted-reads : (bytes : List ℕ) → Accepted bytes → readRecordOf bytes ≡ value (headerOf bytes)

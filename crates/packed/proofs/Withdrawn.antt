@@ -1,20 +1,21 @@
 -- A withdrawn position and the answers that stand behind it: where a record has bytes the answer stands, and an answer that is a value or a refusal says that it has.
 -- Assumes nothing.
-use Prim.Native.Nat.{ℕ}
+use Prim.Native.Nat.{ℕ, _≤_}
 use mathlib.Core.Path.{_≡_, refl, sym, ap}
 use mathlib.Core.Bool.{Bool, true, false, cond}
-use mathlib.Core.List.{List, [], _∷_}
-use Rattle.error.specs.Answer.{Answer, value, refused, withdrawn, Check, check, first}
-use Rattle.error.proofs.Chains.{value-not-withdrawn, refused-not-withdrawn}
+use mathlib.Core.List.{List}
+use native.Mathlib.Omega.{arith}
+use borrow.Author.Tests.{ne-eqb}
+use lib.ListN.{length}
+use Rattle.error.specs.Answer.{Answer, value, refused, withdrawn, Check, first}
+use Rattle.error.proofs.Chains.{value-not-withdrawn, refused-not-withdrawn, first-not-withdrawn}
 use Rattle.packed.specs.declared.Header.{Header}
 use Rattle.packed.specs.Layout.{headerOf}
 use Rattle.packed.specs.Reading.{isWithdrawn, unlessWithdrawn, recordChecks, readRecordOf}
 
--- a chain of checks with a value at its end is not withdrawn
-pub first-not-withdrawn {ℓ} : {A : Type 0} {X : Type ℓ} (cs : List Check) (x : A) → first cs (value x) ≡ withdrawn → X
-first-not-withdrawn [] x e = value-not-withdrawn e
-first-not-withdrawn (check true n p ∷ cs) x e = refused-not-withdrawn e
-first-not-withdrawn (check false n p ∷ cs) x e = first-not-withdrawn cs x e
+-- a record that has bytes
+pub some-bytes : (bytes : List ℕ) → 1 ≤ length bytes → isWithdrawn bytes ≡ false
+some-bytes bytes h = ne-eqb (length bytes) 0 (λ z. omega (arith, z, h))
 
 module _ {A : Type 0} (bytes : List ℕ) (a : Answer A) where
   pub unless-none : isWithdrawn bytes ≡ true → unlessWithdrawn bytes a ≡ withdrawn
@@ -43,7 +44,7 @@ unless-withdrawn bytes cs x e = split (isWithdrawn bytes) e
   where
     split : (t : Bool) → cond t withdrawn (first cs (value x)) ≡ withdrawn → t ≡ true
     split true f = refl
-    split false f = first-not-withdrawn cs x f
+    split false f = absurd (first-not-withdrawn cs (value x) (λ g. value-not-withdrawn g) f)
 
 -- ---- what the reader's answer says of the bytes
 

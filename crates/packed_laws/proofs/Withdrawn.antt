@@ -2,35 +2,30 @@
 use Prim.Native.Nat.{ℕ, _≤_}
 use mathlib.Core.Path.{_≡_, refl, sym, ap, _∙_}
 use mathlib.Core.Bool.{false, true≢false}
-use mathlib.Core.List.{List, [], _∷_, _++_}
+use mathlib.Core.List.{List, [], _∷_}
 use native.Mathlib.Omega.{arith}
-use borrow.Author.Tests.{eqb-true, ne-eqb, lt-ltb}
+use borrow.Author.Tests.{eqb-true, lt-ltb}
 use lib.IntN.{ℤ}
 use lib.ListN.{length}
 use lib.Ieee.{Float}
 use Rattle.error.specs.Answer.{Answer, value, refused, withdrawn, first}
-use Rattle.error.specs.Checks.{wrongRoom}
-use Rattle.error.proofs.Chains.{first-value}
 use Rattle.packed.specs.declared.Code.{Code}
 use Rattle.packed.specs.declared.Header.{Header}
 use Rattle.packed.specs.Layout.{radiiBytes, indicesBytes, signsBytes, headerOf}
 use Rattle.packed.specs.Reading.{isWithdrawn, recordChecks, readRecordOf, partWhere, radiiPartOf, indicesPartOf, signsPartOf, readRadiiOf, readIndicesOf, readSignsOf}
-use Rattle.packed.proofs.Withdrawn.{unless-some, read-withdrawn}
+use Rattle.packed.proofs.Withdrawn.{some-bytes, unless-some, read-withdrawn}
 use Rattle.packed.proofs.Accepted.{accepted-some}
-use Rattle.packed_size.specs.Size.{neededFor}
-use Rattle.packed_writing.specs.Writing.{headerBytes, recordOf, fieldChecks, valueChecks, writeRecordOf}
+use Rattle.packed_writing.specs.Writing.{headerBytes, recordOf}
 use Rattle.packed_laws.specs.Withdrawn.{WithdrawnRecords}
+use Rattle.packed_laws.proofs.Inputs.{written}
 
 no-bytes : (bytes : List ℕ) → length bytes ≡ 0 → bytes ≡ []
 no-bytes [] e = refl
 no-bytes (b ∷ bytes) e = absurd (omega (arith, e))
 
-some : (bytes : List ℕ) → 1 ≤ length bytes → isWithdrawn bytes ≡ false
-some bytes h = ne-eqb (length bytes) 0 (λ z. omega (arith, z, h))
-
 read-kept : (bytes : List ℕ) → 1 ≤ length bytes → readRecordOf bytes ≡ first (recordChecks bytes) (value (headerOf bytes))
 unfolding readRecordOf
-read-kept bytes h = unless-some bytes _ (some bytes h)
+read-kept bytes h = unless-some bytes _ (some-bytes bytes h)
 
 short : (bytes : List ℕ) → 1 ≤ length bytes → length bytes ≤ 5 → readRecordOf bytes ≡ refused 13 (length bytes)
 short bytes h k = read-kept bytes h ∙ rw (lt-ltb (length bytes) 6 (omega (arith, k))) refl
@@ -51,17 +46,7 @@ module _ (bytes : List ℕ) (h : 1 ≤ length bytes) where
 -- what is written begins with its map byte
 written-some : (code : Code) (radii : List Float) (indices : List ℕ) (signs : List ℤ) → isWithdrawn (recordOf code radii indices signs) ≡ false
 unfolding recordOf headerBytes
-written-some code radii indices signs = some (recordOf code radii indices signs) (omega arith)
-
-written-is : (code : Code) (radii : List Float) (indices : List ℕ) (signs : List ℤ) (room : ℕ) {bytes : List ℕ} → writeRecordOf code radii indices signs room ≡ value bytes → recordOf code radii indices signs ≡ bytes
-unfolding writeRecordOf
-written-is code radii indices signs room told =
-    first-value
-    (fieldChecks code (length radii) (length indices) (length signs)
-    ++ valueChecks (code .profile) (code .bits) radii indices signs
-    ++ (wrongRoom room (neededFor code) ∷ []))
-    (recordOf code radii indices signs)
-    told
+written-some code radii indices signs = some-bytes (recordOf code radii indices signs) (omega arith)
 
 not-both : (bytes : List ℕ) → isWithdrawn bytes ≡ false → readRecordOf bytes ≡ withdrawn → ⊥
 not-both bytes s e = true≢false (sym (read-withdrawn bytes e) ∙ s)
@@ -74,7 +59,7 @@ withdrawn-records = record {
   short = short;
   accepted-not-withdrawn = λ bytes a e. not-both bytes (accepted-some bytes a) e;
   written-not-withdrawn = λ code radii indices signs room bytes told e.
-      not-both bytes (ap isWithdrawn (sym (written-is code radii indices signs room told)) ∙ written-some code radii indices signs) e;
+      not-both bytes (ap isWithdrawn (written code radii indices signs room told .made) ∙ written-some code radii indices signs) e;
   radii-part = refl;
   indices-part = refl;
   signs-part = refl;
@@ -85,7 +70,7 @@ withdrawn-records = record {
   radii-part-kept = radii-part-kept;
   indices-part-kept = indices-part-kept;
   signs-part-kept = signs-part-kept;
-  radii-kept = λ bytes room h. unless-some bytes _ (some bytes h);
-  indices-kept = λ bytes room h. unless-some bytes _ (some bytes h);
-  signs-kept = λ bytes room h. unless-some bytes _ (some bytes h);
+  radii-kept = λ bytes room h. unless-some bytes _ (some-bytes bytes h);
+  indices-kept = λ bytes room h. unless-some bytes _ (some-bytes bytes h);
+  signs-kept = λ bytes room h. unless-some bytes _ (some-bytes bytes h);
 }

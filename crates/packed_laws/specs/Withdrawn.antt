@@ -25,7 +25,7 @@ pub record WithdrawnRecords : Type 0 where
   pub accepted-not-withdrawn : (bytes : List ℕ) → Accepted bytes → readRecordOf bytes ≡ withdrawn → ⊥
   pub written-not-withdrawn : (code : Code) (radii : List Float) (indices : List ℕ) (signs : List ℤ) (room : ℕ) (bytes : List ℕ)
       → writeRecordOf code radii indices signs room ≡ value bytes → readRecordOf bytes ≡ withdrawn → ⊥
-  -- Its parts are empty, and its values are withdrawn too, whatever room is lent: 6 is not answered.
+  -- The parts of a withdrawn record are empty, and its values are withdrawn too, whatever room is lent: 6 is not answered.
   pub radii-part : radiiPartOf [] ≡ []
   pub indices-part : indicesPartOf [] ≡ []
   pub signs-part : signsPartOf [] ≡ []

@@ -2,10 +2,7 @@
 -- bytes is answered as it was. Assumes nothing.
 use Prim.Native.Nat.{ℕ, _≤_}
 use mathlib.Core.Path.{_≡_, refl, sym, ap, _∙_}
-use mathlib.Core.Bool.{false}
 use mathlib.Core.List.{List, [], _++_}
-use native.Mathlib.Omega.{arith}
-use borrow.Author.Tests.{ne-eqb}
 use lib.ListN.{length}
 use lib.Ieee.{Float}
 use Rattle.error.specs.Answer.{Answer, value, withdrawn, Check, first}
@@ -14,8 +11,8 @@ use Rattle.setup.specs.Lent.{Lent}
 use Rattle.setup.specs.declared.Setup.{Setup}
 use Rattle.setup.specs.Checks.{scalarChecks}
 use Rattle.setup_tables.specs.Checks.{setupChecks}
-use Rattle.packed.specs.Reading.{isWithdrawn, unlessWithdrawn}
-use Rattle.packed.proofs.Withdrawn.{unless-some}
+use Rattle.packed.specs.Reading.{unlessWithdrawn}
+use Rattle.packed.proofs.Withdrawn.{some-bytes, unless-some}
 use Rattle.turbo_query.specs.Query.{queryChecks}
 use Rattle.turbo_opening.specs.Opening.{openChecks, openRecordOf}
 use Rattle.turbo_decode.specs.Decode.{decodeChecks, decodeApproximateOf}
@@ -25,12 +22,9 @@ use Rattle.turbo.specs.Distance.{l2DistanceEstimateOf}
 use Rattle.turbo.specs.Order.{IsScored}
 use Rattle.turbo_laws.specs.Withdrawn.{WithdrawnScores}
 
-some : (bytes : List ℕ) → 1 ≤ length bytes → isWithdrawn bytes ≡ false
-some bytes h = ne-eqb (length bytes) 0 (λ z. omega (arith, z, h))
-
 -- where there are bytes, what stands before and behind the check for a withdrawn position is one chain
 one-chain : {A : Type 0} (cs ds : List Check) (bytes : List ℕ) (a : Answer A) → 1 ≤ length bytes → first cs (unlessWithdrawn bytes (first ds a)) ≡ first (cs ++ ds) a
-one-chain cs ds bytes a h = ap (first cs) (unless-some bytes (first ds a) (some bytes h)) ∙ sym (first-append cs ds a)
+one-chain cs ds bytes a h = ap (first cs) (unless-some bytes (first ds a) (some-bytes bytes h)) ∙ sym (first-append cs ds a)
 
 not-scored : (s : Setup) (l : Lent) (query : List Float) (x : Float) → IsScored s l query [] x → ⊥
 unfolding innerProductEstimateOf
@@ -48,7 +42,7 @@ withdrawn-scores = record {
   not-scored = not-scored;
   score-kept = λ s l query bytes h. one-chain (queryChecks s l query) (readingChecks s bytes (estimate s l query bytes)) bytes _ h;
   phased-kept = λ s l query bytes h.
-      ap (λ (a : Answer Float). first (queryChecks s l query) (value a)) (unless-some bytes (first (readingChecks s bytes (estimate s l query bytes)) (value (estimate s l query bytes))) (some bytes h));
+      ap (λ (a : Answer Float). first (queryChecks s l query) (value a)) (unless-some bytes (first (readingChecks s bytes (estimate s l query bytes)) (value (estimate s l query bytes))) (some-bytes bytes h));
   distance-kept = λ s l query bytes h. one-chain (queryChecks s l query) (readingChecks s bytes (estimate s l query bytes)) bytes _ h;
   prepared-kept = λ s directions rotated projected bytes h.
       one-chain (preparedChecks s directions rotated projected) (readingChecks s bytes (recordScore s directions rotated projected bytes)) bytes _ h;

@@ -1,4 +1,5 @@
--- A record is opened under a setup: read, and held against the setup. Document 01: '.. record reading, 5, 20'. Of a withdrawn position, withdrawn is answered before. Assumes nothing.
+-- A record is opened under a setup: read, and held against the setup. Document 01: '.. record reading, 5, 20'. Of a withdrawn position, withdrawn is
+-- answered before. Assumes nothing.
 use Prim.Native.Nat.{ℕ}
 use mathlib.Core.Bool.{Bool, _||_}
 use mathlib.Core.List.{List, [], _∷_, _++_}

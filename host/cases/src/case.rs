@@ -228,10 +228,10 @@ pub const CALLS: [&str; 28] = [
 pub const TAKE_A_RECORD: [&str; 5] =
     ["read_record", "score", "distance", "decode", "score_prepared"];
 
-impl Case {
-    /// The record of a call that takes one.
-    pub fn record(&self) -> Option<&Vec<u8>> {
-        match self {
+/// The record of a case whose call takes one, lent as the case is.
+macro_rules! record_of {
+    ($case:expr) => {
+        match $case {
             Case::ReadRecord { record }
             | Case::Score { record, .. }
             | Case::Distance { record, .. }
@@ -239,18 +239,18 @@ impl Case {
             | Case::ScorePrepared { record, .. } => Some(record),
             _ => None,
         }
+    };
+}
+
+impl Case {
+    /// The record of a call that takes one.
+    pub fn record(&self) -> Option<&Vec<u8>> {
+        record_of!(self)
     }
 
     /// The same, to be changed.
     pub(crate) fn record_mut(&mut self) -> Option<&mut Vec<u8>> {
-        match self {
-            Case::ReadRecord { record }
-            | Case::Score { record, .. }
-            | Case::Distance { record, .. }
-            | Case::Decode { record, .. }
-            | Case::ScorePrepared { record, .. } => Some(record),
-            _ => None,
-        }
+        record_of!(self)
     }
 
     pub fn call(&self) -> &'static str {
