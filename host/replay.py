@@ -2,15 +2,17 @@
 """Chooses small cases from a list of answers and writes them in the form that the program
 `replay` reads: its standard input, and what it must print.
 
-    cargo run --release -p cases -- list --count 7000 | ./replay.py ../crates/replay
+    cargo run --release -p cases -- list --count 6000 | ./replay.py ../crates/replay
 
 A line of the list is `call name=value .. => rust VALUE | plain VALUE | refused NUMBER PLACE | withdrawn`.
 From each call come the first few values and the first few refusals of every number, told
 apart by mode, by radius form and by what offended; distances by `sum` too, which says what
 their sum is before its cut to zero. Every number that a call can give must be among them, and
 every kind of sum. Of a record of no bytes come withdrawn positions, for each call that takes a
-record, and every refusal that comes before them. A record that is read stands in the list once
-for each call that reads it. The form of a case is described in crates/replay/src/frame.rt.
+record, and every refusal that comes before them. Norms come absent, as 1.0, as -0.0 and as others,
+refused for each thing that can be wrong with them, and so large that the score is refused. A record
+that is read stands in the list once for each call that reads it, but where it is there for its norm's
+value alone. The form of a case is described in crates/replay/src/frame.rt.
 """
 import struct
 import sys
@@ -27,30 +29,30 @@ CALLS = {
     "root": set(),
     "dequantize_angle": {1, 15},
     "seeds": set(),
-    "read_record": {13, 18, 2, 3, 4, 1, 8, 17, 16, 14},
-    "radii_part": {13, 18, 2, 3, 4, 1, 8, 17, 16, 14},
-    "indices_part": {13, 18, 2, 3, 4, 1, 8, 17, 16, 14},
-    "signs_part": {13, 18, 2, 3, 4, 1, 8, 17, 16, 14},
+    "read_record": {13, 18, 2, 3, 4, 1, 8, 17, 23, 16, 14},
+    "radii_part": {13, 18, 2, 3, 4, 1, 8, 17, 23, 16, 14},
+    "indices_part": {13, 18, 2, 3, 4, 1, 8, 17, 23, 16, 14},
+    "signs_part": {13, 18, 2, 3, 4, 1, 8, 17, 23, 16, 14},
     "pack_indices": {1, 15, 6},
     "pack_signs": {10, 6},
     "compress": {16, 18, 6},
-    "write_record": {18, 2, 3, 4, 1, 8, 5, 16, 15, 10, 6},
+    "write_record": {18, 2, 3, 4, 1, 8, 5, 23, 16, 15, 10, 6},
     "unpack_indices": {1, 19, 13, 14, 6},
-    "read_indices": {13, 18, 2, 3, 4, 1, 8, 17, 16, 14},
+    "read_indices": {13, 18, 2, 3, 4, 1, 8, 17, 23, 16, 14},
     "unpack_signs": {13, 14, 6},
-    "read_signs": {13, 18, 2, 3, 4, 1, 8, 17, 16, 14},
+    "read_signs": {13, 18, 2, 3, 4, 1, 8, 17, 23, 16, 14},
     "decompress": {18, 13, 17, 16, 6},
-    "read_radii": {13, 18, 2, 3, 4, 1, 8, 17, 16, 14},
+    "read_radii": {13, 18, 2, 3, 4, 1, 8, 17, 23, 16, 14},
     "apply": {2, 3, 4, 5, 10, 6},
     "apply_inverse": {2, 3, 4, 5, 10, 6},
-    "score_prepared": {2, 3, 1, 8, 4, 5, 7, 11, 13, 18, 17, 16, 14, 20, 12},
+    "score_prepared": {2, 3, 1, 8, 4, 5, 7, 11, 13, 18, 17, 23, 16, 14, 20, 12},
     "setup": {2, 3, 1, 8, 4, 5, 10, 7, 9},
     "sketch": {2, 3, 1, 8, 4, 5, 10, 7, 9, 11, 6},
     "prepare_query": {2, 3, 1, 8, 4, 5, 10, 7, 9, 11, 6},
-    "decode": {2, 3, 1, 8, 4, 5, 10, 7, 9, 13, 18, 17, 16, 14, 20, 6},
-    "sketch_score": {2, 3, 1, 8, 4, 5, 10, 7, 9, 11, 12},
-    "score": {2, 3, 1, 8, 4, 5, 10, 7, 9, 11, 13, 18, 17, 16, 14, 20, 12},
-    "distance": {2, 3, 1, 8, 4, 5, 10, 7, 9, 11, 13, 18, 17, 16, 14, 20, 12},
+    "decode": {2, 3, 1, 8, 4, 5, 10, 7, 9, 13, 18, 17, 23, 16, 14, 20, 6},
+    "sketch_score": {2, 3, 1, 8, 4, 5, 10, 7, 9, 11, 23, 12},
+    "score": {2, 3, 1, 8, 4, 5, 10, 7, 9, 11, 13, 18, 17, 23, 16, 14, 20, 12},
+    "distance": {2, 3, 1, 8, 4, 5, 10, 7, 9, 11, 13, 18, 17, 23, 16, 14, 20, 12},
 }
 # What a distance's sum can be, with the number of its refusal or 0; None where the score is not finite.
 SUMS = {(12, None), (12, "nan"), (12, "+inf"), (0, "-inf"), (0, "finite")}
@@ -59,10 +61,26 @@ READERS = [call for call in CALLS if call.startswith("read_") or call.endswith("
 TAKERS = [*READERS, "score_prepared", "decode", "score", "distance"]
 # The number of a withdrawn position, and the refusals that can only come after it.
 WITHDRAWN = 255
-AFTER = {13, 18, 17, 16, 14, 20, 12, 6}
+AFTER = {13, 18, 17, 23, 16, 14, 20, 12, 6}
 # The modes that withdrawn positions come in, and whether an output has its length; other calls have both modes.
 ROOMS = {call: {(None, True)} for call in READERS}
 ROOMS["decode"] = {(mode, fits) for mode in ("polar", "residual") for fits in (True, False)}
+# What norms a call must have, and what must be wrong with them: `about_norm` says which a case has.
+SCORED = {"absent", "1.0", "-0.0", "another", "infinite scale"}
+NORMS = {
+    "read_record": {
+        "absent", "1.0", "-0.0", "another", "bit alone", "bit undefined", "header cut",
+        "bad", "bad, the radii too", "bad, the range first",
+    },
+    "write_record": {"absent", "1.0", "-0.0", "another", "without signs", "profile", "bad", "bad, the radii too"},
+    "sketch_score": {"1.0", "-0.0", "another", "infinite scale", "bad, polar", "bad, residual"},
+    "score_prepared": SCORED,
+    "score": SCORED,
+    "distance": SCORED,
+    "decode": {"absent", "another"},
+}
+# The norms 1.0 and -0.0, root(PI / 2), and the largest norm with a finite product with it.
+ONE, MINUS_ZERO, ROOT, LARGEST = 0x3F800000, 0x80000000, 0x3FA06C99, 0x7F4C4229
 # The lists of a case, by their places in it, the form of an element, and the mark of one that is not written.
 SIGNS, DIRECTIONS, MATRIX, VECTOR, FLOATS, INDICES, SKETCH, BYTES, PROJECTED, PART = range(10)
 FORMS = {INDICES: "H", SKETCH: "b", BYTES: "B", PART: "B"}
@@ -108,7 +126,7 @@ def finite(pattern):
 def classes(fields):
     """The classes of floats among a case's inputs."""
     found = set()
-    for name in ("min", "max", "value", "radii", "input", "vector", "query", "rotated"):
+    for name in ("min", "max", "value", "norm", "radii", "input", "vector", "query", "rotated"):
         for pattern in patterns(fields.get(name, "-")):
             size, sign = pattern & 0x7FFFFFFF, pattern >> 31
             if size == 0 or size >= 0x7F800000:
@@ -151,6 +169,69 @@ def offender(fields, number):
     if number == 12:
         told.append(fields.get("sum"))
     return str(told + about_record(fields, number))
+
+
+def bad(pattern):
+    """Whether a radius or a norm is NaN, infinite or below zero."""
+    return not finite(pattern) or pattern > MINUS_ZERO
+
+
+def header(record):
+    """The length of a record's header, by its map byte."""
+    return 6 + 8 * (record[0] & 1) + 4 * (record[0] >> 1 & 1) + 4 * (record[0] >> 2 & 1)
+
+
+def norm_of(fields):
+    """The norm that a call is given, beside a record or in it; None where it is absent."""
+    if "norm" in fields:
+        return (patterns(fields["norm"]) or [None])[0]
+    record = octets(fields.get("record", "-"))
+    if len(record) < 6 or record[0] not in (6, 7) or len(record) < header(record):
+        return None
+    return int.from_bytes(record[header(record) - 4 : header(record)], "little")
+
+
+def single(value):
+    """A number rounded to an f32; of two of them a product is exact before, and a quotient rounds to the same."""
+    return struct.unpack("<f", struct.pack("<f", value))[0]
+
+
+def any_order(norm, rows):
+    """Whether the scale is the same with the quotient first: root(PI / 2) times the norm, by the rows."""
+    root, norm = (struct.unpack("<f", struct.pack("<I", pattern))[0] for pattern in (ROOT, norm))
+    return single(single(root * norm) / rows) == single(single(root / rows) * norm)
+
+
+def about_norm(call, fields, number):
+    """What a case has to do with norms: one of its call's in NORMS, or nothing."""
+    norm, record = norm_of(fields), octets(fields.get("record", "-"))
+    reads = call == "read_record"
+    if number == 0:
+        # A sketch score in `PolarOnly` is 0 for every norm.
+        if call == "sketch_score" and fields["mode"] == "polar":
+            return "another"
+        named = {None: "absent", ONE: "1.0", MINUS_ZERO: "-0.0"}.get(norm, "another")
+        scales = named == "another" and NORMS.get(call, set()) >= {"infinite scale"}
+        return "in any order" if scales and any_order(norm, int(fields["projections"])) else named
+    if number == 12:
+        return "infinite scale" if norm is not None and LARGEST < norm < MINUS_ZERO else ""
+    if number == 18 and call == "write_record":
+        return "profile" if fields["profile"] == "log" else "without signs"
+    if number == 18 and reads:
+        return "bit alone" if record[0] in (4, 5) else "bit undefined"
+    if number == 13 and reads and len(record) > 5 and record[0] in (6, 7):
+        return "header cut" if header(record) - 4 <= len(record) < header(record) else ""
+    if number == 17 and reads:
+        return "bad, the range first" if norm is not None and bad(norm) else ""
+    if number == 23 and call == "sketch_score":
+        return f"bad, {fields['mode']}"
+    if number == 23 and (reads or call == "write_record"):
+        radii = patterns(fields.get("radii", "-"))
+        if record[:1] == [6]:
+            pairs = int.from_bytes(record[1:5], "little") // 2
+            radii = struct.unpack(f"<{pairs}I", bytes(record[14 : 14 + 4 * pairs]))
+        return "bad, the radii too" if any(map(bad, radii)) else "bad"
+    return ""
 
 
 def about_record(fields, number):
@@ -223,9 +304,9 @@ def inputs(call, fields):
 def part(call, record):
     """A part of a record that is not refused, by document 01's layout."""
     pairs, bits = int.from_bytes(record[1:5], "little") // 2, record[5]
-    linear, residual = record[0] & 1, record[0] >> 1
+    linear, residual = record[0] & 1, record[0] >> 1 & 1
     rows = int.from_bytes(record[6 + 8 * linear :][:4], "little") if residual else 0
-    start = 6 + 8 * linear + 4 * residual
+    start = header(record)
     sizes = [pairs * (2 if linear else 4), (pairs * bits + 7) // 8, (rows + 7) // 8]
     assert start + sum(sizes) == len(record)
     place = ["radii_part", "indices_part", "signs_part"].index(call)
@@ -233,8 +314,8 @@ def part(call, record):
     return record[start : start + sizes[place]]
 
 
-def told(call, what, parts, three, answer, lists):
-    """Puts a value into a case: into its third number, the floats of its answer, and its lists."""
+def told(call, what, parts, three, floats, answer, lists):
+    """Puts a value into a case: into its third number and float, the floats of its answer, and its lists."""
     if call.endswith("_part"):
         lists[PART] = part(call, lists[BYTES])
     elif what == "number":
@@ -264,6 +345,9 @@ def told(call, what, parts, three, answer, lists):
         if call in values:
             list_, read = values[call]
             lists[list_] = read(parts[list_ - FLOATS])
+        elif call == "read_record":
+            three[2] = int(parts[3] != "-")
+            floats[2] = (patterns(parts[3]) or [ONE])[0]
     else:
         assert what == "done", what
 
@@ -279,13 +363,17 @@ def encode(call, fields, text):
     if "seed" in fields:
         three[0] = int(fields["seed"], 16)
     floats = [int(fields.get(name, "0"), 16) for name in ("min", "max", "value")]
+    if call in ("write_record", "sketch_score"):
+        norm = norm_of(fields)
+        three[2] = int(call == "write_record" and norm is not None)
+        floats[2] = norm or 0
     answer = [0, 0]
     if number:
         for list_, room in WRITES.get(call, {}).items():
             lists[list_] = [MARKS[list_]] * int(fields.get(room, 3))
     else:
         _, what, *parts = text.split()
-        told(call, what, parts, three, answer, lists)
+        told(call, what, parts, three, floats, answer, lists)
         for list_, room in WRITES.get(call, {}).items():
             assert len(lists[list_]) == int(fields.get(room, len(lists[list_])))
     head = struct.pack("<BBBBQ3Q3I2I", number, mode, profile, int(fields.get("bits", "0")), place, *three, *floats, *answer)
@@ -305,11 +393,21 @@ def encode(call, fields, text):
 def kind_of(call, fields, answer):
     """How many cases of a kind are taken, and what tells it from others of the same call and number."""
     number, record = ended(answer)[0], octets(fields.get("record", "-"))
+    norm = about_norm(call, fields, number)
     if number:
-        return REFUSALS, offender(fields, number)
-    limit = SETUP_VALUES if "mode" in fields or record else VALUES
-    limit = 2 * limit if call == "root" else 1 if answer.startswith("plain") else limit
-    return limit, [answer.split()[0], fields.get("mode"), fields.get("profile"), record[:1], fields.get("sum")]
+        return REFUSALS, [offender(fields, number), norm]
+    by, mode, signs = answer.split()[0], fields.get("mode"), record[:1] > [1]
+    # A norm that the call need not have is not worth a case, and plain sums show another one once.
+    if call in NORMS and (norm not in NORMS[call] or by == "plain" and norm in ("1.0", "-0.0")):
+        return 0, []
+    if norm in ("1.0", "-0.0") or norm == "another" and by == "plain":
+        return 1, [norm, by]
+    limit = SETUP_VALUES if mode or record else VALUES
+    if call == "root":
+        limit = 2 * VALUES
+    elif by == "plain" or norm == "another" or (call == "read_record" and signs):
+        limit = 1
+    return limit, [by, mode, fields.get("profile"), record[:1], fields.get("sum"), norm]
 
 
 def choose(lines):
@@ -339,17 +437,19 @@ def choose(lines):
 
 
 def whole(taken):
-    """Stops where a number, a kind of sum, a withdrawn position or a refusal before it is missing."""
+    """Stops where a number, a kind of sum or of norm, a withdrawn position or a refusal before it is missing."""
     numbers_of = {call: set() for call in CALLS}
     rooms, before = {call: set() for call in TAKERS}, {call: set() for call in TAKERS}
-    sums, lengths = set(), set()
+    sums, lengths, norms = set(), set(), {call: set() for call in NORMS}
     for call, fields, answer in taken:
         number = ended(answer)[0]
+        if call in NORMS:
+            norms[call].add(about_norm(call, fields, number))
         if call == "distance" and number in (0, 12):
             sums.add((number, fields.get("sum")))
         if call == "read_record" and number == 13:
             lengths.add(len(octets(fields["record"])))
-        for each in READERS if call == "read_record" else [call]:
+        for each in readers(call, fields, answer):
             numbers_of[each].add(number)
             if number == WITHDRAWN:
                 rooms[each].add(room(fields))
@@ -362,8 +462,17 @@ def whole(taken):
         wanted = set() if call in READERS else CALLS[call] - AFTER
         assert before[call] == wanted, (call, wanted ^ before[call])
         assert rooms[call] == ROOMS.get(call, {("polar", True), ("residual", True)}), (call, rooms[call])
+    for call, wanted in NORMS.items():
+        assert norms[call] >= wanted, (call, wanted - norms[call])
     assert sums == SUMS, SUMS ^ sums
     assert {1, 5} <= lengths, lengths
+
+
+def readers(call, fields, answer):
+    """The calls that a line is put to: where it is about a norm's value, reading the header alone."""
+    if call != "read_record" or about_norm(call, fields, ended(answer)[0]) in ("1.0", "-0.0", "bad, the range first"):
+        return [call]
+    return READERS
 
 
 def main():
@@ -371,7 +480,7 @@ def main():
     whole(taken)
     chosen = {call: [] for call in CALLS}
     for call, fields, answer in taken:
-        for each in READERS if call == "read_record" else [call]:
+        for each in readers(call, fields, answer):
             chosen[each].append(encode(each, fields, answer))
     total = sum(map(len, chosen.values()))
     with open(f"{sys.argv[1]}/stdin", "wb") as out:

@@ -17,6 +17,12 @@
  * record answers so, and its comment says where withdrawn comes in its order; a record of 1 to 5 bytes is refused (13). The calls that find a record's
  * parts have no *number: of a record that is refused or withdrawn they find an empty part.
  *
+ * Norms. A record with signs may have the norm of its source, a float that the residual's scale is multiplied by; without one the norm is 1.0. Writing
+ * takes one that is given or absent: has_norm 0 is absent, and norm then ignored; every other has_norm is given. It is stored exactly where it is given,
+ * with map bit 2 and four bytes behind the projections, bit for bit, 1.0 and -0.0 too. Reading tells whether one stood (has_norm 0 or 1) apart from its
+ * value. A norm that is NaN, infinite or below zero is 23; -0.0 is none of these. Decoding judges it with the rest of the
+ * record, and makes no use of it.
+ *
  * Outputs. What a call writes to need not be initialised: it is written whole, or not at all. An output must have exactly the needed length, else 6 with
  * the needed length as the place, after all other checks. So a call with an output of length 0 tells the needed length, unless something else is refused,
  * the record is withdrawn, or 0 was right. A withdrawn position needs no length: it is answered before 6, whatever length is lent. The needed length
@@ -31,7 +37,7 @@
  *     decode_approximate              dim
  *     compress                        4 * radii_len for F32, 2 * radii_len for BlockLinearU16
  *     decompress                      count
- *     write_record                    foldrima_record_size(profile, dim, bits, mode, projections, ..)
+ *     write_record                    foldrima_record_size(profile, dim, bits, mode, projections, has_norm, ..)
  *     read_radii, read_indices        dim / 2, with dim from foldrima_read_record
  *     read_signs                      projections from foldrima_read_record
  *
@@ -101,9 +107,10 @@ extern "C" {
 #define FOLDRIMA_MALFORMED_INDEX 15       /* an index at or above 2^bits; place: its index, or 0 for a single one */
 #define FOLDRIMA_MALFORMED_RADIUS 16      /* a radius is NaN, infinite or below zero; place: its index */
 #define FOLDRIMA_MALFORMED_RANGE 17       /* a bound not finite, or min above max; for a codebook also min equal to max; place 0 */
-#define FOLDRIMA_UNDEFINED_PROFILE 18     /* a map bit not defined, or BlockLogU8; place: the map byte, or 0 */
+#define FOLDRIMA_UNDEFINED_PROFILE 18     /* a map bit not defined, a norm without signs, or BlockLogU8; place: the map byte in reading, else 0 */
 #define FOLDRIMA_LENGTH_OVERFLOW 19       /* count times bits exceeds the largest size_t; place 0 */
 #define FOLDRIMA_PROFILE_MISMATCH 20      /* a record's bits or projections are not the setup's; place 0 */
+#define FOLDRIMA_MALFORMED_NORM 23        /* a norm is not finite or below zero; place 0 */
 
 /* ---- a withdrawn position */
 
@@ -163,17 +170,18 @@ void foldrima_sketch(uint8_t mode, size_t dim, uint8_t bits, size_t projections,
                      size_t directions_len, const float *matrix, size_t matrix_len, const float *vector, size_t vector_len, int8_t *out, size_t out_len,
                      uint32_t *number, size_t *place);
 
-/* The score of lent sketch signs: setup, 5, 11 query, 11 projected, 5 and 10 for the signs, 12. In PolarOnly the value is 0. */
+/* The score of lent sketch signs, with the norm of their source (1.0 where it isn't known): setup, 5, 11 query, 11 projected, 5 and 10 for the signs,
+ * 23, 12. In PolarOnly the value is 0, after the same checks. */
 void foldrima_sketch_score(uint8_t mode, size_t dim, uint8_t bits, size_t projections, const float *signs, size_t signs_len, const float *directions,
                            size_t directions_len, const float *matrix, size_t matrix_len, const float *query, size_t query_len, const int8_t *sketch,
-                           size_t sketch_len, uint32_t *number, size_t *place, float *value);
+                           size_t sketch_len, float norm, uint32_t *number, size_t *place, float *value);
 
 /* A query rotated (dim entries) and projected (projections entries, none in PolarOnly): setup, 5, 11 thrice, 6 for rotated, 6 for projected. */
 void foldrima_prepare_query(uint8_t mode, size_t dim, uint8_t bits, size_t projections, const float *signs, size_t signs_len, const float *directions,
                             size_t directions_len, const float *matrix, size_t matrix_len, const float *query, size_t query_len, float *rotated,
                             size_t rotated_len, float *projected, size_t projected_len, uint32_t *number, size_t *place);
 
-/* The score of a record by a query: setup, 5, 11 thrice, withdrawn, the record's reading, 5, 20, 12. */
+/* The score of a record by a query, its residual scaled with the record's norm: setup, 5, 11 thrice, withdrawn, the record's reading, 5, 20, 12. */
 void foldrima_inner_product_estimate(uint8_t mode, size_t dim, uint8_t bits, size_t projections, const float *signs, size_t signs_len,
                                      const float *directions, size_t directions_len, const float *matrix, size_t matrix_len, const float *query,
                                      size_t query_len, const uint8_t *bytes, size_t bytes_len, uint32_t *number, size_t *place, float *value);
@@ -223,20 +231,22 @@ void foldrima_dequantize_midpoint(uint8_t bits, float min, float max, uint16_t i
 
 /* ---- the record */
 
-/* How many bytes a record takes; bits are the polar bits, and in PolarOnly the projections are ignored: 18, 2, 3, 4, 1, 8. */
-void foldrima_record_size(uint8_t profile, size_t dim, uint8_t bits, uint8_t mode, size_t projections, uint32_t *number, size_t *place, size_t *value);
+/* How many bytes a record takes, with a norm or without; bits are the polar bits, and in PolarOnly the projections are ignored: 18 for the profile, 18
+ * for a norm in PolarOnly, 2, 3, 4, 1, 8. */
+void foldrima_record_size(uint8_t profile, size_t dim, uint8_t bits, uint8_t mode, size_t projections, uint8_t has_norm, uint32_t *number,
+                          size_t *place, size_t *value);
 
-/* Writes a record; bits are the polar bits, and in PolarOnly the signs are none: 18, 2, 3, 4, 1, 8, 5 for radii, indices, signs, 16 for
- * bad radii, 16 for radii that would read as infinite, 15, 10, 6. */
-void foldrima_write_record(uint8_t profile, size_t dim, uint8_t bits, uint8_t mode, size_t projections, const float *radii, size_t radii_len,
-                           const uint16_t *indices, size_t indices_len, const int8_t *signs, size_t signs_len, uint8_t *out, size_t out_len,
-                           uint32_t *number, size_t *place);
+/* Writes a record; bits are the polar bits, and in PolarOnly the signs are none: 18 for the profile, 18 for a norm in PolarOnly, 2, 3, 4, 1, 8, 5 for
+ * radii, indices, signs, 23, 16 for bad radii, 16 for radii that would read as infinite, 15, 10, 6. */
+void foldrima_write_record(uint8_t profile, size_t dim, uint8_t bits, uint8_t mode, size_t projections, uint8_t has_norm, float norm,
+                           const float *radii, size_t radii_len, const uint16_t *indices, size_t indices_len, const int8_t *signs, size_t signs_len,
+                           uint8_t *out, size_t out_len, uint32_t *number, size_t *place);
 
-/* Reads a record's header: withdrawn, 13, 18, 2, 3, 4, 1, 13, 8, 13, 17, 16, 14 for the indices, 14 for the signs. mode and profile come back as 0 or 1;
- * bits are the polar bits. Where the radii are F32 there is no range: min and max are 0 and 0. Where there are no signs, mode is PolarOnly and
- * projections 0. */
+/* Reads a record's header: withdrawn, 13, 18, 2, 3, 4, 1, 13, 8, 13, 17, 23, 16, 14 for the indices, 14 for the signs. mode, profile and has_norm come
+ * back as 0 or 1; bits are the polar bits. Where the radii are F32 there is no range: min and max are 0 and 0. Where there are no signs, mode is
+ * PolarOnly and projections 0. Where there is no norm, has_norm is 0 and norm 1.0. */
 void foldrima_read_record(const uint8_t *bytes, size_t bytes_len, uint32_t *number, size_t *place, uint8_t *mode, uint8_t *profile, size_t *dim,
-                          uint8_t *bits, size_t *projections, float *min, float *max);
+                          uint8_t *bits, size_t *projections, float *min, float *max, uint8_t *has_norm, float *norm);
 
 /* Where the radii stand in a record's bytes; start and count are 0 where the record is refused or withdrawn. */
 void foldrima_radii_part(const uint8_t *bytes, size_t bytes_len, size_t *start, size_t *count);

@@ -1,5 +1,5 @@
 /*
- * Packs three indices, writes a record, scores it, is refused once, and meets a withdrawn position.
+ * Packs three indices, writes a record, scores it, is refused once, meets a withdrawn position, and scores a record with a norm.
  *
  *     rt staticlib capi
  *     cc -I include host/c/example.c target/staticlib/libcapi.a -o example && ./example
@@ -22,7 +22,7 @@ int main(void)
     const float radius[1] = {1.0f};
     const uint16_t index[1] = {1};
     uint8_t record[11];
-    foldrima_write_record(FOLDRIMA_F32, 2, 1, FOLDRIMA_POLAR_ONLY, 0, radius, 1, index, 1, NULL, 0, record, 11, &number, &place);
+    foldrima_write_record(FOLDRIMA_F32, 2, 1, FOLDRIMA_POLAR_ONLY, 0, 0, 1.0f, radius, 1, index, 1, NULL, 0, record, 11, &number, &place);
     printf("record: %u %zu,", number, place);
     for (int i = 0; i < 11; i++)
         printf(" %02X", record[i]);
@@ -42,5 +42,19 @@ int main(void)
     /* A record of no bytes: the position is withdrawn, and the score stays. */
     foldrima_inner_product_estimate(FOLDRIMA_POLAR_ONLY, 2, 1, 0, signs, 2, directions, 4, NULL, 0, query, 2, NULL, 0, &number, &place, &score);
     printf("withdrawn: %u %zu, %.6f\n", number, place, score);
-    return number == FOLDRIMA_WITHDRAWN ? 0 : 1;
+    if (number != FOLDRIMA_WITHDRAWN)
+        return 1;
+
+    /* One projection, and a record with its sign and the norm 2.5 of its source, which the residual is scaled with. */
+    const float row[2] = {1.0f, 0.0f};
+    const int8_t sign[1] = {1};
+    uint8_t normed[20], mode, profile, bits, has_norm;
+    size_t dim, projections;
+    float min, max, norm;
+    foldrima_write_record(FOLDRIMA_F32, 2, 1, FOLDRIMA_POLAR_WITH_QJL, 1, 1, 2.5f, radius, 1, index, 1, sign, 1, normed, 20, &number, &place);
+    foldrima_read_record(normed, 20, &number, &place, &mode, &profile, &dim, &bits, &projections, &min, &max, &has_norm, &norm);
+    printf("norm: %u %zu, %u %.6f\n", number, place, has_norm, norm);
+    foldrima_inner_product_estimate(FOLDRIMA_POLAR_WITH_QJL, 2, 2, 1, signs, 2, directions, 4, row, 2, query, 2, normed, 20, &number, &place, &score);
+    printf("score: %u %zu, %.6f\n", number, place, score);
+    return number;
 }

@@ -46,22 +46,22 @@ static void angle(void) { float value; foldrima_dequantize_angle(POLAR, 1, &numb
 static void root(void) { number = foldrima_sqrt(2.0f) < 1.0f; }
 static void hadamard_seed(void) { number = foldrima_hadamard_seed(1) == 1; }
 static void matrix_seed(void) { number = foldrima_matrix_seed(1) == 1; }
-static void record_size(void) { size_t value; foldrima_record_size(FOLDRIMA_F32, DIM, POLAR, FOLDRIMA_POLAR_WITH_QJL, DIM, &number, &place, &value); }
+static void record_size(void) { size_t value; foldrima_record_size(FOLDRIMA_F32, DIM, POLAR, FOLDRIMA_POLAR_WITH_QJL, DIM, 1, &number, &place, &value); }
 static void check_setup(void) { foldrima_check_setup(SETUP, TABLES, &number, &place); }
 static void make_sketch(void) { foldrima_sketch(SETUP, TABLES, query, DIM, sketch, DIM, &number, &place); }
-static void sketch_score(void) { float value; foldrima_sketch_score(SETUP, TABLES, query, DIM, sketch, DIM, &number, &place, &value); }
+static void sketch_score(void) { float value; foldrima_sketch_score(SETUP, TABLES, query, DIM, sketch, DIM, 0.75f, &number, &place, &value); }
 static void prepare(void) { foldrima_prepare_query(SETUP, TABLES, query, DIM, rotated, DIM, projected, DIM, &number, &place); }
 static void write_record(void)
 {
-    foldrima_write_record(FOLDRIMA_BLOCK_LINEAR_U16, DIM, POLAR, FOLDRIMA_POLAR_WITH_QJL, DIM, radii, PAIRS, indices, PAIRS, sketch, DIM, record,
-                          record_len, &number, &place);
+    foldrima_write_record(FOLDRIMA_BLOCK_LINEAR_U16, DIM, POLAR, FOLDRIMA_POLAR_WITH_QJL, DIM, 1, 0.75f, radii, PAIRS, indices, PAIRS, sketch, DIM,
+                          record, record_len, &number, &place);
 }
 static void read_record(void)
 {
-    uint8_t mode, profile, bits;
+    uint8_t mode, profile, bits, has_norm;
     size_t dim, projections;
-    float min, max;
-    foldrima_read_record(record, record_len, &number, &place, &mode, &profile, &dim, &bits, &projections, &min, &max);
+    float min, max, norm;
+    foldrima_read_record(record, record_len, &number, &place, &mode, &profile, &dim, &bits, &projections, &min, &max, &has_norm, &norm);
 }
 static void radii_part(void) { size_t start, count; foldrima_radii_part(record, record_len, &start, &count); }
 static void indices_part(void) { size_t start, count; foldrima_indices_part(record, record_len, &start, &count); }
@@ -138,8 +138,8 @@ int main(void)
     }
     foldrima_packed_len(PAIRS, POLAR, &number, &place, &packed_len);
     record_len = 0;
-    foldrima_write_record(FOLDRIMA_BLOCK_LINEAR_U16, DIM, POLAR, FOLDRIMA_POLAR_WITH_QJL, DIM, radii, PAIRS, indices, PAIRS, sketch, DIM, record, 0,
-                          &number, &place);
+    foldrima_write_record(FOLDRIMA_BLOCK_LINEAR_U16, DIM, POLAR, FOLDRIMA_POLAR_WITH_QJL, DIM, 1, 0.75f, radii, PAIRS, indices, PAIRS, sketch, DIM,
+                          record, 0, &number, &place);
     record_len = place;
     write_record();
     const size_t thread = used(stack, nothing);

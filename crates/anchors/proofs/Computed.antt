@@ -12,12 +12,12 @@ use Rattle.float.specs.Constants.{pi}
 use Rattle.float.specs.SquareRoot.{rootBits, nearestRoot, dropped, rootPattern, squareRoot}
 use Rattle.float.specs.Units.{unit, mag}
 use Rattle.lists.specs.Chunks.{chunks}
-use Rattle.packed.specs.Fields.{boundsOf, projectionsOf}
+use Rattle.packed.specs.Fields.{boundsOf, projectionsOf, normOf}
 use Rattle.packed.specs.Layout.{radiiBytes, indicesBytes, signsBytes}
 use Rattle.packed.specs.Reading.{radiiOf, indicesOf, signsOf}
 use Rattle.polar.specs.Exact.{exactTerm, exactPolar, sizeTerm, polarSize, directionTerm, directionSum}
 use Rattle.polar.specs.Polar.{term, polarSumOf, laid, decodedPairs}
-use Rattle.qjl_residual.specs.Exact.{exactResidual, residualSize}
+use Rattle.qjl_residual.specs.Exact.{exactResidual, residualSize, wholeNorm}
 use Rattle.qjl_residual.specs.Residual.{root, scaleOf, signSumOf, residualOf}
 use Rattle.rotation.specs.Exact.{exactRotated}
 use Rattle.rotation.specs.Rotation.{inverseRoot, scaled, hadamardOf, rotated, unrotated}
@@ -35,7 +35,7 @@ use Rattle.turbo_order.specs.Scores.{scoreFrom, exactBy, sizeBy, perUnit, perSt
 use Rattle.anchors.specs.Anchors.{Anchors}
 
 pub anchors : Anchors
-unfolding ne ones onesIn trailingZeros ofBits add sub mul div lt le ofInt badPadding number digits place badValue ofLeBytes pi rootBits nearestRoot dropped rootPattern squareRoot unit mag chunks boundsOf projectionsOf radiiBytes indicesBytes signsBytes radiiOf indicesOf signsOf exactTerm exactPolar sizeTerm polarSize directionTerm directionSum term polarSumOf laid decodedPairs exactResidual residualSize root scaleOf signSumOf residualOf exactRotated inverseRoot scaled hadamardOf rotated unrotated from entry stage stages projected exactProjected projectedSizes running products exactTotal exactProducts turnedEach sum absoluteSum weighted val badDirection isNan distanceSum cutAtZero distanceBySum l2DistanceEstimateOf formerDistanceOf innerProductEstimateOf innerProductEstimatePreparedOf decodeApproximateOf scoreFrom exactBy sizeBy perUnit perStep perRadius boundBy scoreOf
+unfolding ne ones onesIn trailingZeros ofBits add sub mul div lt le ofInt badPadding number digits place badValue ofLeBytes pi rootBits nearestRoot dropped rootPattern squareRoot unit mag chunks boundsOf projectionsOf normOf radiiBytes indicesBytes signsBytes radiiOf indicesOf signsOf exactTerm exactPolar sizeTerm polarSize directionTerm directionSum term polarSumOf laid decodedPairs exactResidual residualSize wholeNorm root scaleOf signSumOf residualOf exactRotated inverseRoot scaled hadamardOf rotated unrotated from entry stage stages projected exactProjected projectedSizes running products exactTotal exactProducts turnedEach sum absoluteSum weighted val badDirection isNan distanceSum cutAtZero distanceBySum l2DistanceEstimateOf formerDistanceOf innerProductEstimateOf innerProductEstimatePreparedOf decodeApproximateOf scoreFrom exactBy sizeBy perUnit perStep perRadius boundBy scoreOf
 anchors = record {
   p12-score = refl;
   p12-exact = record { even = refl };
@@ -47,6 +47,15 @@ anchors = record {
   p13-bound = refl;
   p13-distance = refl;
   p13-decoded = refl;
+  norm-score = refl;
+  norm-exact = record { even = refl };
+  norm-bound = refl;
+  norm-decoded = refl;
+  largest-score = refl;
+  tiny-score = refl;
+  tiny-exact = record { even = refl };
+  tiny-bound = refl;
+  tiny-outside = refl;
   huge-score = refl;
   huge-sum = refl;
   huge-distance = refl;

@@ -1,10 +1,11 @@
 -- Score, exact score, bound, distance and decoding of document 01's records P12 and P13 stand here as numbers, and beside them each exact form and each size that a
--- bound is made of; then distances near the top of f32, and withdrawn positions. A definition that stands on the generous side of an inequality could grow without any
--- proof failing: these lines pin it. Assumes nothing.
+-- bound is made of; then records with a norm, distances near the top of f32, and withdrawn positions. A definition that stands on the generous side of an
+-- inequality could grow without any proof failing: these lines pin it. Assumes nothing.
 use Prim.Native.Nat.{ℕ, _+_, _-_, _*_, _^_}
 use mathlib.Core.Path.{_≡_}
 use mathlib.Core.Bool.{true, false}
 use mathlib.Core.List.{List, [], _∷_}
+use lib.Dec.{ltb}
 use lib.IntN.{pos, negsuc}
 use lib.Ieee.{Float, nan, inf, fin, binary32, ofBits}
 use Rattle.error.specs.Answer.{value, refused, withdrawn}
@@ -19,7 +20,8 @@ use Rattle.setup.specs.declared.TurboMode.the-variants.{PolarOnly, PolarWithQjl
 use Rattle.setup.specs.Lent.{Lent, lent}
 use Rattle.setup.specs.Setups.{countedProjectionsOf}
 use Rattle.qjl_residual.specs.Exact.{exactResidual, residualSize}
-use Rattle.turbo_order.specs.Scores.{unitScale, perUnit, perStep, perRadius, accountOf}
+use Rattle.qjl_residual.specs.Residual.{scaleOf}
+use Rattle.turbo_order.specs.Scores.{perUnit, perStep, perRadius, accountOf}
 use Rattle.turbo.specs.Estimates.{innerProductEstimateOf, innerProductEstimatePreparedOf}
 use Rattle.turbo.specs.Distance.{l2DistanceEstimateOf}
 use Rattle.turbo.specs.Order.{exactOf, boundFor}
@@ -96,6 +98,23 @@ rowQuery = fin false 7 (pos 25) ∷ posZero ∷ []
 abbrev pub withOneSign : List ℕ
 withOneSign = 0x02 ∷ 0x02 ∷ 0x00 ∷ 0x00 ∷ 0x00 ∷ 0x01 ∷ 0x01 ∷ 0x00 ∷ 0x00 ∷ 0x00 ∷ 0x00 ∷ 0x00 ∷ 0x80 ∷ 0x3F ∷ 0x01 ∷ 0x01 ∷ []
 
+-- These records are P13 with the norm 1.5, and with the largest f32 as its norm.
+abbrev pub withNorm : List ℕ
+withNorm = 0x06 ∷ 0x02 ∷ 0x00 ∷ 0x00 ∷ 0x00 ∷ 0x01 ∷ 0x03 ∷ 0x00 ∷ 0x00 ∷ 0x00 ∷ 0x00 ∷ 0x00 ∷ 0xC0 ∷ 0x3F ∷ 0x00 ∷ 0x00 ∷ 0x80 ∷ 0x3F ∷ 0x01 ∷ 0x05 ∷ []
+
+abbrev pub withLargest : List ℕ
+withLargest = 0x06 ∷ 0x02 ∷ 0x00 ∷ 0x00 ∷ 0x00 ∷ 0x01 ∷ 0x03 ∷ 0x00 ∷ 0x00 ∷ 0x00 ∷ 0xFF ∷ 0xFF ∷ 0x7F ∷ 0x7F ∷ 0x00 ∷ 0x00 ∷ 0x80 ∷ 0x3F ∷ 0x01 ∷ 0x05 ∷ []
+
+-- This record has the radius 0, the norm 2^20 and one sign, +; the one row is (2^−75, 0), and so is the query.
+abbrev pub tiny : List ℕ
+tiny = 0x06 ∷ 0x02 ∷ 0x00 ∷ 0x00 ∷ 0x00 ∷ 0x01 ∷ 0x01 ∷ 0x00 ∷ 0x00 ∷ 0x00 ∷ 0x00 ∷ 0x00 ∷ 0x80 ∷ 0x49 ∷ 0x00 ∷ 0x00 ∷ 0x00 ∷ 0x00 ∷ 0x01 ∷ 0x01 ∷ []
+
+abbrev pub tinyQuery : List Float
+tinyQuery = fin false 1 (negsuc 74) ∷ posZero ∷ []
+
+abbrev pub tinyLent : Lent
+tinyLent = lent signsLent directionsLent tinyQuery
+
 -- This is n as a whole number with a sign.
 abbrev pub whole : ℕ → Diff
 whole n = signed false n
@@ -115,6 +134,18 @@ pub record Anchors : Type 0 where
   -- 1 + 1 − 2 × score is below zero, so it is cut
   pub p13-distance : l2DistanceEstimateOf residualSetup residualLent queryLent withSigns ≡ value posZero
   pub p13-decoded : decodeApproximateOf residualSetup residualLent withSigns 2 ≡ value (ofBits binary32 0x3F35_04F3 ∷ ofBits binary32 0x3F35_04F3 ∷ [])
+  -- ---- P13 with the norm 1.5: K is 10513561 / 2^24 as an f32, and in the bound 2 × 3 is multiplied by 2
+  pub norm-score : innerProductEstimateOf residualSetup residualLent queryLent withNorm ≡ value (ofBits binary32 0x3FAA_B8C6)
+  pub norm-exact : Same (exactOf residualSetup residualLent queryLent withNorm) (whole (11863283 * 2 ^ 595 + 10513561 * 2 ^ 595))
+  pub norm-bound : boundFor residualSetup residualLent queryLent withNorm ≡ 21 * (11863283 * 2 ^ 572 + 3 * 10513561 * 2 ^ 572) + 2 ^ 473 + 14 * 2 ^ 473
+  pub norm-decoded : decodeApproximateOf residualSetup residualLent withNorm 2 ≡ value (ofBits binary32 0x3F35_04F3 ∷ ofBits binary32 0x3F35_04F3 ∷ [])
+  -- A norm above the largest f32 / 1.2533 makes K infinite.
+  pub largest-score : innerProductEstimateOf residualSetup residualLent queryLent withLargest ≡ refused 12 0
+  -- 2^−150 is rounded to 0, and K is 10513561 / 2^3. With the factor left out of the bound the exact score would lie outside it.
+  pub tiny-score : innerProductEstimateOf rowSetup tinyLent tinyQuery tiny ≡ value posZero
+  pub tiny-exact : Same (exactOf rowSetup tinyLent tinyQuery tiny) (whole (10513561 * 2 ^ 466))
+  pub tiny-bound : boundFor rowSetup tinyLent tinyQuery tiny ≡ 19 * 10513561 * 2 ^ 443 + (2 * 2 ^ 20 + 2) * 2 ^ 473
+  pub tiny-outside : ltb (19 * 10513561 * 2 ^ 443 + (2 + 2) * 2 ^ 473) (10513561 * 2 ^ 466) ≡ true
   -- ---- near the top of f32: the score of the huge record is 11863283 × 2^104, and both norms and twice the score are plus infinity, so the sum is NaN
   pub huge-score : innerProductEstimateOf plainSetup plainLent hugeQuery huge ≡ value (ofBits binary32 0x7F35_04F3)
   pub huge-sum : recordSum plainSetup plainLent hugeQuery huge ≡ nan
@@ -170,5 +201,5 @@ pub record Anchors : Type 0 where
   -- The query (1, −2) on the rows (1, 1), (1, 0), (1, 1) gives −1, 1, −1, of the sizes 3, 1, 3.
   pub projected-exact : Same (exactTotal (exactProjected 2 3 matrixLent steep)) (signed true (2 ^ 298))
   pub projected-size : projectedSizes 2 3 matrixLent steep ≡ 3 * 2 ^ 298 ∷ 2 ^ 298 ∷ 3 * 2 ^ 298 ∷ []
-  pub residual-exact : Same (exactResidual (unitScale 3) 2 3 matrixLent queryLent (pos 1 ∷ negsuc 0 ∷ pos 1 ∷ [])) (whole (14018081 * 2 ^ 422))
-  pub residual-size : residualSize (unitScale 3) 2 3 matrixLent queryLent ≡ 3 * 14018081 * 2 ^ 422
+  pub residual-exact : Same (exactResidual (scaleOf 3 (one false)) 2 3 matrixLent queryLent (pos 1 ∷ negsuc 0 ∷ pos 1 ∷ [])) (whole (14018081 * 2 ^ 422))
+  pub residual-size : residualSize (scaleOf 3 (one false)) 2 3 matrixLent queryLent ≡ 3 * 14018081 * 2 ^ 422

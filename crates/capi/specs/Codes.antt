@@ -1,10 +1,12 @@
 -- On the C side numbers stand for the cases of an enum, and structs are passed as their fields. Assumes nothing.
 use Prim.Native.Nat.{ℕ}
-use mathlib.Core.Bool.{cond}
+use mathlib.Core.Bool.{Bool, cond}
 use lib.Dec.{eqb}
 use lib.Ieee.{Float}
 use Rattle.packed.specs.declared.Code.{Code}
 use Rattle.packed.specs.declared.Header.{Header}
+use Rattle.packed.specs.declared.SourceNorm.{SourceNorm}
+use Rattle.packed.specs.declared.SourceNorm.the-variants.{Absent, Given}
 use Rattle.radius.specs.declared.Range.{Range}
 use Rattle.radius.specs.declared.RadiusCodecProfileV1.{RadiusCodecProfileV1}
 use Rattle.radius.specs.declared.RadiusCodecProfileV1.the-variants.{F32, BlockLinearU16, BlockLogU8}
@@ -24,9 +26,14 @@ profileFrom code = cond (eqb code 0) F32 (cond (eqb code 1) BlockLinearU16 Block
 abbrev pub setupFrom : ℕ → ℕ → ℕ → ℕ → Setup
 setupFrom mode dim bits projections = record { mode = modeFrom mode; dim = dim; bits = bits; projections = projections }
 
--- These are the scalars of a record, with numbers for its profile and its mode.
-abbrev pub codeFrom : ℕ → ℕ → ℕ → ℕ → ℕ → Code
-codeFrom profile dim bits mode projections = record { profile = profileFrom profile; mode = modeFrom mode; dim = dim; bits = bits; projections = projections }
+-- The number 0 is `Absent`, and every other number is `Given` with the norm beside it.
+unfoldable pub normFrom : ℕ → Float → SourceNorm
+normFrom code norm = cond (eqb code 0) Absent (Given norm)
+
+-- These are the scalars of a record, with numbers for its profile and its mode, and for whether a norm is given.
+abbrev pub codeFrom : ℕ → ℕ → ℕ → ℕ → ℕ → ℕ → Float → Code
+codeFrom profile dim bits mode projections given norm =
+    record { profile = profileFrom profile; mode = modeFrom mode; dim = dim; bits = bits; projections = projections; norm = normFrom given norm }
 
 -- This is a range of two floats.
 abbrev pub rangeFrom : Float → Float → Range
@@ -52,6 +59,10 @@ profileNumber F32 = 0
 profileNumber BlockLinearU16 = 1
 profileNumber BlockLogU8 = 2
 
+-- This number says whether a norm stood.
+abbrev pub normNumber : Bool → ℕ
+normNumber stood = cond stood 1 0
+
 abbrev pub headerMode : Header → ℕ
 headerMode header = modeNumber (header .mode)
 
@@ -72,3 +83,9 @@ headerMin header = header .range .min
 
 abbrev pub headerMax : Header → Float
 headerMax header = header .range .max
+
+abbrev pub headerHasNorm : Header → ℕ
+headerHasNorm header = normNumber (header .«has_norm»)
+
+abbrev pub headerNorm : Header → Float
+headerNorm header = header .norm

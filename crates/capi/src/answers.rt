@@ -21,7 +21,7 @@ ghost use Rattle.packed.specs.Reading.{saysReading};
 ghost use Rattle.polar.specs.Angle.{saysAngle};
 ghost use Rattle.radius_writing.specs.Says.{saysRange};
 ghost use Rattle.capi.specs.Told.{said, told, part};
-ghost use Rattle.capi.specs.Codes.{minOf, maxOf, headerMode, headerProfile, headerDim, headerBits, headerProjections, headerMin, headerMax};
+ghost use Rattle.capi.specs.Codes.{minOf, maxOf, headerMode, headerProfile, headerDim, headerBits, headerProjections, headerMin, headerMax, headerHasNorm, headerNorm};
 
 // The number of a withdrawn position, which no refusal has.
 pub const WITHDRAWN: u32 = 255;
@@ -279,6 +279,8 @@ pub fn tell_header(
     projections: &mut usize,
     min: &mut f32,
     max: &mut f32,
+    has_norm: &mut u8,
+    norm: &mut f32,
 )
     ensures mode { λ _. ⌜ now (mode .exit) ≡ after (part headerMode (saysReading answer)) (now (mode .entry)) ⌝ }
     ensures profile { λ _. ⌜ now (profile .exit) ≡ after (part headerProfile (saysReading answer)) (now (profile .entry)) ⌝ }
@@ -287,11 +289,14 @@ pub fn tell_header(
     ensures projections { λ _. ⌜ now (projections .exit) ≡ after (part headerProjections (saysReading answer)) (now (projections .entry)) ⌝ }
     ensures least { λ _. ⌜ now (min .exit) ≡ after (part headerMin (saysReading answer)) (now (min .entry)) ⌝ }
     ensures greatest { λ _. ⌜ now (max .exit) ≡ after (part headerMax (saysReading answer)) (now (max .entry)) ⌝ }
+    ensures stood { λ _. ⌜ now («has_norm» .exit) ≡ after (part headerHasNorm (saysReading answer)) (now («has_norm» .entry)) ⌝ }
+    ensures norm { λ _. ⌜ now (norm .exit) ≡ after (part headerNorm (saysReading answer)) (now (norm .entry)) ⌝ }
 {
     match answer {
         Reading::Read(header) => {
             let found = header.mode;
             let codec = header.profile;
+            let stood = header.has_norm;
             *mode = codes::mode_number(found);
             *profile = codes::profile_number(codec);
             *dim = header.dim;
@@ -299,6 +304,8 @@ pub fn tell_header(
             *projections = header.projections;
             *min = header.range.min;
             *max = header.range.max;
+            *has_norm = codes::norm_number(stood);
+            *norm = header.norm;
         }
         Reading::Refused {
             number: _,

@@ -1,10 +1,11 @@
 // The cases of an enum by their numbers on the C side, and structs by their fields.
 use packed::Code;
+use packed::SourceNorm;
 use radius::RadiusCodecProfileV1;
 use setup::Setup;
 use setup::TurboMode;
 ghost use mathlib.Core.Path.{_≡_};
-ghost use Rattle.capi.specs.Codes.{modeFrom, profileFrom, setupFrom, codeFrom, modeNumber, profileNumber};
+ghost use Rattle.capi.specs.Codes.{modeFrom, profileFrom, setupFrom, normFrom, codeFrom, modeNumber, profileNumber, normNumber};
 
 // The mode of a number: 0 is `PolarOnly`, every other one `PolarWithQjl`.
 pub fn mode(code: u8) -> TurboMode
@@ -42,18 +43,38 @@ pub fn setup(code: u8, dim: usize, bits: u8, projections: usize) -> Setup
     }
 }
 
+// The norm of a number and a float: 0 is `Absent`, every other number `Given`.
+pub fn source_norm(has_norm: u8, norm: f32) -> SourceNorm
+    ensures { λ r. ⌜ r ≡ normFrom «has_norm» norm ⌝ }
+{
+    if has_norm == 0 {
+        return SourceNorm::Absent;
+    }
+    SourceNorm::Given(norm)
+}
+
 // The scalars of a record.
-pub fn code(form: u8, dim: usize, bits: u8, kind: u8, projections: usize) -> Code
-    ensures { λ r. ⌜ r ≡ codeFrom form dim bits kind projections ⌝ }
+pub fn code(
+    form: u8,
+    dim: usize,
+    bits: u8,
+    kind: u8,
+    projections: usize,
+    has_norm: u8,
+    norm: f32,
+) -> Code
+    ensures { λ r. ⌜ r ≡ codeFrom form dim bits kind projections «has_norm» norm ⌝ }
 {
     let codec = profile(form);
     let chosen = mode(kind);
+    let stored = source_norm(has_norm, norm);
     Code {
         profile: codec,
         mode: chosen,
         dim,
         bits,
         projections,
+        norm: stored,
     }
 }
 
@@ -65,6 +86,13 @@ pub fn mode_number(mode: TurboMode) -> u8
         TurboMode::PolarOnly => 0,
         TurboMode::PolarWithQjl => 1,
     }
+}
+
+// The number that says whether a norm stood: 1 where it did, and else 0.
+pub fn norm_number(stood: bool) -> u8
+    ensures { λ r. ⌜ r ≡ normNumber stood ⌝ }
+{
+    if stood { 1 } else { 0 }
 }
 
 // The number of a profile.

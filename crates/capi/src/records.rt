@@ -8,13 +8,15 @@ use crate::codes;
 ghost use Prim.Native.Nat.{_+_, _≤_};
 ghost use mathlib.Core.Path.{_≡_};
 ghost use lib.ListN.{length, take, drop};
+ghost use mathlib.Core.Bool.{false};
 ghost use Rattle.error.specs.Answer.{done, after};
+ghost use Rattle.float.specs.Constants.{one};
 ghost use Rattle.packed.specs.Reading.{readRecordOf, radiiPartOf, indicesPartOf, signsPartOf, readRadiiOf, readIndicesOf, readSignsOf};
 ghost use Rattle.packed_parts.specs.Parts.{locateOf};
 ghost use Rattle.packed_size.specs.Size.{recordSizeOf};
 ghost use Rattle.packed_writing.specs.Writing.{writeRecordOf};
 ghost use Rattle.capi.specs.Told.{said, told, part};
-ghost use Rattle.capi.specs.Codes.{codeFrom, headerMode, headerProfile, headerDim, headerBits, headerProjections, headerMin, headerMax};
+ghost use Rattle.capi.specs.Codes.{codeFrom, headerMode, headerProfile, headerDim, headerBits, headerProjections, headerMin, headerMax, headerHasNorm, headerNorm};
 
 // Reads a record: its header, where nothing offends. A record of no bytes is withdrawn.
 #[no_mangle]
@@ -29,6 +31,8 @@ pub extern "C" fn foldrima_read_record(
     projections: &mut usize,
     min: &mut f32,
     max: &mut f32,
+    has_norm: &mut u8,
+    norm: &mut f32,
 )
     ensures answer { λ _. ⌜ said (now (number .exit)) (now (place .exit)) ≡ told (readRecordOf (now (bytes .entry))) ⌝ }
     ensures mode { λ _. ⌜ now (mode .exit) ≡ after (part headerMode (readRecordOf (now (bytes .entry)))) (now (mode .entry)) ⌝ }
@@ -38,10 +42,23 @@ pub extern "C" fn foldrima_read_record(
     ensures projections { λ _. ⌜ now (projections .exit) ≡ after (part headerProjections (readRecordOf (now (bytes .entry)))) (now (projections .entry)) ⌝ }
     ensures least { λ _. ⌜ now (min .exit) ≡ after (part headerMin (readRecordOf (now (bytes .entry)))) (now (min .entry)) ⌝ }
     ensures greatest { λ _. ⌜ now (max .exit) ≡ after (part headerMax (readRecordOf (now (bytes .entry)))) (now (max .entry)) ⌝ }
+    ensures stood { λ _. ⌜ now («has_norm» .exit) ≡ after (part headerHasNorm (readRecordOf (now (bytes .entry)))) (now («has_norm» .entry)) ⌝ }
+    ensures norm { λ _. ⌜ now (norm .exit) ≡ after (part headerNorm (readRecordOf (now (bytes .entry)))) (now (norm .entry)) ⌝ }
 {
     let answer = packed::read_record(bytes);
     tell_read(answer, number, place);
-    tell_header(answer, mode, profile, dim, bits, projections, min, max);
+    tell_header(
+        answer,
+        mode,
+        profile,
+        dim,
+        bits,
+        projections,
+        min,
+        max,
+        has_norm,
+        norm,
+    );
 }
 
 // Where the part of the record stands that holds the radii; empty where the record is refused or withdrawn.
@@ -125,7 +142,7 @@ pub extern "C" fn foldrima_read_signs(
     tell_filled(packed_values::read_signs(bytes, out), number, place);
 }
 
-// How many bytes a record takes. Without signs the projections are ignored.
+// How many bytes a record takes. Without signs the projections are ignored; the value of a norm is not asked for.
 #[no_mangle]
 pub extern "C" fn foldrima_record_size(
     profile: u8,
@@ -133,14 +150,15 @@ pub extern "C" fn foldrima_record_size(
     bits: u8,
     mode: u8,
     projections: usize,
+    has_norm: u8,
     number: &mut u32,
     place: &mut usize,
     value: &mut usize,
 )
-    ensures answer { λ _. ⌜ said (now (number .exit)) (now (place .exit)) ≡ told (recordSizeOf (codeFrom profile dim bits mode projections)) ⌝ }
-    ensures left { λ _. ⌜ now (value .exit) ≡ after (recordSizeOf (codeFrom profile dim bits mode projections)) (now (value .entry)) ⌝ }
+    ensures answer { λ _. ⌜ said (now (number .exit)) (now (place .exit)) ≡ told (recordSizeOf (codeFrom profile dim bits mode projections «has_norm» (one false))) ⌝ }
+    ensures left { λ _. ⌜ now (value .exit) ≡ after (recordSizeOf (codeFrom profile dim bits mode projections «has_norm» (one false))) (now (value .entry)) ⌝ }
 {
-    let code = codes::code(profile, dim, bits, mode, projections);
+    let code = codes::code(profile, dim, bits, mode, projections, has_norm, 1.0);
     tell_length(packed_size::record_size(code), number, place, value);
 }
 
@@ -152,6 +170,8 @@ pub extern "C" fn foldrima_write_record(
     bits: u8,
     mode: u8,
     projections: usize,
+    has_norm: u8,
+    norm: f32,
     radii: &[f32],
     indices: &[u16],
     signs: &[i8],
@@ -159,10 +179,10 @@ pub extern "C" fn foldrima_write_record(
     number: &mut u32,
     place: &mut usize,
 )
-    ensures answer { λ _. ⌜ said (now (number .exit)) (now (place .exit)) ≡ told (done (writeRecordOf (codeFrom profile dim bits mode projections) (now (radii .entry)) (now (indices .entry)) (now (signs .entry)) (length (now (out .entry))))) ⌝ }
-    ensures left { λ _. ⌜ now (out .exit) ≡ after (writeRecordOf (codeFrom profile dim bits mode projections) (now (radii .entry)) (now (indices .entry)) (now (signs .entry)) (length (now (out .entry)))) (now (out .entry)) ⌝ }
+    ensures answer { λ _. ⌜ said (now (number .exit)) (now (place .exit)) ≡ told (done (writeRecordOf (codeFrom profile dim bits mode projections «has_norm» norm) (now (radii .entry)) (now (indices .entry)) (now (signs .entry)) (length (now (out .entry))))) ⌝ }
+    ensures left { λ _. ⌜ now (out .exit) ≡ after (writeRecordOf (codeFrom profile dim bits mode projections «has_norm» norm) (now (radii .entry)) (now (indices .entry)) (now (signs .entry)) (length (now (out .entry)))) (now (out .entry)) ⌝ }
 {
-    let code = codes::code(profile, dim, bits, mode, projections);
+    let code = codes::code(profile, dim, bits, mode, projections, has_norm, norm);
     tell(
         packed_writing::write_record(code, radii, indices, signs, out),
         number,

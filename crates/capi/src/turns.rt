@@ -111,16 +111,17 @@ pub extern "C" fn foldrima_sketch_score(
     matrix: &[f32],
     query: &[f32],
     sketch: &[i8],
+    norm: f32,
     number: &mut u32,
     place: &mut usize,
     value: &mut f32,
 )
-    ensures answer { λ _. ⌜ said (now (number .exit)) (now (place .exit)) ≡ told (sketchScoreOf (setupFrom mode dim bits projections) (lent (now (signs .entry)) (now (directions .entry)) (now (matrix .entry))) (now (query .entry)) (now (sketch .entry))) ⌝ }
-    ensures left { λ _. ⌜ now (value .exit) ≡ after (sketchScoreOf (setupFrom mode dim bits projections) (lent (now (signs .entry)) (now (directions .entry)) (now (matrix .entry))) (now (query .entry)) (now (sketch .entry))) (now (value .entry)) ⌝ }
+    ensures answer { λ _. ⌜ said (now (number .exit)) (now (place .exit)) ≡ told (sketchScoreOf (setupFrom mode dim bits projections) (lent (now (signs .entry)) (now (directions .entry)) (now (matrix .entry))) (now (query .entry)) (now (sketch .entry)) norm) ⌝ }
+    ensures left { λ _. ⌜ now (value .exit) ≡ after (sketchScoreOf (setupFrom mode dim bits projections) (lent (now (signs .entry)) (now (directions .entry)) (now (matrix .entry))) (now (query .entry)) (now (sketch .entry)) norm) (now (value .entry)) ⌝ }
 {
     let scalars = codes::setup(mode, dim, bits, projections);
     tell_score(
-        qjl::sketch_score(scalars, signs, directions, matrix, query, sketch),
+        qjl::sketch_score(scalars, signs, directions, matrix, query, sketch, norm),
         number,
         place,
         value,

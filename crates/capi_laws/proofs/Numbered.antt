@@ -18,6 +18,7 @@ use Rattle.bitpack.specs.Signs.{badSketchSign, packSignsOf, unpackSignsOf}
 use Rattle.codebook.specs.Codebook.{wrongBounds, wrongValue, uniformOf, levelsOf, quantizeOf, dequantizeMidpointOf}
 use Rattle.polar.specs.Angle.{dequantizeAngleOf}
 use Rattle.radius.specs.Codec.{badProfile, compressChecks, compressRangeOf, radiiFor, decompressChecks, decompressOf, encodedBytesOf}
+use Rattle.radius.specs.Radii.{wrongNorm}
 use Rattle.radius.specs.declared.Range.{Range}
 use Rattle.radius.specs.declared.RadiusCodecProfileV1.{RadiusCodecProfileV1}
 use Rattle.radius.specs.declared.RadiusCodecProfileV1.the-variants.{F32, BlockLinearU16, BlockLogU8}
@@ -31,7 +32,7 @@ use Rattle.setup.specs.Setups.{countedProjectionsOf}
 use Rattle.setup_tables.specs.Checks.{setupChecks}
 use Rattle.rounding.specs.Rows.{projected}
 use Rattle.qjl.specs.Sketch.{vectorChecks, sketchOf}
-use Rattle.qjl_residual.specs.Residual.{unitResidual}
+use Rattle.qjl_residual.specs.Residual.{residualOf}
 use Rattle.qjl.specs.Score.{signedChecks, signedScore, modeScore, sketchScoreOf}
 use Rattle.packed.specs.declared.Code.{Code}
 use Rattle.packed.specs.Layout.{pairsOf}
@@ -184,16 +185,16 @@ module _ (s : Setup) (l : Lent) where
   unfolding decodeApproximateOf
   decode-numbered bytes room = first-numbered (setupChecks s l) _ refl (unless-numbered bytes _ (chain (decodeChecks s bytes room) _ refl .0))
 
-mode-score-numbered : (mode : TurboMode) (n m : ℕ) (matrix query : List Float) (signs : List ℤ) → Plain (modeScore mode n m matrix query signs)
+mode-score-numbered : (mode : TurboMode) (n m : ℕ) (matrix query : List Float) (signs : List ℤ) (norm : Float) → Plain (modeScore mode n m matrix query signs norm)
 unfolding modeScore signedScore
-mode-score-numbered PolarOnly n m matrix query signs = chain (wrongInput (length signs) 0 ∷ []) _ refl
-mode-score-numbered PolarWithQjl n m matrix query signs =
-    chain (signedChecks m (projected n m matrix query) signs (unitResidual m (projected n m matrix query) signs)) _ refl
+mode-score-numbered PolarOnly n m matrix query signs norm = chain (wrongInput (length signs) 0 ∷ wrongNorm norm ∷ []) _ refl
+mode-score-numbered PolarWithQjl n m matrix query signs norm =
+    chain (signedChecks m (projected n m matrix query) signs norm (residualOf m norm (projected n m matrix query) signs)) _ refl
 
-pub sketch-score-numbered : (s : Setup) (l : Lent) (query : List Float) (sketch : List ℤ) → Plain (sketchScoreOf s l query sketch)
+pub sketch-score-numbered : (s : Setup) (l : Lent) (query : List Float) (sketch : List ℤ) (norm : Float) → Plain (sketchScoreOf s l query sketch norm)
 unfolding sketchScoreOf
-sketch-score-numbered s l query sketch =
-    first-plain (vectorChecks s l query) _ refl (mode-score-numbered (s .mode) (s .dim) (s .projections) (l .matrix) query sketch)
+sketch-score-numbered s l query sketch norm =
+    first-plain (vectorChecks s l query) _ refl (mode-score-numbered (s .mode) (s .dim) (s .projections) (l .matrix) query sketch norm)
 
 -- ---- record
 
@@ -207,7 +208,7 @@ unfolding writeRecordOf
 write-numbered code radii indices signs room =
     chain
     (fieldChecks code (length radii) (length indices) (length signs)
-    ++ valueChecks (code .profile) (code .bits) radii indices signs
+    ++ valueChecks (code .profile) (code .bits) (code .norm) radii indices signs
     ++ (wrongRoom room (neededFor code) ∷ []))
     _ refl
 

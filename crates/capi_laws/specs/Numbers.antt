@@ -65,7 +65,7 @@ pub record Numbers : Type 1 where
   pub apply-inverse : (n : ℕ) (signs xs : List Float) (room : ℕ) → TwoKinds (applyInverseOf n signs xs room)
   pub dequantize-angle : (bits index : ℕ) → TwoKinds (dequantizeAngleOf bits index)
   pub sketch : (s : Setup) (l : Lent) (vector : List Float) (room : ℕ) → TwoKinds (sketchOf s l vector room)
-  pub sketch-score : (s : Setup) (l : Lent) (query : List Float) (sketch : List ℤ) → TwoKinds (sketchScoreOf s l query sketch)
+  pub sketch-score : (s : Setup) (l : Lent) (query : List Float) (sketch : List ℤ) (norm : Float) → TwoKinds (sketchScoreOf s l query sketch norm)
   pub prepare-query : (s : Setup) (l : Lent) (query : List Float) (room space : ℕ) → TwoKinds (prepareRotatedOf s l query room space)
   pub compress : (radii : List Float) (profile : RadiusCodecProfileV1) (room : ℕ) → TwoKinds (compressRangeOf radii profile room)
   pub decompress : (profile : RadiusCodecProfileV1) (count : ℕ) (range : Range) (payload : List ℕ) (room : ℕ) → TwoKinds (decompressOf profile count range payload room)

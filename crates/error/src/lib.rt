@@ -7,7 +7,7 @@ ghost use Rattle.error.specs.Checks.{badValue, firstNonFiniteOf, finiteS
 ghost use Rattle.error.specs.Outcomes.{says, saysFilled, saysScore};
 ghost use Rattle.error.specs.Answer.{clear};
 
-// The refusal numbers of document 01. A name is the Rust's where it has one.
+// The refusal numbers of documents 01 and 02. A name is the Rust's where it has one.
 
 // Bits outside 1..16, or total bits below 2 in residual mode. Place: the bits.
 pub const INVALID_BIT_WIDTH: u32 = 1;
@@ -43,12 +43,14 @@ pub const MALFORMED_INDEX: u32 = 15;
 pub const MALFORMED_RADIUS: u32 = 16;
 // A bound not finite, or min above max; for a codebook also min equal to max. Place 0.
 pub const MALFORMED_RANGE: u32 = 17;
-// A map bit not defined, or profile BlockLogU8. Place: the map byte, or 0.
+// A map bit not defined, or a norm's bit without that of signs, or profile BlockLogU8, or a norm given without signs. Place: the map byte, or 0.
 pub const UNDEFINED_PROFILE: u32 = 18;
 // Count times bits exceeds the largest usize. Place 0.
 pub const LENGTH_OVERFLOW: u32 = 19;
 // A record's bits or projections are not the setup's. Place 0.
 pub const PROFILE_MISMATCH: u32 = 20;
+// A source norm is not finite or below zero. Place 0.
+pub const MALFORMED_NORM: u32 = 23;
 
 // What a call answers whose result, if any, stands in lent memory.
 pub enum Outcome {

@@ -2,7 +2,7 @@
 -- the bytes hold. Assumes nothing.
 use Prim.Native.Nat.{ℕ, _%_, _≤_, _<_}
 use mathlib.Core.Path.{_≡_, refl, sym, _∙_}
-use mathlib.Core.Bool.{Bool, true, false, cond, true≢false}
+use mathlib.Core.Bool.{Bool, true, false, cond, not, _&&_, true≢false}
 use mathlib.Core.List.{List}
 use native.Mathlib.Omega.{arith}
 use borrow.Author.Tests.{le-ltb, ltb-false, eq-eqb, eqb-true, ne-eqb, eqb-false, not-false}
@@ -19,7 +19,7 @@ use Rattle.radius.specs.declared.RadiusCodecProfileV1.the-variants.{F32, BlockL
 use Rattle.setup.specs.declared.TurboMode.the-variants.{PolarOnly, PolarWithQjl}
 use Rattle.packed.specs.declared.Header.{Header}
 use Rattle.radius.specs.Radii.{badRadius}
-use Rattle.packed.specs.Fields.{mapOf, hasRange, hasSigns, dimOf, bitsOf, boundsOf, projectionsOf}
+use Rattle.packed.specs.Fields.{mapOf, hasRange, hasSigns, hasNorm, dimOf, bitsOf, boundsOf, projectionsOf}
 use Rattle.packed.specs.Layout.{headerLength, recordLength, headerOf}
 use Rattle.packed.specs.Radii.{badBounds, badBoundsFor}
 use Rattle.packed.specs.Reading.{radiiOf, badPolarBits, isWithdrawn, recordChecks, readRecordOf}
@@ -28,6 +28,15 @@ use Rattle.packed.specs.Accepted.{Accepted}
 use Rattle.packed.proofs.Withdrawn.{some-bytes, unless-some, read-passed}
 
 -- ---- the checks that depend on a bit of the map byte, both ways
+
+beside-told : (n s : Bool) → n && not s ≡ false → n ≡ true → s ≡ true
+beside-told true true e t = refl
+beside-told true false e t = absurd (true≢false e)
+beside-told false s e t = absurd (true≢false (sym t))
+
+beside-pass : (n s : Bool) → (n ≡ true → s ≡ true) → n && not s ≡ false
+beside-pass true s h = rw (h refl)
+beside-pass false s h = refl
 
 bits-told : (t : Bool) (b : ℕ) → badPolarBits (cond t PolarWithQjl PolarOnly) b ≡ false → (1 ≤ b) × ((b ≤ 16) × (t ≡ true → b ≤ 15))
 bits-told true b e =
@@ -69,13 +78,15 @@ module _ (bytes : List ℕ) {header : Header} (read : readRecordOf bytes ≡ val
   pub read-accepts : Accepted bytes
   read-accepts =
       let all = first-all (recordChecks bytes) (value (headerOf bytes)) (read-passed bytes read .1) in
+      let defined = or-false _ _ (all .1 .0) in
       let powers = or-false _ _ (all .1 .1 .1 .1 .0) in
       let above = eqb-false (dimOf bytes) 0 (all .1 .1 .0) in
       let even = eqb-false (dimOf bytes % 2) 1 (all .1 .1 .1 .0) in
       let bits = bits-told (hasSigns (mapOf bytes)) (bitsOf bytes) (all .1 .1 .1 .1 .1 .0) in
       record {
         long = ltb-false (length bytes) 6 (all .0);
-        map = ltb-false 3 (mapOf bytes) (all .1 .0);
+        map = ltb-false 7 (mapOf bytes) (defined .0);
+        norm-beside = beside-told (hasNorm (mapOf bytes)) (hasSigns (mapOf bytes)) (defined .1);
         above = omega (arith, above);
         even = omega (arith, even);
         one-bit = eqb-true (ones (dimOf bytes)) 1 (not-false _ (powers .0));
@@ -87,9 +98,10 @@ module _ (bytes : List ℕ) {header : Header} (read : readRecordOf bytes ≡ val
         projections = projections-told (hasSigns (mapOf bytes)) (projectionsOf bytes) (all .1 .1 .1 .1 .1 .1 .1 .0);
         total = differs-same (length bytes) (recordLength bytes) (all .1 .1 .1 .1 .1 .1 .1 .1 .0);
         bounds = bounds-told (hasRange (mapOf bytes)) (boundsOf bytes) (all .1 .1 .1 .1 .1 .1 .1 .1 .1 .0);
-        radii = each-clear badRadius (radiiOf bytes) nan (all .1 .1 .1 .1 .1 .1 .1 .1 .1 .1 .0);
-        indices = all .1 .1 .1 .1 .1 .1 .1 .1 .1 .1 .1 .0;
-        signs = all .1 .1 .1 .1 .1 .1 .1 .1 .1 .1 .1 .1 .0;
+        norm = all .1 .1 .1 .1 .1 .1 .1 .1 .1 .1 .0;
+        radii = each-clear badRadius (radiiOf bytes) nan (all .1 .1 .1 .1 .1 .1 .1 .1 .1 .1 .1 .0);
+        indices = all .1 .1 .1 .1 .1 .1 .1 .1 .1 .1 .1 .1 .0;
+        signs = all .1 .1 .1 .1 .1 .1 .1 .1 .1 .1 .1 .1 .1 .0;
       }
 
   -- and the header is the one that the bytes hold
@@ -108,7 +120,7 @@ accepted-reads bytes a =
     ∙ first-accepts (recordChecks bytes) (value (headerOf bytes)) (
       le-ltb (length bytes) 6 (a .long),
       (
-        le-ltb 3 (mapOf bytes) (a .map),
+        rw (le-ltb 7 (mapOf bytes) (a .map)) (beside-pass (hasNorm (mapOf bytes)) (hasSigns (mapOf bytes)) (a .norm-beside)),
         (
           ne-eqb (dimOf bytes) 0 (λ z. omega (arith, z, a .above)),
           (
@@ -126,10 +138,13 @@ accepted-reads bytes a =
                       (
                         bounds-pass (hasRange (mapOf bytes)) (boundsOf bytes) (a .bounds),
                         (
-                          each-none badRadius (radiiOf bytes) nan (a .radii),
+                          a .norm,
                           (
-                            a .indices,
-                            (a .signs, tt),
+                            each-none badRadius (radiiOf bytes) nan (a .radii),
+                            (
+                              a .indices,
+                              (a .signs, tt),
+                            ),
                           ),
                         ),
                       ),

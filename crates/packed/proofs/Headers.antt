@@ -21,7 +21,7 @@ use Rattle.setup.specs.declared.TurboMode.the-variants.{PolarOnly, PolarWithQjl
 use Rattle.setup.specs.Setups.{byMode}
 use Rattle.packed.specs.Fields.{mapOf, hasSigns, modeOf, wordAt, floatAt, projectionsStart, dimOf, bitsOf, projectionsOf}
 use Rattle.packed.specs.Layout.{headerLength}
-use Rattle.packed.specs.Reading.{wrongSize, badRecordDimension, badPolarBits, shapeChecks, headerChecks}
+use Rattle.packed.specs.Reading.{wrongSize, badMap, badRecordDimension, badPolarBits, shapeChecks, headerChecks}
 use Rattle.setup.specs.Checks.{badProjections}
 
 -- ---- a field of four bytes, read byte by byte
@@ -37,7 +37,7 @@ module _ (bytes : List ℕ) (at : ℕ) (h : at + 4 ≤ length bytes) where
 
 pub record HeaderUsable (bytes : List ℕ) : Type 0 where
   pub long : 6 ≤ length bytes
-  pub map : mapOf bytes ≤ 3
+  pub map : badMap (mapOf bytes) ≡ false
   pub above : dimOf bytes ≡ 0 → ⊥
   pub even : dimOf bytes % 2 ≡ 1 → ⊥
   pub power : ones (dimOf bytes) ≡ 1
@@ -54,7 +54,7 @@ header-usable bytes a e =
     let bits = or-false _ _ (all .1 .1 .1 .1 .1 .0) in
     record {
       long = ltb-false (length bytes) 6 (all .0);
-      map = ltb-false 3 (mapOf bytes) (all .1 .0);
+      map = all .1 .0;
       above = eqb-false (dimOf bytes) 0 (all .1 .1 .0);
       even = eqb-false (dimOf bytes % 2) 1 (all .1 .1 .1 .0);
       power = eqb-true (ones (dimOf bytes)) 1 (not-false _ (powers .0));
@@ -87,7 +87,7 @@ product-most a b m n h k = mul-le-mul h k
 
 -- ---- the checks of dimension and bits, and the check behind them
 
-module _ {A : Type 0} (bytes : List ℕ) (a : Answer A) (long : ltb (length bytes) 6 ≡ false) (map : ltb 3 (mapOf bytes) ≡ false) where
+module _ {A : Type 0} (bytes : List ℕ) (a : Answer A) (long : ltb (length bytes) 6 ≡ false) (map : badMap (mapOf bytes) ≡ false) where
   pub header-shape : {n p : ℕ} → first (shapeChecks (modeOf (mapOf bytes)) (dimOf bytes) (bitsOf bytes)) accepted ≡ refused n p → first (headerChecks bytes) a ≡ refused n p
   header-shape e = rw (long, map) (append-refused (shapeChecks (modeOf (mapOf bytes)) (dimOf bytes) (bitsOf bytes)) (wrongSize (ltb (length bytes) (headerLength (mapOf bytes))) bytes ∷ check (badProjections (modeOf (mapOf bytes)) (projectionsOf bytes)) 8 (projectionsOf bytes) ∷ []) tt a e)
 
@@ -98,7 +98,7 @@ module _ {A : Type 0} (bytes : List ℕ) (a : Answer A) (long : ltb (length byte
 
 pub record HeaderPassed (bytes : List ℕ) : Type 0 where
   pub long : ltb (length bytes) 6 ≡ false
-  pub map : ltb 3 (mapOf bytes) ≡ false
+  pub map : badMap (mapOf bytes) ≡ false
   pub above : eqb (dimOf bytes) 0 ≡ false
   pub even : eqb (dimOf bytes % 2) 1 ≡ false
   pub power : badRecordDimension (dimOf bytes) ≡ false

@@ -8,7 +8,7 @@ use lib.Seq.{length-take-le}
 use Rattle.error.specs.Answer.{place}
 use Rattle.radius.specs.Codec.{widthOf, radiiFor}
 use Rattle.radius.specs.Radii.{badRadius}
-use Rattle.packed.specs.Fields.{mapOf, profileOf, boundsOf, projectionsOf}
+use Rattle.packed.specs.Fields.{mapOf, profileOf, boundsOf, projectionsOf, normOf}
 use Rattle.packed.specs.Radii.{badBoundsFor}
 use Rattle.packed.specs.Reading.{radiiOf}
 use Rattle.packed.specs.Layout.{pairsOf, indicesUsed, radiiStart, radiiLength, indicesStart, indicesLength, signsStart, signsLength, recordLength, partAt, radiiBytes, indicesBytes, signsBytes, headerOf}
@@ -80,6 +80,10 @@ module _ (bytes : List ℕ) {header : Header} (is : header ≡ headerOf bytes) w
   pub header-bounds : badBoundsFor (header .profile) (header .range) ≡ badBoundsFor (profileOf (mapOf bytes)) (boundsOf bytes)
   unfolding headerOf
   header-bounds = ap (λ (h : Header). badBoundsFor (h .profile) (h .range)) is
+
+  pub header-norm : header .norm ≡ normOf bytes
+  unfolding headerOf
+  header-norm = ap (λ (h : Header). h .norm) is
 
   pub header-width : widthOf (header .profile) * (header .dim / 2) ≡ radiiLength bytes
   unfolding headerOf

@@ -1,4 +1,4 @@
--- What the checks of the whole length, the range and the payloads answer, case by case, as the code comes to them. Assumes nothing.
+-- What the checks of the whole length, the range, the norm and the payloads answer, case by case, as the code comes to them. Assumes nothing.
 use Prim.Native.Nat.{ℕ, _≤_, _<_}
 use mathlib.Core.Path.{_≡_, sym, _∙_}
 use mathlib.Core.Bool.{Bool, true, false, cond}
@@ -15,7 +15,7 @@ use Rattle.radius.specs.declared.Range.{Range}
 use Rattle.radius.specs.declared.RadiusCodecProfileV1.the-variants.{F32, BlockLinearU16}
 use Rattle.lists.proofs.Chunks.{length-chunks}
 use Rattle.radius.specs.Radii.{badRadius}
-use Rattle.packed.specs.Fields.{mapOf, hasRange, profileOf, boundsOf, projectionsOf}
+use Rattle.packed.specs.Fields.{mapOf, hasRange, profileOf, boundsOf, projectionsOf, normOf}
 use Rattle.packed.specs.Layout.{pairsOf, indicesUsed, recordLength, radiiBytes, indicesBytes, signsBytes}
 use Rattle.packed.specs.Radii.{badBoundsFor}
 use Rattle.packed.specs.Reading.{radiiOf, paddingChecks, payloadChecks}
@@ -43,12 +43,16 @@ module _ (bytes : List ℕ) where
     pub payload-bounds : badBoundsFor (profileOf (mapOf bytes)) (boundsOf bytes) ≡ true → first (payloadChecks bytes) accepted ≡ refused 17 0
     payload-bounds h = simp (eq-eqb _ _ sized, h)
 
-    module _ (bounds : badBoundsFor (profileOf (mapOf bytes)) (boundsOf bytes) ≡ false) {bad : ℕ} (found : bad ≡ place badRadius (radiiOf bytes)) where
-      pub payload-radius : bad < pairsOf bytes → first (payloadChecks bytes) accepted ≡ refused 16 bad
-      payload-radius h = rw (eq-eqb _ _ sized, bounds, ← found, length-radiiOf, lt-ltb _ _ h)
+    module _ (bounds : badBoundsFor (profileOf (mapOf bytes)) (boundsOf bytes) ≡ false) where
+      pub payload-norm : badRadius (normOf bytes) ≡ true → first (payloadChecks bytes) accepted ≡ refused 23 0
+      payload-norm h = simp (eq-eqb _ _ sized, bounds, h)
 
-      pub payload-rest : pairsOf bytes ≤ bad → first (payloadChecks bytes) accepted ≡ first (paddingChecks bytes) accepted
-      payload-rest all = rw (eq-eqb _ _ sized, bounds, ← found, length-radiiOf, le-ltb _ _ all)
+      module _ (norm : badRadius (normOf bytes) ≡ false) {bad : ℕ} (found : bad ≡ place badRadius (radiiOf bytes)) where
+        pub payload-radius : bad < pairsOf bytes → first (payloadChecks bytes) accepted ≡ refused 16 bad
+        payload-radius h = rw (eq-eqb _ _ sized, bounds, norm, ← found, length-radiiOf, lt-ltb _ _ h)
+
+        pub payload-rest : pairsOf bytes ≤ bad → first (payloadChecks bytes) accepted ≡ first (paddingChecks bytes) accepted
+        payload-rest all = rw (eq-eqb _ _ sized, bounds, norm, ← found, length-radiiOf, le-ltb _ _ all)
 
     -- ---- the padding
 

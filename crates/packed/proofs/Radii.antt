@@ -1,4 +1,4 @@
--- What scoring needs of the values that an accepted record holds: every radius as read is finite, no NaN, not below zero and an f32.
+-- What scoring needs of the values that an accepted record holds: every radius as read is finite, no NaN, not below zero and an f32, and the norm is an f32.
 -- Every index is below 2^bits, and every sign is −1 or 1. Assumes nothing.
 use Prim.Native.Nat.{ℕ, _^_, _<_}
 use mathlib.Core.Path.{_≡_, sym, _∙_, subst}
@@ -17,14 +17,14 @@ use Rattle.digits.specs.Digits.{number, digits}
 use Rattle.digits.proofs.Laws.{Below, length-digits, digits-below}
 use Rattle.bitpack.specs.Signs.{signOfBit, badSketchSign}
 use Rattle.bitpack.proofs.RoundTrip.{bits-good}
-use Rattle.float.specs.Constants.{posZero}
+use Rattle.float.specs.Constants.{posZero, one}
 use Rattle.radius.proofs.Radii.{radius-finite, radius-not-nan, radius-not-below}
 use Rattle.radius.specs.Codec.{radiiFor}
 use Rattle.radius.specs.Linear.{radiusOf, linearRadius}
 use Rattle.radius.specs.declared.Range.{Range}
 use Rattle.radius.specs.declared.RadiusCodecProfileV1.the-variants.{F32, BlockLinearU16}
 use Rattle.lists.proofs.Chunks.{chunks-getD, length-chunks}
-use Rattle.packed.specs.Fields.{mapOf, hasRange, bitsOf, boundsOf, projectionsOf}
+use Rattle.packed.specs.Fields.{mapOf, hasRange, hasNorm, floatAt, bitsOf, boundsOf, projectionsOf, normStart, normOf}
 use Rattle.packed.specs.Layout.{pairsOf, radiiBytes, indicesBytes, signsBytes}
 use Rattle.packed.specs.Reading.{radiiOf, indicesOf, signsOf}
 use Rattle.packed.specs.Accepted.{Accepted}
@@ -52,6 +52,15 @@ either-fits false count range payload i h =
 pub radii-fit : (bytes : List ℕ) (i : ℕ) → i < length (radiiOf bytes) → T (fits binary32 (getD (radiiOf bytes) i nan))
 unfolding radiiOf
 radii-fit bytes i h = either-fits (hasRange (mapOf bytes)) (pairsOf bytes) (boundsOf bytes) (radiiBytes bytes) i h
+
+-- and so is the norm
+pub norm-fits : (bytes : List ℕ) → T (fits binary32 (normOf bytes))
+unfolding normOf ofLeBytes fits
+norm-fits bytes = either (hasNorm (mapOf bytes))
+  where
+    either : (t : Bool) → T (fits binary32 (cond t (floatAt bytes (normStart (mapOf bytes))) (one false)))
+    either true = ofBits-fits binary32 _
+    either false = tt
 
 -- ---- indices and signs
 

@@ -1,4 +1,4 @@
--- A record is accepted where each of document 01's conditions on reading holds, and no other is asked. Each quotation names what is refused, and the field below it
+-- A record is accepted where each of the documents' conditions on reading holds, and no other is asked. Each quotation names what is refused, and the field below it
 -- says that this is not so. Assumes nothing.
 use Prim.Native.Nat.{ℕ, _%_, _≤_, _<_}
 use mathlib.Core.Path.{_≡_}
@@ -9,7 +9,7 @@ use lib.ListN.{length, getD}
 use lib.Ieee.{nan}
 use Rattle.bitpack.specs.Padding.{badPadding}
 use Rattle.radius.specs.Radii.{badRadius}
-use Rattle.packed.specs.Fields.{mapOf, hasRange, hasSigns, dimOf, bitsOf, boundsOf, projectionsOf}
+use Rattle.packed.specs.Fields.{mapOf, hasRange, hasSigns, hasNorm, dimOf, bitsOf, boundsOf, projectionsOf, normOf}
 use Rattle.packed.specs.Layout.{headerLength, indicesUsed, recordLength, indicesBytes, signsBytes}
 use Rattle.packed.specs.Radii.{badBounds}
 use Rattle.packed.specs.Reading.{radiiOf}
@@ -17,8 +17,9 @@ use Rattle.packed.specs.Reading.{radiiOf}
 pub record Accepted (bytes : List ℕ) : Type 0 where
   -- 'under six bytes 13'.
   pub long : 6 ≤ length bytes
-  -- '18: a map bit not defined': no bit stands but 0 and 1.
-  pub map : mapOf bytes ≤ 3
+  -- '18: a map bit not defined': no bit stands but 0, 1 and 2; of bit 2 'it may stand only beside bit 1'.
+  pub map : mapOf bytes ≤ 7
+  pub norm-beside : hasNorm (mapOf bytes) ≡ true → hasSigns (mapOf bytes) ≡ true
   -- '2: dimension 0'.
   pub above : 0 < dimOf bytes
   -- '3: odd dimension'.
@@ -38,6 +39,8 @@ pub record Accepted (bytes : List ℕ) : Type 0 where
   pub total : length bytes ≡ recordLength bytes
   -- '17 if a bound is not finite, below zero, or min above max (−0.0 is zero)'.
   pub bounds : hasRange (mapOf bytes) ≡ true → badBounds (boundsOf bytes) ≡ false
+  -- '23 when the norm is not finite or below zero'; without one it is 1.0, which is neither.
+  pub norm : badRadius (normOf bytes) ≡ false
   -- '16: a radius is NaN, infinite or below zero', as it is read.
   pub radii : (i : ℕ) → i < length (radiiOf bytes) → badRadius (getD (radiiOf bytes) i nan) ≡ false
   -- '14 for indices; 14 for signs'.

@@ -1,13 +1,14 @@
 -- Each field of a record is told by the bytes that hold it. Document 01: 'Map byte, dimension u32, polar bits u8; if bit 0 stands, min and max as f32; if bit 1
--- stands, projections u32; .. All little-endian.' Assumes nothing.
+-- stands, projections u32; .. All little-endian.' Document 02: 'Map bit 2 stands for an f32 norm after the projections'. Assumes nothing.
 use Prim.Native.Nat.{ℕ, _+_, _*_, _/_, _%_}
-use mathlib.Core.Bool.{Bool, cond}
+use mathlib.Core.Bool.{Bool, false, cond}
 use mathlib.Core.List.{List}
 use lib.Dec.{eqb}
 use lib.ListN.{getD, take, drop}
 use lib.Ieee.{Float}
 use Rattle.digits.specs.Digits.{number}
 use Rattle.float.specs.Bytes.{ofLeBytes}
+use Rattle.float.specs.Constants.{one}
 use Rattle.radius.specs.Radii.{noRange}
 use Rattle.radius.specs.declared.Range.{Range}
 use Rattle.radius.specs.declared.RadiusCodecProfileV1.{RadiusCodecProfileV1}
@@ -28,11 +29,18 @@ rangeBit map = map % 2
 abbrev pub signsBit : ℕ → ℕ
 signsBit map = map / 2 % 2
 
+-- Bit 2 stands where the residual's norm stands in the header.
+abbrev pub normBit : ℕ → ℕ
+normBit map = map / 4 % 2
+
 abbrev pub hasRange : ℕ → Bool
 hasRange map = eqb (rangeBit map) 1
 
 abbrev pub hasSigns : ℕ → Bool
 hasSigns map = eqb (signsBit map) 1
+
+abbrev pub hasNorm : ℕ → Bool
+hasNorm map = eqb (normBit map) 1
 
 -- This is the profile that the map byte tells: 'radii (linear if bit 0, else F32)'.
 abbrev pub profileOf : ℕ → RadiusCodecProfileV1
@@ -69,3 +77,11 @@ projectionsStart map = 6 + 8 * rangeBit map
 -- These are the projections; without signs they count as 0.
 unfoldable pub projectionsOf : List ℕ → ℕ
 projectionsOf bytes = cond (hasSigns (mapOf bytes)) (wordAt bytes (projectionsStart (mapOf bytes))) 0
+
+-- The norm starts at this byte, behind the projections if there are some.
+abbrev pub normStart : ℕ → ℕ
+normStart map = projectionsStart map + 4 * signsBit map
+
+-- This is the norm; 'without it the norm is 1.0'.
+unfoldable pub normOf : List ℕ → Float
+normOf bytes = cond (hasNorm (mapOf bytes)) (floatAt bytes (normStart (mapOf bytes))) (one false)

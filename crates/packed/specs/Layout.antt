@@ -5,12 +5,13 @@ use mathlib.Core.List.{List}
 use lib.ListN.{take, drop}
 use Rattle.bitpack.specs.Padding.{bytesFor}
 use Rattle.radius.specs.Codec.{widthOf}
-use Rattle.packed.specs.Fields.{mapOf, rangeBit, signsBit, profileOf, modeOf, dimOf, bitsOf, boundsOf, projectionsOf}
+use Rattle.packed.specs.Fields.{mapOf, rangeBit, signsBit, normBit, hasNorm, profileOf, modeOf, dimOf, bitsOf, boundsOf, projectionsOf, normOf}
 use Rattle.packed.specs.declared.Header.{Header}
 
--- Every header has six bytes, eight more of the range if bit 0 stands, and four more of the projections if bit 1 stands; no other bit counts.
+-- Every header has six bytes, eight more of the range if bit 0 stands, four more of the projections if bit 1 stands, and four more of the norm if bit 2 stands; no
+-- other bit counts.
 abbrev pub headerLength : ℕ → ℕ
-headerLength map = 6 + 8 * rangeBit map + 4 * signsBit map
+headerLength map = 6 + 8 * rangeBit map + 4 * signsBit map + 4 * normBit map
 
 -- This is how many pairs of coordinates there are; each has a radius and an index.
 abbrev pub pairsOf : List ℕ → ℕ
@@ -66,6 +67,8 @@ headerOf bytes = record {
   bits = bitsOf bytes;
   projections = projectionsOf bytes;
   range = boundsOf bytes;
+  «has_norm» = hasNorm (mapOf bytes);
+  norm = normOf bytes;
   «radii_start» = radiiStart bytes;
   «indices_start» = indicesStart bytes;
   «signs_start» = signsStart bytes;

@@ -1,8 +1,9 @@
 -- This is the reader: its checks in document 01's order, its answer, and the values that an accepted record holds. 'Reading checks, in order: under six bytes 13;
 -- 18; 2; 3; 4; 1 (16 is refused beside bit 1); header cut short 13; 8; total length 13; 17 ..; 16; 14 for indices; 14 for signs.' Before them stands document 02's
--- request b): 'A record of no bytes now means a withdrawn position. Reading it answers withdrawn'. Assumes nothing.
+-- request b): 'A record of no bytes now means a withdrawn position. Reading it answers withdrawn'. Its request c) adds '23 when the norm is not finite or below zero,
+-- checked after 17'. Assumes nothing.
 use Prim.Native.Nat.{ℕ}
-use mathlib.Core.Bool.{Bool, cond, not, _||_}
+use mathlib.Core.Bool.{Bool, cond, not, _||_, _&&_}
 use mathlib.Core.List.{List, [], _∷_, _++_, map}
 use lib.Count.{ones}
 use lib.Dec.{ltb, eqb}
@@ -15,12 +16,12 @@ use Rattle.error.specs.Checks.{differs, wrongRoom}
 use Rattle.bitpack.specs.Packing.{indicesIn}
 use Rattle.bitpack.specs.Signs.{signsIn}
 use Rattle.radius.specs.Codec.{radiiFor}
-use Rattle.radius.specs.Radii.{badRadius}
+use Rattle.radius.specs.Radii.{badRadius, wrongNorm}
 use Rattle.rotation.specs.Checks.{wrongZeroDimension, wrongOddDimension}
 use Rattle.setup.specs.declared.TurboMode.{TurboMode}
 use Rattle.setup.specs.Checks.{wrongProjections}
 use Rattle.setup.specs.Setups.{byMode}
-use Rattle.packed.specs.Fields.{mapOf, profileOf, modeOf, dimOf, bitsOf, boundsOf, projectionsOf}
+use Rattle.packed.specs.Fields.{mapOf, hasSigns, hasNorm, profileOf, modeOf, dimOf, bitsOf, boundsOf, projectionsOf, normOf}
 use Rattle.packed.specs.Layout.{headerLength, pairsOf, indicesUsed, recordLength, radiiBytes, indicesBytes, signsBytes, headerOf}
 use Rattle.packed.specs.Radii.{badBoundsFor}
 use Rattle.packed.specs.declared.Header.{Header}
@@ -62,9 +63,9 @@ signsOf bytes = signsIn (projectionsOf bytes) (signsBytes bytes)
 abbrev pub wrongSize : Bool → List ℕ → Check
 wrongSize bad bytes = check bad 13 (length bytes)
 
--- 'a map bit not defined': a bit other than 0 and 1 stands.
+-- 'a map bit not defined': a bit other than 0, 1 and 2 stands. Document 02 of bit 2: 'it may stand only beside bit 1, else 18'.
 abbrev pub badMap : ℕ → Bool
-badMap map = ltb 3 map
+badMap map = ltb 7 map || (hasNorm map && not (hasSigns map))
 
 -- '18: .. Place: the map byte'.
 abbrev pub wrongMap : List ℕ → Check
@@ -86,7 +87,7 @@ wrongRecordDimension dim = check (badRecordDimension dim) 4 dim
 abbrev pub shapeChecks : TurboMode → ℕ → ℕ → List Check
 shapeChecks mode dim bits = wrongZeroDimension dim ∷ wrongOddDimension dim ∷ wrongRecordDimension dim ∷ check (badPolarBits mode bits) 1 bits ∷ []
 
--- These are the checks of the header up to its projections.
+-- These are the checks of the header's length, of its map byte and of its fields but the range and the norm.
 abbrev pub headerChecks : List ℕ → List Check
 headerChecks bytes =
     wrongSize (ltb (length bytes) 6) bytes
@@ -100,12 +101,13 @@ headerChecks bytes =
 abbrev pub paddingChecks : List ℕ → List Check
 paddingChecks bytes = wrongPadding (indicesBytes bytes) (indicesUsed bytes) ∷ wrongPadding (signsBytes bytes) (projectionsOf bytes) ∷ []
 
--- These are the checks of the whole length, the range and the payloads. '16: a radius is NaN, infinite or below zero' is asked of a radius as it is read: 'A linear
--- radius that reads as infinite is 16'.
+-- These are the checks of the whole length, the range, the norm and the payloads. '16: a radius is NaN, infinite or below zero' is asked of a radius as it is read:
+-- 'A linear radius that reads as infinite is 16'.
 abbrev pub payloadChecks : List ℕ → List Check
 payloadChecks bytes =
     wrongSize (differs (length bytes) (recordLength bytes)) bytes
     ∷ check (badBoundsFor (profileOf (mapOf bytes)) (boundsOf bytes)) 17 0
+    ∷ wrongNorm (normOf bytes)
     ∷ each badRadius 16 (radiiOf bytes)
     ∷ paddingChecks bytes
 

@@ -2,6 +2,7 @@
 // is this port's own, payloads are parts of the record's own bytes, outputs are lent, refusals are numbers, and a record of no bytes is withdrawn.
 use error::INVALID_BIT_WIDTH;
 use error::MALFORMED_LENGTH;
+use error::MALFORMED_NORM;
 use error::MALFORMED_RADIUS;
 use error::MALFORMED_RANGE;
 use error::ODD_DIMENSION;
@@ -21,11 +22,17 @@ ghost use Rattle.error.specs.Outcomes.{says};
 ghost use Rattle.digits.specs.Digits.{number};
 ghost use Rattle.digits.specs.Inner.{fourAt};
 ghost use Rattle.float.specs.Bytes.{ofLeBytes};
-ghost use Rattle.packed.specs.Fields.{mapOf, profileOf, modeOf, boundsOf, projectionsOf};
+ghost use Rattle.packed.specs.Fields.{mapOf, hasNorm, profileOf, modeOf, boundsOf, projectionsOf, normOf};
 ghost use Rattle.packed.specs.Layout.{headerLength, headerOf};
 ghost use Rattle.packed.specs.Radii.{badBounds, badBoundsFor};
-ghost use Rattle.packed.specs.Reading.{saysReading, badRecordDimension, badPolarBits, shapeChecks, headerChecks, paddingChecks, payloadChecks, readRecordOf};
+ghost use Rattle.packed.specs.Reading.{saysReading, badMap, badRecordDimension, badPolarBits, shapeChecks, headerChecks, paddingChecks, payloadChecks, readRecordOf};
 ghost use Rattle.packed.specs.Inner.{Whole};
+
+// The norm that a record is written with: none, or one that is stored.
+pub enum SourceNorm {
+    Absent,
+    Given(f32),
+}
 
 // The scalars that a record is written with. Without signs the projections are ignored.
 pub struct Code {
@@ -34,9 +41,11 @@ pub struct Code {
     pub dim: usize,
     pub bits: u8,
     pub projections: usize,
+    pub norm: SourceNorm,
 }
 
-// What a record says before its payloads, and where these start in its bytes: each goes on to where the next one starts, the signs to `end`.
+// What a record says before its payloads, and where these start in its bytes: each goes on to where the next one starts, the signs to `end`. Where
+// no norm stands it is 1.0.
 pub struct Header {
     pub mode: TurboMode,
     pub profile: RadiusCodecProfileV1,
@@ -44,6 +53,8 @@ pub struct Header {
     pub bits: u8,
     pub projections: usize,
     pub range: Range,
+    pub has_norm: bool,
+    pub norm: f32,
     pub radii_start: usize,
     pub indices_start: usize,
     pub signs_start: usize,
@@ -105,14 +116,14 @@ pub fn check_shape(mode: TurboMode, dim: usize, bits: u8) -> Outcome
     Outcome::Done
 }
 
-// The header's length, by bits 0 and 1 of the map byte; the other bits are not looked at.
+// The header's length, by bits 0, 1 and 2 of the map byte; the other bits are not looked at.
 pub fn header_length(map: u8) -> usize
     ensures { λ r. ⌜ r ≡ headerLength map ⌝ }
 {
-    6 + 8 * (map % 2) as usize + 4 * (map / 2 % 2) as usize
+    6 + 8 * (map % 2) as usize + 4 * (map / 2 % 2) as usize + 4 * (map / 4 % 2) as usize
 }
 
-// The checks of the header up to its projections.
+// The checks of the header but for its range and its norm.
 fn check_header(bytes: &[u8]) -> Outcome
     ensures { λ r. ⌜ says r ≡ first (headerChecks (now (bytes .entry))) accepted ⌝ }
 {
@@ -123,7 +134,7 @@ fn check_header(bytes: &[u8]) -> Outcome
         };
     }
     let map = bytes[0];
-    if 3 < map {
+    if outside_map(map) {
         return Outcome::Refused {
             number: UNDEFINED_PROFILE,
             place: map as usize,
@@ -168,6 +179,8 @@ fn header_of(bytes: &[u8]) -> Header
     let end = signs + (projections + 7) / 8;
     let mode = mode_of(map);
     let range = bounds_of(bytes);
+    let has_norm = norm_stands(map);
+    let norm = norm_of(bytes);
     Header {
         mode,
         profile,
@@ -175,6 +188,8 @@ fn header_of(bytes: &[u8]) -> Header
         bits,
         projections,
         range,
+        has_norm,
+        norm,
         radii_start: radii,
         indices_start: indices,
         signs_start: signs,
@@ -182,7 +197,7 @@ fn header_of(bytes: &[u8]) -> Header
     }
 }
 
-// The checks of the whole length, the range and the payloads.
+// The checks of the whole length, the range, the norm and the payloads.
 fn check_payloads(bytes: &[u8], header: Header) -> Outcome
     requires { ⌜ (header ≡ headerOf (now bytes)) × (first (headerChecks (now bytes)) accepted ≡ accepted) ⌝ }
     ensures { λ r. ⌜ says r ≡ first (payloadChecks (now (bytes .entry))) accepted ⌝ }
@@ -197,9 +212,17 @@ fn check_payloads(bytes: &[u8], header: Header) -> Outcome
     }
     let profile = header.profile;
     let range = header.range;
-    if bad_bounds_for(profile, range) {
+    let bad_range = bad_bounds_for(profile, range);
+    let bad_norm = radius::is_bad_radius(header.norm);
+    if bad_range {
         return Outcome::Refused {
             number: MALFORMED_RANGE,
+            place: 0,
+        };
+    }
+    if bad_norm {
+        return Outcome::Refused {
+            number: MALFORMED_NORM,
             place: 0,
         };
     }
@@ -280,6 +303,36 @@ fn projections_of(bytes: &[u8]) -> usize
         return get_u32(bytes, at);
     }
     0
+}
+
+// Whether the map byte has a bit that is not defined, or bit 2 without bit 1.
+fn outside_map(map: u8) -> bool
+    ensures { λ r. ⌜ r ≡ badMap map ⌝ }
+{
+    if 7 < map {
+        return true;
+    }
+    norm_stands(map) && map / 2 % 2 != 1
+}
+
+// Whether a norm stands in the header, by the map byte's bit 2.
+fn norm_stands(map: u8) -> bool
+    ensures { λ r. ⌜ r ≡ hasNorm map ⌝ }
+{
+    map / 4 % 2 == 1
+}
+
+// The norm, in the last four bytes of the header, or 1.0 where it has none.
+fn norm_of(bytes: &[u8]) -> f32
+    requires { ⌜ (6 ≤ length (now bytes)) × (headerLength (mapOf (now bytes)) ≤ length (now bytes)) ⌝ }
+    ensures { λ r. ⌜ r ≡ normOf (now (bytes .entry)) ⌝ }
+{
+    let map = bytes[0];
+    if norm_stands(map) {
+        let at = header_length(map) - 4;
+        return get_f32(bytes, at);
+    }
+    1.0
 }
 
 // Whether an even dimension is one that no record may have.

@@ -2,13 +2,14 @@
 -- infinite. So 'written again' is a premise of what is said of linear records. Computed. Assumes nothing.
 use Prim.Native.Nat.{ℕ}
 use mathlib.Core.Path.{_≡_, refl}
+use mathlib.Core.Bool.{false}
 use mathlib.Core.List.{List, [], _∷_, flatMap}
 use lib.Count.{ones, onesIn}
 use lib.Ieee.{binary32, ofBits, add, sub, mul, div, lt, ofInt}
 use Rattle.error.specs.Answer.{value, refused, place}
 use Rattle.digits.specs.Digits.{number, digits}
 use Rattle.float.specs.Bytes.{ofLeBytes}
-use Rattle.float.specs.Constants.{posZero}
+use Rattle.float.specs.Constants.{posZero, one}
 use Rattle.float.specs.Rounding.{clamped, roundUnsigned}
 use Rattle.lists.specs.Chunks.{chunks}
 use Rattle.bitpack.specs.Padding.{badPadding}
@@ -17,7 +18,8 @@ use Rattle.radius.specs.Linear.{spanOf, quantizeRadiusOf, linearBytes, radiusOf
 use Rattle.radius.specs.Firsts.{readBack}
 use Rattle.radius.specs.declared.RadiusCodecProfileV1.the-variants.{BlockLinearU16}
 use Rattle.setup.specs.declared.TurboMode.the-variants.{PolarOnly}
-use Rattle.packed.specs.Fields.{boundsOf, projectionsOf}
+use Rattle.packed.specs.declared.SourceNorm.the-variants.{Absent}
+use Rattle.packed.specs.Fields.{boundsOf, projectionsOf, normOf}
 use Rattle.packed.specs.Layout.{radiiBytes, indicesBytes, signsBytes, headerOf}
 use Rattle.packed.specs.Reading.{radiiOf, indicesOf, readRecordOf}
 use Rattle.packed_writing.specs.Writing.{writeRecordOf}
@@ -26,10 +28,10 @@ use Rattle.packed_writing.specs.Writing.{writeRecordOf}
 abbrev pub linearBytesRead : List ℕ
 linearBytesRead = 0x01 ∷ 0x04 ∷ 0x00 ∷ 0x00 ∷ 0x00 ∷ 0x01 ∷ 0x00 ∷ 0x00 ∷ 0x00 ∷ 0x00 ∷ 0xFF ∷ 0xFF ∷ 0x7F ∷ 0x7F ∷ 0x81 ∷ 0x01 ∷ 0xFF ∷ 0xFF ∷ 0x00 ∷ []
 
-pub linear-read : readRecordOf linearBytesRead ≡ value (record { mode = PolarOnly; profile = BlockLinearU16; dim = 4; bits = 1; projections = 0; range = record { min = posZero; max = ofBits binary32 0x7F7F_FFFF }; «radii_start» = 14; «indices_start» = 18; «signs_start» = 19; end = 19 })
-unfolding readRecordOf headerOf radiiOf radiiBytes indicesBytes signsBytes boundsOf projectionsOf number ones onesIn place chunks ofLeBytes ofBits lt badPadding radiusOf linearRadius add sub mul div ofInt
+pub linear-read : readRecordOf linearBytesRead ≡ value (record { mode = PolarOnly; profile = BlockLinearU16; dim = 4; bits = 1; projections = 0; range = record { min = posZero; max = ofBits binary32 0x7F7F_FFFF }; «has_norm» = false; norm = one false; «radii_start» = 14; «indices_start» = 18; «signs_start» = 19; end = 19 })
+unfolding readRecordOf headerOf radiiOf radiiBytes indicesBytes signsBytes boundsOf projectionsOf normOf number ones onesIn place chunks ofLeBytes ofBits lt badPadding radiusOf linearRadius add sub mul div ofInt
 linear-read = refl
 
-pub linear-again : writeRecordOf (record { profile = BlockLinearU16; mode = PolarOnly; dim = 4; bits = 1; projections = 0 }) (radiiOf linearBytesRead) (indicesOf linearBytesRead) [] 19 ≡ refused 16 1
+pub linear-again : writeRecordOf (record { profile = BlockLinearU16; mode = PolarOnly; dim = 4; bits = 1; projections = 0; norm = Absent }) (radiiOf linearBytesRead) (indicesOf linearBytesRead) [] 19 ≡ refused 16 1
 unfolding writeRecordOf readBack ones onesIn place chunks flatMap number digits ofBits ofLeBytes lt least greatest rangeOf roundUnsigned clamped spanOf quantizeRadiusOf linearBytes radiusOf linearRadius add sub mul div ofInt radiiOf radiiBytes boundsOf indicesOf indicesBytes
 linear-again = refl

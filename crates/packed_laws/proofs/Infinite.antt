@@ -3,7 +3,7 @@
 use Prim.Native.Nat.{ℕ, zero, suc, _^_, _≤_, _<_}
 use mathlib.Core.Path.{_≡_, refl, sym, ap, _∙_, subst}
 use mathlib.Core.Bool.{Bool, true, false, true≢false}
-use mathlib.Core.List.{List, [], _∷_, map}
+use mathlib.Core.List.{List, [], _∷_, _++_, map}
 use native.Mathlib.Nat.{not-suc-le-zero, le-of-suc-le-suc}
 use native.Mathlib.Omega.{arith}
 use borrow.Author.Tests.{ltb-true}
@@ -21,13 +21,13 @@ use Rattle.lists.proofs.Chunks.{chunks-joined}
 use Rattle.radius.specs.Codec.{badProfile}
 use Rattle.radius.specs.Firsts.{readBack}
 use Rattle.radius.specs.Linear.{quantizeRadiusOf, spanOf, linearBytes, linearRadius}
-use Rattle.radius.specs.Radii.{badRadius, rangeOf}
+use Rattle.radius.specs.Radii.{badRadius, rangeOf, wrongNorm}
 use Rattle.radius.proofs.Linear.{length-linearBytes}
 use Rattle.radius.specs.declared.Range.{Range}
 use Rattle.radius.specs.declared.RadiusCodecProfileV1.{RadiusCodecProfileV1}
 use Rattle.radius.specs.declared.RadiusCodecProfileV1.the-variants.{F32, BlockLinearU16, BlockLogU8}
 use Rattle.packed.specs.declared.Code.{Code}
-use Rattle.packed_size.specs.Size.{neededFor}
+use Rattle.packed_size.specs.Size.{normValue, neededFor}
 use Rattle.packed_writing.specs.Writing.{recordOf, fieldChecks, writeRecordOf}
 use Rattle.packed_writing.proofs.Written.{length-readBack}
 use Rattle.packed_laws.specs.Infinite.{GoodRadii}
@@ -91,14 +91,14 @@ module _ (radii : List Float) (g : GoodRadii radii) where
         let found =
         refused-second
         (recordOf code radii indices signs)
-        (fieldChecks code (length radii) (length indices) (length signs))
+        (fieldChecks code (length radii) (length indices) (length signs) ++ (wrongNorm (normValue (code .norm)) ∷ []))
         (ltb (place badRadius radii) (length radii))
         (ltb (place badRadius back) (length back))
         16
         (place badRadius radii)
         (place badRadius back)
         behind
-        (tt, (tt, (tt, (tt, (tt, (tt, (tt, (tt, (tt, tt)))))))))
+        (tt, (tt, (tt, (tt, (tt, (tt, (tt, (tt, (tt, (tt, (tt, tt)))))))))))
         (tt, (tt, (tt, tt)))
         (each-none badRadius radii nan (g .good))
         told

@@ -16,3 +16,4 @@ pub mod EmptyParts
 pub mod Withdrawn
 pub mod Promised
 pub mod Examples
+pub mod WithoutNorm

@@ -18,10 +18,10 @@ use Rattle.error.proofs.Differs.{differs-same}
 use Rattle.error.specs.Checks.{differs}
 use Rattle.radius.specs.Linear.{linearRadius}
 use Rattle.float.specs.Constants.{posZero}
-use Rattle.radius.specs.Radii.{badRadius}
+use Rattle.radius.specs.Radii.{badRadius, wrongNorm}
 use Rattle.radius.specs.declared.Range.{Range}
 use Rattle.lists.proofs.Chunks.{chunks-getD}
-use Rattle.packed.specs.Fields.{mapOf, hasRange, profileOf, floatAt, boundsOf}
+use Rattle.packed.specs.Fields.{mapOf, hasRange, profileOf, floatAt, boundsOf, normOf}
 use Rattle.packed.specs.Layout.{pairsOf, radiiStart, radiiLength, recordLength, radiiBytes, headerOf}
 use Rattle.packed.specs.Radii.{badBounds, badBoundsFor}
 use Rattle.packed.specs.Reading.{radiiOf, wrongSize, headerChecks, paddingChecks, readRecordOf}
@@ -75,9 +75,9 @@ module _ (bytes : List ℕ) (b : Below 256 bytes) (linear : hasRange (mapOf byte
 -- 16 in a linear record names a radius that reads as infinite
 pub linear-refused : (bytes : List ℕ) → Below 256 bytes → hasRange (mapOf bytes) ≡ true → (p : ℕ) → readRecordOf bytes ≡ refused 16 p → getD (radiiOf bytes) p nan ≡ inf false
 linear-refused bytes b linear p told =
-    let before = headerChecks bytes ++ (wrongSize (differs (length bytes) (recordLength bytes)) bytes ∷ check (badBoundsFor (profileOf (mapOf bytes)) (boundsOf bytes)) 17 0 ∷ []) in
+    let before = headerChecks bytes ++ (wrongSize (differs (length bytes) (recordLength bytes)) bytes ∷ check (badBoundsFor (profileOf (mapOf bytes)) (boundsOf bytes)) 17 0 ∷ wrongNorm (normOf bytes) ∷ []) in
     let bad = place badRadius (radiiOf bytes) in
-    let found = refused-here (headerOf bytes) before (ltb bad (length (radiiOf bytes))) 16 bad (paddingChecks bytes) (tt, (tt, (tt, (tt, (tt, (tt, (tt, (tt, (tt, (tt, tt)))))))))) (tt, (tt, tt)) (read-refused bytes told .1) in
+    let found = refused-here (headerOf bytes) before (ltb bad (length (radiiOf bytes))) 16 bad (paddingChecks bytes) (tt, (tt, (tt, (tt, (tt, (tt, (tt, (tt, (tt, (tt, (tt, tt))))))))))) (tt, (tt, tt)) (read-refused bytes told .1) in
     let passed = found .0 .1 .1 .1 .1 .1 .1 .1 .1 in
     let below : bad < length (radiiOf bytes) = ltb-true bad (length (radiiOf bytes)) (found .1 .0) in
     let sized : length bytes ≡ recordLength bytes = differs-same (length bytes) (recordLength bytes) (passed .0) in

@@ -77,7 +77,7 @@ module _ {code : Code} {radii : List Float} {indices : List ℕ} {signs : List �
   radii-bytes-written = ap radiiBytes (w .made) ∙ radii-back code radii indices signs (w .known) (omega (arith, w .most)) (w .radii-long)
 
   -- where the indices start
-  indices-start : indicesStart bytes ≡ headerLength (mapFor (code .profile) (code .mode)) + widthOf (code .profile) * length radii
+  indices-start : indicesStart bytes ≡ headerLength (mapFor (code .profile) (code .mode) (code .norm)) + widthOf (code .profile) * length radii
   indices-start = rw (profile-written w, map-written w, dim-written w, w .radii-long)
 
   indices-size : indicesUsed bytes ≡ length indices * code .bits

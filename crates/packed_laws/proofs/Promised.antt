@@ -12,10 +12,10 @@ pub round-trips : RoundTrips
 round-trips = record {
   accepted-reads = λ bytes a. accepted.accepted-reads bytes a;
   read-accepts = λ bytes header read. accepted.read-accepts bytes read;
-  written = λ code radii indices signs room bytes fit told.
+  written = λ code radii indices signs room bytes fit norm told.
       record {
-        header-back = trip.written-header code radii indices signs room told (record { at = fit });
-        fields-back = trip.written-fields code radii indices signs room told (record { at = fit });
+        header-back = trip.written-header code radii indices signs room told (record { at = fit }) norm;
+        fields-back = trip.written-fields code radii indices signs room told (record { at = fit }) norm;
         indices-back = trip.written-indices code radii indices signs room told;
         signs-back = trip.written-signs code radii indices signs room told;
         floats-back = λ plain. trip.written-floats code radii indices signs room plain told (record { at = fit });

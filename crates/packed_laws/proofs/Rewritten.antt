@@ -1,9 +1,11 @@
 -- An accepted record, taken apart and written again: an F32 record gives the same bytes. A linear one gives the same of everything but the range and the radii,
 -- whose read values are stated. Bytes are numbers below 256. Assumes nothing.
 use Prim.Native.Nat.{ℕ, _^_}
-use mathlib.Core.Path.{_≡_, refl, sym, ap, _∙_}
+use mathlib.Core.Path.{_≡_, refl, sym, ap, _∙_, subst}
 use mathlib.Core.Bool.{Bool, true, false, cond}
 use mathlib.Core.List.{List, [], _∷_, _++_, map}
+use lib.Dec.{T}
+use lib.Ieee.{Float, binary32, fits}
 use borrow.Author.Tests.{lt-leb}
 use lib.IntN.{pos}
 use lib.ListN.{length, getD}
@@ -19,23 +21,26 @@ use Rattle.radius.specs.declared.RadiusCodecProfileV1.the-variants.{F32, BlockL
 use Rattle.radius.proofs.RoundTrip.{Floats}
 use Rattle.setup.specs.declared.TurboMode.the-variants.{PolarOnly, PolarWithQjl}
 use Rattle.packed.specs.declared.Header.{Header}
-use Rattle.packed.specs.Fields.{mapOf, hasRange, hasSigns, profileOf, modeOf, bitsOf, boundsOf, projectionsOf}
+use Rattle.packed.specs.Fields.{mapOf, hasRange, hasSigns, hasNorm, profileOf, modeOf, bitsOf, boundsOf, projectionsOf, normOf}
+use Rattle.packed.specs.declared.SourceNorm.the-variants.{Absent, Given}
+use Rattle.float.specs.Constants.{one}
+use Rattle.radius.specs.Radii.{badRadius}
 use Rattle.packed.specs.Layout.{radiiBytes, headerOf}
 use Rattle.packed.specs.Reading.{radiiOf, indicesOf, signsOf, recordChecks, readRecordOf}
 use Rattle.packed.specs.Accepted.{Accepted}
-use Rattle.packed_size.specs.Size.{mapFor, neededFor}
+use Rattle.packed_size.specs.Size.{normValue, mapFor, badNormAlone, neededFor}
 use Rattle.bitpack.specs.Packing.{indexBytes}
 use Rattle.packed_writing.specs.Writing.{headerBytes, recordOf, fieldChecks, valueChecks, writeRecordOf}
 use Rattle.setup.specs.Setups.{counted}
 use Rattle.packed.proofs.Accepted.{read-accepts}
 use Rattle.packed.proofs.Withdrawn.{read-passed}
 use Rattle.packed.proofs.Payloads.{length-radiiOf}
-use Rattle.packed.proofs.Radii.{radii-fit, length-indicesOf, indices-below, length-signsOf, signs-good}
-use Rattle.packed_laws.specs.RoundTrips.{SameButRadii, codeAs}
+use Rattle.packed.proofs.Radii.{radii-fit, norm-fits, length-indicesOf, indices-below, length-signsOf, signs-good}
+use Rattle.packed_laws.specs.RoundTrips.{SameButRadii, normAs, codeAs}
 use Rattle.packed_laws.proofs.Inputs.{written}
-use Rattle.packed_laws.proofs.Fields.{map-written, dim-written, bits-written, projections-written, bounds-written, length-written}
+use Rattle.packed_laws.proofs.Fields.{map-written, dim-written, bits-written, projections-written, bounds-written, norm-written, norm-part-written, length-written}
 use Rattle.packed_laws.proofs.Payloads.{floats-readBack, radii-written, indices-bytes-written, signs-bytes-written}
-use Rattle.packed_laws.proofs.TakenApart.{codeOf, map-again, indices-again, signs-again, parts-again, floats-again}
+use Rattle.packed_laws.proofs.TakenApart.{codeOf, map-again, norm-again, indices-again, signs-again, parts-again, floats-again}
 
 either-counted : (t : Bool) (n : ℕ) → counted (cond t PolarWithQjl PolarOnly) (cond t n 0) ≡ cond t n 0
 either-counted true n = refl
@@ -46,9 +51,27 @@ counted-again : (bytes : List ℕ) → counted (modeOf (mapOf bytes)) (projectio
 unfolding projectionsOf
 counted-again bytes = either-counted (hasSigns (mapOf bytes)) _
 
+either-norm : (t : Bool) (x : Float) → normValue (cond t (Given (cond t x (one false))) Absent) ≡ cond t x (one false)
+either-norm true x = refl
+either-norm false x = refl
+
+-- the norm that is written again is the one that is read
+norm-value-again : (bytes : List ℕ) → normValue (normAs bytes) ≡ normOf bytes
+unfolding normOf
+norm-value-again bytes = either-norm (hasNorm (mapOf bytes)) _
+
+either-beside : (n s : Bool) (x : Float) → (n ≡ true → s ≡ true) → badNormAlone (cond s PolarWithQjl PolarOnly) (cond n (Given x) Absent) ≡ false
+either-beside true s x h = rw (h refl)
+either-beside false true x h = refl
+either-beside false false x h = refl
+
+-- and a norm stands beside signs
+beside-again : (bytes : List ℕ) → Accepted bytes → badNormAlone (modeOf (mapOf bytes)) (normAs bytes) ≡ false
+beside-again bytes a = either-beside (hasNorm (mapOf bytes)) (hasSigns (mapOf bytes)) (normOf bytes) (a .norm-beside)
+
 -- the record's length is the one that writing it needs
 needed-again : (bytes : List ℕ) → Accepted bytes → neededFor (codeOf bytes) ≡ length bytes
-needed-again bytes a = rw (map-again (mapOf bytes) (a .map), counted-again bytes) (sym (a .total))
+needed-again bytes a = rw (map-again (mapOf bytes) (normOf bytes) (a .map), counted-again bytes) (sym (a .total))
 
 -- the radii of a record are f32
 radii-floats : (bytes : List ℕ) → Floats (radiiOf bytes)
@@ -76,38 +99,44 @@ module _ (bytes : List ℕ) (b : Below 256 bytes) {header : Header} (read : read
       let a = read-accepts bytes read in
       let all = first-all (recordChecks bytes) (value (headerOf bytes)) (read-passed bytes read .1) in
       let again = recordOf (codeAs F32 bytes) (radiiOf bytes) (indicesOf bytes) (signsOf bytes) in
-      let good = all .1 .1 .1 .1 .1 .1 .1 .1 .1 .1 .0 in
+      let good = all .1 .1 .1 .1 .1 .1 .1 .1 .1 .1 .1 .0 in
       first-accepts
       (fieldChecks (codeAs F32 bytes) (length (radiiOf bytes)) (length (indicesOf bytes)) (length (signsOf bytes))
-      ++ valueChecks F32 (bitsOf bytes) (radiiOf bytes) (indicesOf bytes) (signsOf bytes)
+      ++ valueChecks F32 (bitsOf bytes) (normAs bytes) (radiiOf bytes) (indicesOf bytes) (signsOf bytes)
       ++ (wrongRoom (length bytes) (neededFor (codeAs F32 bytes)) ∷ []))
       (value again) (
         refl,
         (
-          all .1 .1 .0,
+          beside-again bytes a,
           (
-            all .1 .1 .1 .0,
+            all .1 .1 .0,
             (
-              all .1 .1 .1 .1 .0,
+              all .1 .1 .1 .0,
               (
-                all .1 .1 .1 .1 .1 .0,
+                all .1 .1 .1 .1 .0,
                 (
-                  all .1 .1 .1 .1 .1 .1 .1 .0,
+                  all .1 .1 .1 .1 .1 .0,
                   (
-                    differs-not _ _ (length-radiiOf bytes),
+                    all .1 .1 .1 .1 .1 .1 .1 .0,
                     (
-                      differs-not _ _ (length-indicesOf bytes),
+                      differs-not _ _ (length-radiiOf bytes),
                       (
-                        differs-not _ _ (length-signsOf bytes ∙ sym (counted-again bytes)),
+                        differs-not _ _ (length-indicesOf bytes),
                         (
-                          good,
+                          differs-not _ _ (length-signsOf bytes ∙ sym (counted-again bytes)),
                           (
-                            rw (floats-readBack (radiiOf bytes) (radii-floats bytes)) good,
+                            ap badRadius (norm-value-again bytes) ∙ a .norm,
                             (
-                              each-none (badIndex (bitsOf bytes)) (indicesOf bytes) 0 (λ i h. lt-leb (2 ^ bitsOf bytes) (getD (indicesOf bytes) i 0) (indices-below bytes .at i h)),
+                              good,
                               (
-                                each-none badSketchSign (signsOf bytes) (pos 0) (signs-good bytes),
-                                (differs-not _ _ (sym (needed-again bytes a) ∙ rw (plain-profile plain)), tt),
+                                rw (floats-readBack (radiiOf bytes) (radii-floats bytes)) good,
+                                (
+                                  each-none (badIndex (bitsOf bytes)) (indicesOf bytes) 0 (λ i h. lt-leb (2 ^ bitsOf bytes) (getD (indicesOf bytes) i 0) (indices-below bytes .at i h)),
+                                  (
+                                    each-none badSketchSign (signsOf bytes) (pos 0) (signs-good bytes),
+                                    (differs-not _ _ (sym (needed-again bytes a) ∙ rw (plain-profile plain)), tt),
+                                  ),
+                                ),
                               ),
                             ),
                           ),
@@ -141,13 +170,15 @@ module _ (bytes : List ℕ) (b : Below 256 bytes) {header : Header} (read : read
   rewritten-linear room told =
       let a = read-accepts bytes read in
       let w = written (codeAs BlockLinearU16 bytes) (radiiOf bytes) (indicesOf bytes) (signsOf bytes) room told in
-      let same : mapFor BlockLinearU16 (modeOf (mapOf bytes)) ≡ mapOf bytes = ap (λ (p : RadiusCodecProfileV1). mapFor p (modeOf (mapOf bytes))) (sym linear-profile) ∙ map-again (mapOf bytes) (a .map) in
+      let same : mapFor BlockLinearU16 (modeOf (mapOf bytes)) (normAs bytes) ≡ mapOf bytes = ap (λ (p : RadiusCodecProfileV1). mapFor p (modeOf (mapOf bytes)) (normAs bytes)) (sym linear-profile) ∙ map-again (mapOf bytes) (normOf bytes) (a .map) in
       let needed = ap (λ (p : RadiusCodecProfileV1). neededFor (codeAs p bytes)) (sym linear-profile) ∙ needed-again bytes a in
       record {
         map-same = map-written w ∙ same;
         dim-same = dim-written w;
         bits-same = bits-written w;
         projections-same = projections-written w ∙ counted-again bytes;
+        norm-same = norm-written w (subst (λ (x : Float). T (fits binary32 x)) (sym (norm-value-again bytes)) (norm-fits bytes)) ∙ norm-value-again bytes;
+        norm-bytes-same = norm-part-written w ∙ norm-again bytes b a (hasNorm (mapOf bytes)) refl;
         length-same = length-written w ∙ w .sized ∙ needed;
         indices-same = indices-bytes-written w ∙ indices-again bytes b a;
         signs-same = signs-bytes-written w ∙ signs-again bytes b a;

@@ -2,12 +2,13 @@
 -- Bytes are numbers below 256. Assumes nothing.
 use Prim.Native.Nat.{ℕ, zero, suc, _-_, _*_, _/_, _%_, _^_, _≤_, _<_}
 use mathlib.Core.Path.{_≡_, refl, sym, ap, _∙_}
-use mathlib.Core.Bool.{Bool, true, false, _||_}
+use mathlib.Core.Bool.{Bool, true, false, cond, _||_}
 use mathlib.Core.List.{List, [], _∷_, _++_, map, flatMap, append-assoc}
 use native.Mathlib.Omega.{arith}
 use borrow.Author.Tests.{le-ltb, eq-eqb, eqb-true, eqb-false}
 use lib.Dec.{eqb}
 use lib.ListN.{length, getD, take, drop}
+use lib.Seq.{take-add}
 use lib.Ieee.{Float, nan, lt}
 use Rattle.error.specs.Answer.{value}
 use Rattle.error.proofs.Chains.{or-false}
@@ -21,18 +22,19 @@ use Rattle.bitpack.proofs.RoundTrip.{pack-bytes, pack-unpack, pack-signs-bytes,
 use Rattle.lists.specs.Chunks.{chunks}
 use Rattle.radius.specs.Radii.{badRadius}
 use Rattle.lists.proofs.Chunks.{chunks-getD, joined-chunks}
-use Rattle.packed.specs.Fields.{mapOf, rangeBit, signsBit, hasRange, hasSigns, profileOf, modeOf, floatAt, dimOf, bitsOf, boundsOf, projectionsStart, projectionsOf}
+use Rattle.packed.specs.Fields.{mapOf, rangeBit, signsBit, normBit, hasRange, hasSigns, hasNorm, profileOf, modeOf, floatAt, dimOf, bitsOf, boundsOf, projectionsStart, projectionsOf, normStart, normOf}
 use Rattle.packed.specs.Layout.{headerLength, pairsOf, radiiStart, radiiLength, indicesUsed, indicesStart, indicesLength, signsStart, signsLength, partAt, radiiBytes, indicesBytes, signsBytes}
 use Rattle.packed.specs.Radii.{badBounds}
 use Rattle.packed.specs.Reading.{radiiOf, indicesOf, signsOf}
 use Rattle.packed.specs.Accepted.{Accepted}
 use Rattle.packed_size.specs.Size.{mapFor}
-use Rattle.packed_writing.specs.Writing.{rangeBytes, projectionBytes, headerBytes}
+use Rattle.packed_writing.specs.Writing.{rangeBytes, projectionBytes, normBytes, headerBytes}
 use Rattle.packed.proofs.Headers.{product-most}
 use Rattle.packed.proofs.Parts.{length-radii, length-indices, length-signs}
 use Rattle.packed.proofs.Payloads.{length-radiiOf}
 use Rattle.packed.specs.declared.Code.{Code}
-use Rattle.packed_laws.specs.RoundTrips.{codeAs}
+use Rattle.packed.specs.declared.SourceNorm.the-variants.{Absent, Given}
+use Rattle.packed_laws.specs.RoundTrips.{normAs, codeAs, normPart}
 use Rattle.packed_laws.proofs.Parts.{part-below, part-two, word-again, float-again, four-parts, six-bytes, header-parts}
 
 -- the scalars that a record's bytes tell, under their own profile
@@ -40,12 +42,16 @@ abbrev pub codeOf : List ℕ → Code
 codeOf bytes = codeAs (profileOf (mapOf bytes)) bytes
 
 -- the map byte is made again from what it tells
-pub map-again : (map : ℕ) → map ≤ 3 → mapFor (profileOf map) (modeOf map) ≡ map
-map-again zero h = refl
-map-again (suc zero) h = refl
-map-again (suc (suc zero)) h = refl
-map-again (suc (suc (suc zero))) h = refl
-map-again (suc (suc (suc (suc n)))) h = absurd (omega (arith, h))
+pub map-again : (map : ℕ) (x : Float) → map ≤ 7 → mapFor (profileOf map) (modeOf map) (cond (hasNorm map) (Given x) Absent) ≡ map
+map-again zero x h = refl
+map-again (suc zero) x h = refl
+map-again (suc (suc zero)) x h = refl
+map-again (suc (suc (suc zero))) x h = refl
+map-again (suc (suc (suc (suc zero)))) x h = refl
+map-again (suc (suc (suc (suc (suc zero))))) x h = refl
+map-again (suc (suc (suc (suc (suc (suc zero)))))) x h = refl
+map-again (suc (suc (suc (suc (suc (suc (suc zero))))))) x h = refl
+map-again (suc (suc (suc (suc (suc (suc (suc (suc n)))))))) x h = absurd (omega (arith, h))
 
 -- a bit is 1 where its test says so, and else 0
 bit-one : (n : ℕ) → eqb (n % 2) 1 ≡ true → n % 2 ≡ 1
@@ -76,6 +82,14 @@ module _ (bytes : List ℕ) (b : Below 256 bytes) (a : Accepted bytes) where
       rw one (word-again bytes b (projectionsStart (mapOf bytes)) (omega (arith, a .header, one)))
   projections-again false e = rw (bit-none (mapOf bytes / 2) e)
 
+  pub norm-again : (t : Bool) → hasNorm (mapOf bytes) ≡ t → normBytes (normAs bytes) ≡ normPart bytes
+  unfolding normOf
+  norm-again true e =
+      let one = bit-one (mapOf bytes / 4) e in
+      let good : badRadius (floatAt bytes (normStart (mapOf bytes))) ≡ false = rw one at (a .norm) in
+      rw one (float-again bytes b (normStart (mapOf bytes)) (omega (arith, a .header, one)) good)
+  norm-again false e = rw (bit-none (mapOf bytes / 4) e)
+
   -- the header's bytes are those of its fields
   pub header-again : headerBytes (codeOf bytes) (boundsOf bytes) ≡ take (headerLength (mapOf bytes)) bytes
   unfolding headerBytes
@@ -83,13 +97,15 @@ module _ (bytes : List ℕ) (b : Below 256 bytes) (a : Accepted bytes) where
       let map = mapOf bytes in
       let range = rangeBytes (profileOf map) (boundsOf bytes) in
       let projections = projectionBytes (modeOf map) (projectionsOf bytes) in
-      ap (λ (n : ℕ). n ∷ digits 256 4 (dimOf bytes) ++ (bitsOf bytes ∷ []) ++ range ++ projections) (map-again map (a .map))
-      ∙ ap (λ (l : List ℕ). map ∷ l ++ (bitsOf bytes ∷ []) ++ range ++ projections) (word-again bytes b 1 (omega (arith, a .long)))
-      ∙ ap (λ (l : List ℕ). l ++ range ++ projections) (sym (six-bytes bytes (a .long)))
-      ∙ ap (λ (l : List ℕ). take 6 bytes ++ l ++ projections) (bounds-again (hasRange map) refl)
-      ∙ ap (λ (l : List ℕ). take 6 bytes ++ partAt bytes 6 (8 * rangeBit map) ++ l) (projections-again (hasSigns map) refl)
-      ∙ append-assoc (take 6 bytes) (partAt bytes 6 (8 * rangeBit map)) (partAt bytes (projectionsStart map) (4 * signsBit map))
-      ∙ sym (header-parts bytes (8 * rangeBit map) (4 * signsBit map))
+      let norm = normBytes (normAs bytes) in
+      ap (λ (n : ℕ). n ∷ digits 256 4 (dimOf bytes) ++ (bitsOf bytes ∷ []) ++ range ++ projections ++ norm) (map-again map (normOf bytes) (a .map))
+      ∙ ap (λ (l : List ℕ). map ∷ l ++ (bitsOf bytes ∷ []) ++ range ++ projections ++ norm) (word-again bytes b 1 (omega (arith, a .long)))
+      ∙ ap (λ (l : List ℕ). l ++ range ++ projections ++ norm) (sym (six-bytes bytes (a .long)))
+      ∙ ap (λ (l : List ℕ). take 6 bytes ++ l ++ projections ++ norm) (bounds-again (hasRange map) refl)
+      ∙ ap (λ (l : List ℕ). take 6 bytes ++ partAt bytes 6 (8 * rangeBit map) ++ l ++ norm) (projections-again (hasSigns map) refl)
+      ∙ ap (λ (l : List ℕ). l ++ norm) (append-assoc (take 6 bytes) (partAt bytes 6 (8 * rangeBit map)) (partAt bytes (projectionsStart map) (4 * signsBit map)) ∙ sym (header-parts bytes (8 * rangeBit map) (4 * signsBit map)))
+      ∙ ap (λ (l : List ℕ). take (normStart map) bytes ++ l) (norm-again (hasNorm map) refl)
+      ∙ sym (take-add (normStart map) (4 * normBit map) bytes)
 
   -- ---- the payloads
 

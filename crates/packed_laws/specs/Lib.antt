@@ -2,3 +2,4 @@ pub mod RoundTrips
 pub mod Infinite
 pub mod EmptyParts
 pub mod Withdrawn
+pub mod WithoutNorm

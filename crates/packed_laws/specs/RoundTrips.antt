@@ -2,11 +2,12 @@
 -- keeps. Document 01: 'Writing a record, F32 or linear'; 'In `PolarOnly` m counts as 0'. Assumes nothing.
 use Prim.Native.Nat.{ℕ, _+_, _*_, _/_}
 use mathlib.Core.Path.{_≡_}
-use mathlib.Core.Bool.{true, false}
+use mathlib.Core.Bool.{true, false, cond}
 use mathlib.Core.List.{List}
 use lib.IntN.{ℤ}
 use lib.ListN.{length}
-use lib.Ieee.{Float}
+use lib.Dec.{T}
+use lib.Ieee.{Float, binary32, fits}
 use Rattle.digits.specs.Digits.{AreBytes}
 use Rattle.float.specs.Bytes.{AreFloats}
 use Rattle.error.specs.Answer.{value}
@@ -16,19 +17,30 @@ use Rattle.radius.specs.Radii.{rangeOf}
 use Rattle.radius.specs.declared.RadiusCodecProfileV1.{RadiusCodecProfileV1}
 use Rattle.radius.specs.declared.RadiusCodecProfileV1.the-variants.{F32, BlockLinearU16}
 use Rattle.packed.specs.declared.Code.{Code}
+use Rattle.packed.specs.declared.SourceNorm.{SourceNorm}
+use Rattle.packed.specs.declared.SourceNorm.the-variants.{Absent, Given}
 use Rattle.packed.specs.declared.Header.{Header}
-use Rattle.packed.specs.Fields.{mapOf, hasRange, profileOf, modeOf, dimOf, bitsOf, boundsOf, projectionsOf}
-use Rattle.packed.specs.Layout.{headerLength, indicesBytes, signsBytes, headerOf}
+use Rattle.packed.specs.Fields.{mapOf, normBit, hasRange, hasNorm, profileOf, modeOf, dimOf, bitsOf, boundsOf, projectionsOf, normStart, normOf}
+use Rattle.packed.specs.Layout.{headerLength, partAt, indicesBytes, signsBytes, headerOf}
 use Rattle.packed.specs.Reading.{radiiOf, indicesOf, signsOf, readRecordOf}
 use Rattle.packed.specs.Accepted.{Accepted}
-use Rattle.packed_size.specs.Size.{mapFor, neededFor}
+use Rattle.packed_size.specs.Size.{isGiven, normValue, mapFor, neededFor}
 use Rattle.packed_writing.specs.Writing.{writeRecordOf}
 use Rattle.setup.specs.Setups.{counted}
 use Rattle.radius.specs.Firsts.{readBack}
 
+-- This is the norm as a record's bytes tell it: given exactly where one stands.
+abbrev pub normAs : List ℕ → SourceNorm
+normAs bytes = cond (hasNorm (mapOf bytes)) (Given (normOf bytes)) Absent
+
 -- These are the scalars that a record's bytes tell, under a given profile.
 abbrev pub codeAs : RadiusCodecProfileV1 → List ℕ → Code
-codeAs profile bytes = record { profile = profile; mode = modeOf (mapOf bytes); dim = dimOf bytes; bits = bitsOf bytes; projections = projectionsOf bytes }
+codeAs profile bytes =
+    record { profile = profile; mode = modeOf (mapOf bytes); dim = dimOf bytes; bits = bitsOf bytes; projections = projectionsOf bytes; norm = normAs bytes }
+
+-- These are the bytes of a record's norm; there are none where none stands.
+abbrev pub normPart : List ℕ → List ℕ
+normPart bytes = partAt bytes (normStart (mapOf bytes)) (4 * normBit (mapOf bytes))
 
 -- This is the header that a record is written with, by value.
 unfoldable pub headerFor : Code → List Float → Header
@@ -39,15 +51,17 @@ headerFor code radii = record {
   bits = code .bits;
   projections = counted (code .mode) (code .projections);
   range = rangeFor (code .profile) radii;
-  «radii_start» = headerLength (mapFor (code .profile) (code .mode));
-  «indices_start» = headerLength (mapFor (code .profile) (code .mode)) + widthOf (code .profile) * (code .dim / 2);
-  «signs_start» = headerLength (mapFor (code .profile) (code .mode)) + widthOf (code .profile) * (code .dim / 2) + bytesFor (code .dim / 2 * code .bits);
+  «has_norm» = isGiven (code .norm);
+  norm = normValue (code .norm);
+  «radii_start» = headerLength (mapFor (code .profile) (code .mode) (code .norm));
+  «indices_start» = headerLength (mapFor (code .profile) (code .mode) (code .norm)) + widthOf (code .profile) * (code .dim / 2);
+  «signs_start» = headerLength (mapFor (code .profile) (code .mode) (code .norm)) + widthOf (code .profile) * (code .dim / 2) + bytesFor (code .dim / 2 * code .bits);
   end = neededFor code;
 }
 
 -- The fields of the bytes are those that were given; `room` is the output's length.
 pub record SameFields (bytes : List ℕ) (code : Code) (radii : List Float) (room : ℕ) : Type 0 where
-  pub map-same : mapOf bytes ≡ mapFor (code .profile) (code .mode)
+  pub map-same : mapOf bytes ≡ mapFor (code .profile) (code .mode) (code .norm)
   pub mode-same : modeOf (mapOf bytes) ≡ code .mode
   pub profile-same : profileOf (mapOf bytes) ≡ code .profile
   pub dim-same : dimOf bytes ≡ code .dim
@@ -55,6 +69,9 @@ pub record SameFields (bytes : List ℕ) (code : Code) (radii : List Float) (roo
   pub projections-same : projectionsOf bytes ≡ counted (code .mode) (code .projections)
   -- This is the range of linear radii; F32 radii have none, and 0, 0 stands for it.
   pub range-same : boundsOf bytes ≡ rangeFor (code .profile) radii
+  -- A norm stands exactly where one was given, and it is that one; else it is 1.0.
+  pub given-same : hasNorm (mapOf bytes) ≡ isGiven (code .norm)
+  pub norm-same : normOf bytes ≡ normValue (code .norm)
   pub length-same : length bytes ≡ room
 
 -- A linear record that is taken apart and written again as `again` keeps this.
@@ -63,6 +80,8 @@ pub record SameButRadii (bytes again : List ℕ) : Type 0 where
   pub dim-same : dimOf again ≡ dimOf bytes
   pub bits-same : bitsOf again ≡ bitsOf bytes
   pub projections-same : projectionsOf again ≡ projectionsOf bytes
+  pub norm-same : normOf again ≡ normOf bytes
+  pub norm-bytes-same : normPart again ≡ normPart bytes
   pub length-same : length again ≡ length bytes
   pub indices-same : indicesBytes again ≡ indicesBytes bytes
   pub signs-same : signsBytes again ≡ signsBytes bytes
@@ -81,14 +100,14 @@ pub record ComesBack (code : Code) (radii : List Float) (indices : List ℕ) (si
   pub floats-back : code .profile ≡ F32 → radiiOf bytes ≡ radii
   pub radii-back : radiiOf bytes ≡ readBack (code .profile) radii
 
--- Acceptance and the round trips stand here as one claim. Of what is given only this is asked: a byte is below 256, and a radius is an f32.
+-- Acceptance and the round trips stand here as one claim. Of what is given only this is asked: a byte is below 256, and a radius and the norm are f32.
 pub record RoundTrips : Type 0 where
   -- The listed conditions are the sole ones.
   pub accepted-reads : (bytes : List ℕ) → Accepted bytes → readRecordOf bytes ≡ value (headerOf bytes)
   pub read-accepts : (bytes : List ℕ) (header : Header) → readRecordOf bytes ≡ value header → Accepted bytes
   -- What was written comes back.
   pub written : (code : Code) (radii : List Float) (indices : List ℕ) (signs : List ℤ) (room : ℕ) (bytes : List ℕ)
-      → AreFloats radii
+      → AreFloats radii → T (fits binary32 (normValue (code .norm)))
       → writeRecordOf code radii indices signs room ≡ value bytes → ComesBack code radii indices signs room bytes
   -- Bytes come back from what they hold: an accepted F32 record, taken apart and written again, gives the same bytes.
   pub rewritten : (bytes : List ℕ) (header : Header) → AreBytes bytes → readRecordOf bytes ≡ value header

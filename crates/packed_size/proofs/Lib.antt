@@ -1,2 +1,3 @@
 pub mod Scalars
+pub mod Maps
 pub mod Examples

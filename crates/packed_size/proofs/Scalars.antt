@@ -16,17 +16,21 @@ use Rattle.setup.specs.declared.TurboMode.{TurboMode}
 use Rattle.setup.specs.declared.TurboMode.the-variants.{PolarOnly, PolarWithQjl}
 use Rattle.packed.specs.Reading.{badPolarBits, shapeChecks}
 use Rattle.packed.specs.declared.Code.{Code}
-use Rattle.packed_size.specs.Size.{codeChecks}
+use Rattle.packed_size.specs.Size.{badNormAlone, codeChecks}
 
 -- ---- the checks, one by one
 
 module _ (code : Code) (known : badProfile (code .profile) ≡ false) where
+  pub code-norm-alone : badNormAlone (code .mode) (code .norm) ≡ true → first (codeChecks code) accepted ≡ refused 18 0
+  code-norm-alone e = rw (known, e)
+
+module _ (code : Code) (known : badProfile (code .profile) ≡ false) (beside : badNormAlone (code .mode) (code .norm) ≡ false) where
   pub code-shape : {n p : ℕ} → first (shapeChecks (code .mode) (code .dim) (code .bits)) accepted ≡ refused n p → first (codeChecks code) accepted ≡ refused n p
-  code-shape e = rw known (append-refused (shapeChecks (code .mode) (code .dim) (code .bits)) (check (badProjections (code .mode) (code .projections)) 8 (code .projections) ∷ []) tt accepted e)
+  code-shape e = rw (known, beside) (append-refused (shapeChecks (code .mode) (code .dim) (code .bits)) (check (badProjections (code .mode) (code .projections)) 8 (code .projections) ∷ []) tt accepted e)
 
   module _ (pass : first (shapeChecks (code .mode) (code .dim) (code .bits)) accepted ≡ accepted) where
     left : first (codeChecks code) accepted ≡ first (check (badProjections (code .mode) (code .projections)) 8 (code .projections) ∷ []) accepted
-    left = rw known (append-passed (shapeChecks (code .mode) (code .dim) (code .bits)) (check (badProjections (code .mode) (code .projections)) 8 (code .projections) ∷ []) tt accepted pass)
+    left = rw (known, beside) (append-passed (shapeChecks (code .mode) (code .dim) (code .bits)) (check (badProjections (code .mode) (code .projections)) 8 (code .projections) ∷ []) tt accepted pass)
 
     pub code-projections : badProjections (code .mode) (code .projections) ≡ true → first (codeChecks code) accepted ≡ refused 8 (code .projections)
     code-projections e = left ∙ rw e
@@ -54,11 +58,11 @@ counted-most PolarWithQjl m e = ltb-false 4096 m (or-false (eqb m 0) (ltb 4096 m
 pub code-small : (code : Code) → first (codeChecks code) accepted ≡ accepted → Small code
 code-small code pass =
     let all = first-all (codeChecks code) accepted pass in
-    let b = bits-inside (code .mode) (code .bits) (all .1 .1 .1 .1 .0) in
+    let b = bits-inside (code .mode) (code .bits) (all .1 .1 .1 .1 .1 .0) in
     record {
       known = all .0;
-      dim-most = ltb-false 4096 (code .dim) (or-false (not (eqb (ones (code .dim)) 1)) (ltb 4096 (code .dim)) (all .1 .1 .1 .0) .1);
+      dim-most = ltb-false 4096 (code .dim) (or-false (not (eqb (ones (code .dim)) 1)) (ltb 4096 (code .dim)) (all .1 .1 .1 .1 .0) .1);
       bits-least = b .0;
       bits-most = b .1;
-      signs-most = counted-most (code .mode) (code .projections) (all .1 .1 .1 .1 .1 .0);
+      signs-most = counted-most (code .mode) (code .projections) (all .1 .1 .1 .1 .1 .1 .0);
     }

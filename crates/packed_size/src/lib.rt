@@ -5,6 +5,7 @@ use error::Outcome;
 use error::UNDEFINED_PROFILE;
 use error::ZERO_PROJECTION_COUNT;
 use packed::Code;
+use packed::SourceNorm;
 use radius::RadiusCodecProfileV1;
 use setup::Setup;
 use setup::TurboMode;
@@ -14,9 +15,9 @@ ghost use Rattle.error.specs.Answer.{first, accepted};
 ghost use Rattle.error.specs.Lengths.{saysLength};
 ghost use Rattle.error.specs.Outcomes.{says};
 ghost use Rattle.setup.specs.Setups.{byMode};
-ghost use Rattle.packed_size.specs.Size.{byProfile, mapFor, codeChecks, recordSizeOf};
+ghost use Rattle.packed_size.specs.Size.{byProfile, byNorm, isGiven, mapFor, badNormAlone, codeChecks, recordSizeOf};
 
-// How many bytes a record takes. Without signs the projections are ignored.
+// How many bytes a record takes. Without signs the projections are ignored; the value of a norm is not judged here.
 pub fn record_size(code: Code) -> Length
     ensures { λ r. ⌜ saysLength r ≡ recordSizeOf code ⌝ }
 {
@@ -34,7 +35,8 @@ pub fn record_size(code: Code) -> Length
         bits,
         projections,
     });
-    let head = packed::header_length(map_for(profile, mode));
+    let norm = code.norm;
+    let head = packed::header_length(map_for(profile, mode, norm));
     let body = radius::width_of(profile) * (dim / 2);
     let codes = (dim / 2 * (bits as usize) + 7) / 8;
     let marks = (signs + 7) / 8;
@@ -48,8 +50,15 @@ fn check_code(code: Code) -> Outcome
 {
     let profile = code.profile;
     let mode = code.mode;
+    let norm = code.norm;
     let projections = code.projections;
     if radius::is_bad_profile(profile) {
+        return Outcome::Refused {
+            number: UNDEFINED_PROFILE,
+            place: 0,
+        };
+    }
+    if norm_alone(mode, norm) {
         return Outcome::Refused {
             number: UNDEFINED_PROFILE,
             place: 0,
@@ -67,11 +76,31 @@ fn check_code(code: Code) -> Outcome
     Outcome::Done
 }
 
-// The map byte: bit 0 for linear radii, bit 1 for signs. BlockLogU8, which is refused, counts as F32 here.
-pub fn map_for(profile: RadiusCodecProfileV1, mode: TurboMode) -> u8
-    ensures { λ r. ⌜ r ≡ mapFor profile mode ⌝ }
+// Whether a norm is given without signs.
+fn norm_alone(mode: TurboMode, norm: SourceNorm) -> bool
+    ensures { λ r. ⌜ r ≡ badNormAlone mode norm ⌝ }
 {
-    linear_bit(profile) + signs_bit(mode)
+    match mode {
+        TurboMode::PolarOnly => is_given(norm),
+        TurboMode::PolarWithQjl => false,
+    }
+}
+
+// Whether a norm is given.
+fn is_given(norm: SourceNorm) -> bool
+    ensures { λ r. ⌜ r ≡ isGiven norm ⌝ }
+{
+    match norm {
+        SourceNorm::Absent => false,
+        SourceNorm::Given(_) => true,
+    }
+}
+
+// The map byte: bit 0 for linear radii, bit 1 for signs, bit 2 for a norm. BlockLogU8, which is refused, counts as F32 here.
+pub fn map_for(profile: RadiusCodecProfileV1, mode: TurboMode, norm: SourceNorm) -> u8
+    ensures { λ r. ⌜ r ≡ mapFor profile mode norm ⌝ }
+{
+    linear_bit(profile) + signs_bit(mode) + norm_bit(norm)
 }
 
 // Bit 0 of the map byte.
@@ -92,5 +121,15 @@ fn signs_bit(mode: TurboMode) -> u8
     match mode {
         TurboMode::PolarOnly => 0,
         TurboMode::PolarWithQjl => 2,
+    }
+}
+
+// Bit 2 of the map byte.
+fn norm_bit(norm: SourceNorm) -> u8
+    ensures { λ r. ⌜ (r ≡ byNorm norm 0 (λ x. 4)) × (r ≤ 4) ⌝ }
+{
+    match norm {
+        SourceNorm::Absent => 0,
+        SourceNorm::Given(_) => 4,
     }
 }

@@ -7,6 +7,7 @@ use borrow.Author.Tests.{le-ltb, eq-eqb}
 use lib.Dec.{ltb}
 use lib.IntN.{ℤ}
 use lib.ListN.{length, length-append}
+use Rattle.digits.proofs.Laws.{length-digits}
 use Rattle.float.specs.Bytes.{toLeBytes}
 use Rattle.float.proofs.Bytes.{length-toLeBytes}
 use lib.Ieee.{Float}
@@ -25,19 +26,10 @@ use Rattle.setup.specs.declared.TurboMode.{TurboMode}
 use Rattle.setup.specs.declared.TurboMode.the-variants.{PolarOnly, PolarWithQjl}
 use Rattle.setup.specs.Setups.{byMode, counted}
 use Rattle.packed.specs.declared.Code.{Code}
-use Rattle.packed.specs.Layout.{headerLength}
-use Rattle.packed_size.specs.Size.{byProfile, mapFor, codeChecks}
-use Rattle.packed_writing.specs.Writing.{rangeBytes, lengthChecks, fieldChecks}
-
--- ---- the header's length
-
-pub header-long : (profile : RadiusCodecProfileV1) (mode : TurboMode) → headerLength (mapFor profile mode) ≡ 6 + byProfile profile 0 8 + byMode mode 0 4
-header-long F32 PolarOnly = refl
-header-long F32 PolarWithQjl = refl
-header-long BlockLinearU16 PolarOnly = refl
-header-long BlockLinearU16 PolarWithQjl = refl
-header-long BlockLogU8 PolarOnly = refl
-header-long BlockLogU8 PolarWithQjl = refl
+use Rattle.packed.specs.declared.SourceNorm.{SourceNorm}
+use Rattle.packed.specs.declared.SourceNorm.the-variants.{Absent, Given}
+use Rattle.packed_size.specs.Size.{byProfile, byNorm, codeChecks}
+use Rattle.packed_writing.specs.Writing.{rangeBytes, projectionBytes, normBytes, lengthChecks, fieldChecks}
 
 -- ---- the scalars' checks leave those of the lengths
 
@@ -74,9 +66,17 @@ module _ (signs : List ℤ) (room : ℕ) (exact : room ≡ bytesFor (length sign
   pub signs-pass : ltb (place badSketchSign signs) (length signs) ≡ false → packSignsOf signs room ≡ value (signBytes signs)
   signs-pass good = signs-left ∙ rw good
 
--- ---- the range's bytes
+-- ---- the bytes of the range, of the projections and of the norm
 
 pub range-long : (profile : RadiusCodecProfileV1) (range : Range) → length (rangeBytes profile range) ≡ byProfile profile 0 8
 range-long F32 range = refl
 range-long BlockLinearU16 range = length-append (toLeBytes (range .min)) (toLeBytes (range .max)) ∙ rw (length-toLeBytes (range .min), length-toLeBytes (range .max))
 range-long BlockLogU8 range = refl
+
+pub projection-long : (mode : TurboMode) (m : ℕ) → length (projectionBytes mode m) ≡ byMode mode 0 4
+projection-long PolarOnly m = refl
+projection-long PolarWithQjl m = length-digits 256 4 m
+
+pub norm-long : (norm : SourceNorm) → length (normBytes norm) ≡ byNorm norm 0 (λ x. 4)
+norm-long Absent = refl
+norm-long (Given x) = length-toLeBytes x

@@ -1,7 +1,7 @@
 -- The writer's answers, case by case, as the code comes to them; and what inputs have whose scalars and lengths pass. Assumes nothing.
 use Prim.Native.Nat.{ℕ, _+_, _*_, _/_, _≤_, _<_}
 use mathlib.Core.Path.{_≡_, refl, _∙_}
-use mathlib.Core.Bool.{false}
+use mathlib.Core.Bool.{true, false}
 use mathlib.Core.List.{List, [], _∷_, _++_}
 use native.Mathlib.Omega.{arith}
 use borrow.Author.Tests.{lt-ltb, le-ltb, eq-eqb, ne-eqb}
@@ -24,8 +24,9 @@ use Rattle.radius.specs.declared.RadiusCodecProfileV1.{RadiusCodecProfileV1}
 use Rattle.radius.specs.declared.RadiusCodecProfileV1.the-variants.{F32, BlockLinearU16, BlockLogU8}
 use Rattle.lists.proofs.Chunks.{length-chunks}
 use Rattle.packed.specs.declared.Code.{Code}
+use Rattle.packed.specs.declared.SourceNorm.{SourceNorm}
 use Rattle.packed.specs.Layout.{headerLength}
-use Rattle.packed_size.specs.Size.{mapFor, neededFor, codeChecks}
+use Rattle.packed_size.specs.Size.{normValue, mapFor, neededFor, codeChecks}
 use Rattle.packed_size.proofs.Scalars.{code-small}
 use Rattle.packed_writing.specs.Writing.{itemChecks, recordOf, lengthChecks, fieldChecks, valueChecks, writeRecordOf}
 use Rattle.setup.specs.Setups.{counted}
@@ -44,7 +45,7 @@ module _ (code : Code) (radii indices signs : ℕ) (pass : first (fieldChecks co
   pub fields-long : (radii ≡ (code .dim) / 2) × ((indices ≡ (code .dim) / 2) × (signs ≡ counted (code .mode) (code .projections)))
   fields-long =
       let all = first-all (fieldChecks code radii indices signs) accepted pass in
-      (differs-same radii ((code .dim) / 2) (all .1 .1 .1 .1 .1 .1 .0), (differs-same indices ((code .dim) / 2) (all .1 .1 .1 .1 .1 .1 .1 .0), differs-same signs (counted (code .mode) (code .projections)) (all .1 .1 .1 .1 .1 .1 .1 .1 .0)))
+      (differs-same radii ((code .dim) / 2) (all .1 .1 .1 .1 .1 .1 .1 .0), (differs-same indices ((code .dim) / 2) (all .1 .1 .1 .1 .1 .1 .1 .1 .0), differs-same signs (counted (code .mode) (code .projections)) (all .1 .1 .1 .1 .1 .1 .1 .1 .1 .0)))
 
   pub fields-sized : Sized (code .profile) (code .bits) radii indices signs
   fields-sized =
@@ -57,30 +58,30 @@ module _ (code : Code) (radii indices signs : ℕ) (pass : first (fieldChecks co
       }
 
   -- the bytes that are needed, by the lengths
-  pub fields-needed : headerLength (mapFor (code .profile) (code .mode)) + widthOf (code .profile) * radii + bytesFor (indices * (code .bits)) + bytesFor signs ≡ neededFor code
+  pub fields-needed : headerLength (mapFor (code .profile) (code .mode) (code .norm)) + widthOf (code .profile) * radii + bytesFor (indices * (code .bits)) + bytesFor signs ≡ neededFor code
   fields-needed = let long = fields-long in rw (long .0, long .1 .0, long .1 .1)
 
 -- ---- the writer's answers
 
 module _ (code : Code) (radii : List Float) (indices : List ℕ) (signs : List ℤ) (room : ℕ) where
   -- the scalars and lengths, then the values, then the output's length
-  order : writeRecordOf code radii indices signs room ≡ first (fieldChecks code (length radii) (length indices) (length signs) ++ (valueChecks (code .profile) (code .bits) radii indices signs ++ (wrongRoom room (neededFor code) ∷ []))) (value (recordOf code radii indices signs))
+  order : writeRecordOf code radii indices signs room ≡ first (fieldChecks code (length radii) (length indices) (length signs) ++ (valueChecks (code .profile) (code .bits) (code .norm) radii indices signs ++ (wrongRoom room (neededFor code) ∷ []))) (value (recordOf code radii indices signs))
   unfolding writeRecordOf
   order = refl
 
   pub write-fields : {n p : ℕ} → first (fieldChecks code (length radii) (length indices) (length signs)) accepted ≡ refused n p → writeRecordOf code radii indices signs room ≡ refused n p
-  write-fields e = order ∙ append-refused (fieldChecks code (length radii) (length indices) (length signs)) (valueChecks (code .profile) (code .bits) radii indices signs ++ (wrongRoom room (neededFor code) ∷ [])) tt (value (recordOf code radii indices signs)) e
+  write-fields e = order ∙ append-refused (fieldChecks code (length radii) (length indices) (length signs)) (valueChecks (code .profile) (code .bits) (code .norm) radii indices signs ++ (wrongRoom room (neededFor code) ∷ [])) tt (value (recordOf code radii indices signs)) e
 
   module _ (pass : first (fieldChecks code (length radii) (length indices) (length signs)) accepted ≡ accepted) where
-    values : writeRecordOf code radii indices signs room ≡ first (valueChecks (code .profile) (code .bits) radii indices signs ++ (wrongRoom room (neededFor code) ∷ [])) (value (recordOf code radii indices signs))
-    values = order ∙ append-passed (fieldChecks code (length radii) (length indices) (length signs)) (valueChecks (code .profile) (code .bits) radii indices signs ++ (wrongRoom room (neededFor code) ∷ [])) tt (value (recordOf code radii indices signs)) pass
+    values : writeRecordOf code radii indices signs room ≡ first (valueChecks (code .profile) (code .bits) (code .norm) radii indices signs ++ (wrongRoom room (neededFor code) ∷ [])) (value (recordOf code radii indices signs))
+    values = order ∙ append-passed (fieldChecks code (length radii) (length indices) (length signs)) (valueChecks (code .profile) (code .bits) (code .norm) radii indices signs ++ (wrongRoom room (neededFor code) ∷ [])) tt (value (recordOf code radii indices signs)) pass
 
-    pub write-values : {n p : ℕ} → first (valueChecks (code .profile) (code .bits) radii indices signs) accepted ≡ refused n p → writeRecordOf code radii indices signs room ≡ refused n p
-    write-values e = values ∙ append-refused (valueChecks (code .profile) (code .bits) radii indices signs) (wrongRoom room (neededFor code) ∷ []) tt (value (recordOf code radii indices signs)) e
+    pub write-values : {n p : ℕ} → first (valueChecks (code .profile) (code .bits) (code .norm) radii indices signs) accepted ≡ refused n p → writeRecordOf code radii indices signs room ≡ refused n p
+    write-values e = values ∙ append-refused (valueChecks (code .profile) (code .bits) (code .norm) radii indices signs) (wrongRoom room (neededFor code) ∷ []) tt (value (recordOf code radii indices signs)) e
 
-    module _ (good : first (valueChecks (code .profile) (code .bits) radii indices signs) accepted ≡ accepted) where
+    module _ (good : first (valueChecks (code .profile) (code .bits) (code .norm) radii indices signs) accepted ≡ accepted) where
       last : writeRecordOf code radii indices signs room ≡ first (wrongRoom room (neededFor code) ∷ []) (value (recordOf code radii indices signs))
-      last = values ∙ append-passed (valueChecks (code .profile) (code .bits) radii indices signs) (wrongRoom room (neededFor code) ∷ []) tt (value (recordOf code radii indices signs)) good
+      last = values ∙ append-passed (valueChecks (code .profile) (code .bits) (code .norm) radii indices signs) (wrongRoom room (neededFor code) ∷ []) tt (value (recordOf code radii indices signs)) good
 
       pub write-no-room : {need : ℕ} → need ≡ neededFor code → (room ≡ need → ⊥) → writeRecordOf code radii indices signs room ≡ refused 6 need
       write-no-room {need} is h = last ∙ rw (← is) (simp (ne-eqb room need h))
@@ -98,20 +99,24 @@ length-readBack BlockLogU8 radii e = let z : _≡_ {A = ℕ} 0 1 = cc in absurd 
 
 -- ---- the values' checks, from what each search returned
 
-module _ (profile : RadiusCodecProfileV1) (bits : ℕ) (radii : List Float) (indices : List ℕ) (signs : List ℤ) {bad : ℕ} (found : bad ≡ place badRadius radii) where
-  pub values-radius : bad < length radii → first (valueChecks profile bits radii indices signs) accepted ≡ refused 16 bad
-  values-radius h = simp (← found, lt-ltb _ _ h)
+pub values-norm : (profile : RadiusCodecProfileV1) (bits : ℕ) (norm : SourceNorm) (radii : List Float) (indices : List ℕ) (signs : List ℤ) → badRadius (normValue norm) ≡ true
+    → first (valueChecks profile bits norm radii indices signs) accepted ≡ refused 23 0
+values-norm profile bits norm radii indices signs e = simp e
+
+module _ (profile : RadiusCodecProfileV1) (bits : ℕ) (norm : SourceNorm) (radii : List Float) (indices : List ℕ) (signs : List ℤ) (normal : badRadius (normValue norm) ≡ false) {bad : ℕ} (found : bad ≡ place badRadius radii) where
+  pub values-radius : bad < length radii → first (valueChecks profile bits norm radii indices signs) accepted ≡ refused 16 bad
+  values-radius h = simp (normal, ← found, lt-ltb _ _ h)
 
   module _ (fine : length radii ≤ bad) (known : badProfile profile ≡ false) {lost : ℕ} (lost-at : lost ≡ firstBadReadBackOf radii profile) where
     -- the checks that are left
-    rest : first (valueChecks profile bits radii indices signs) accepted ≡ first (check (ltb lost (length radii)) 16 lost ∷ itemChecks bits indices signs) accepted
+    rest : first (valueChecks profile bits norm radii indices signs) accepted ≡ first (check (ltb lost (length radii)) 16 lost ∷ itemChecks bits indices signs) accepted
     unfolding firstBadReadBackOf
-    rest = simp (← found, le-ltb _ _ fine, length-readBack profile radii known, ← lost-at)
+    rest = simp (normal, ← found, le-ltb _ _ fine, length-readBack profile radii known, ← lost-at)
 
-    pub values-lost : lost < length radii → first (valueChecks profile bits radii indices signs) accepted ≡ refused 16 lost
+    pub values-lost : lost < length radii → first (valueChecks profile bits norm radii indices signs) accepted ≡ refused 16 lost
     values-lost h = rest ∙ simp (lt-ltb _ _ h)
 
-    pub values-codes : length radii ≤ lost → first (valueChecks profile bits radii indices signs) accepted ≡ first (itemChecks bits indices signs) accepted
+    pub values-codes : length radii ≤ lost → first (valueChecks profile bits norm radii indices signs) accepted ≡ first (itemChecks bits indices signs) accepted
     values-codes kept = rest ∙ simp (le-ltb _ _ kept)
 
 module _ (bits : ℕ) (indices : List ℕ) (signs : List ℤ) {large : ℕ} (large-at : large ≡ place (badIndex bits) indices) where

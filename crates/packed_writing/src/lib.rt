@@ -3,11 +3,13 @@
 use error::DIMENSION_MISMATCH;
 use error::Length;
 use error::MALFORMED_INDEX;
+use error::MALFORMED_NORM;
 use error::MALFORMED_RADIUS;
 use error::MALFORMED_SIGN;
 use error::OUTPUT_LENGTH;
 use error::Outcome;
 use packed::Code;
+use packed::SourceNorm;
 use radius::RadiusCodecProfileV1;
 use radius::Range;
 use radius_writing::Compressed;
@@ -26,8 +28,8 @@ ghost use Rattle.bitpack.specs.Signs.{packSignsOf, signBytes};
 ghost use Rattle.setup.specs.Setups.{byMode};
 ghost use Rattle.radius.specs.Codec.{badProfile, compressChecks, rangeFor, payloadFor};
 ghost use Rattle.packed.specs.Layout.{headerLength};
-ghost use Rattle.packed_size.specs.Size.{byProfile, mapFor, neededFor};
-ghost use Rattle.packed_writing.specs.Writing.{itemChecks, rangeBytes, projectionBytes, headerBytes, lengthChecks, fieldChecks, valueChecks, writeRecordOf};
+ghost use Rattle.packed_size.specs.Size.{byProfile, byNorm, normValue, mapFor, neededFor};
+ghost use Rattle.packed_writing.specs.Writing.{itemChecks, rangeBytes, projectionBytes, normBytes, headerBytes, lengthChecks, fieldChecks, valueChecks, writeRecordOf};
 ghost use Rattle.packed_writing.specs.Inner.{CodesReady, Payloads};
 
 // Writes a record into exactly the bytes that it needs. Without signs the projections are ignored.
@@ -63,7 +65,9 @@ fn write_sized(
     let profile = code.profile;
     let mode = code.mode;
     let bits = code.bits;
-    if let Outcome::Refused { number, place } = check_values(profile, bits, radii, indices, signs) {
+    let norm = code.norm;
+    let checked = check_values(profile, bits, norm, radii, indices, signs);
+    if let Outcome::Refused { number, place } = checked {
         return Outcome::Refused { number, place };
     }
     if out.len() != need {
@@ -72,7 +76,7 @@ fn write_sized(
             place: need,
         };
     }
-    let head = packed::header_length(packed_size::map_for(profile, mode));
+    let head = packed::header_length(packed_size::map_for(profile, mode, norm));
     let range = put_payloads(radii, profile, indices, bits, signs, &mut out[head..]);
     put_header(code, range, &mut out[0..head]);
     Outcome::Done
@@ -132,17 +136,24 @@ fn check_lengths(
     Outcome::Done
 }
 
-// The checks of radii, as they are and as they would be read back, of indices and of signs.
+// The checks of the norm, of radii, as they are and as they would be read back, of indices and of signs.
 fn check_values(
     profile: RadiusCodecProfileV1,
     bits: u8,
+    norm: SourceNorm,
     radii: &[f32],
     indices: &[u16],
     signs: &[i8],
 ) -> Outcome
     requires { ⌜ badProfile profile ≡ false ⌝ }
-    ensures { λ r. ⌜ says r ≡ first (valueChecks profile bits (now (radii .entry)) (now (indices .entry)) (now (signs .entry))) accepted ⌝ }
+    ensures { λ r. ⌜ says r ≡ first (valueChecks profile bits norm (now (radii .entry)) (now (indices .entry)) (now (signs .entry))) accepted ⌝ }
 {
+    if radius::is_bad_radius(norm_value(norm)) {
+        return Outcome::Refused {
+            number: MALFORMED_NORM,
+            place: 0,
+        };
+    }
     let bad = radius::first_bad_radius(radii);
     if bad < radii.len() {
         return Outcome::Refused {
@@ -158,6 +169,16 @@ fn check_values(
         };
     }
     check_codes(bits, indices, signs)
+}
+
+// A norm that is given, or 1.0.
+fn norm_value(norm: SourceNorm) -> f32
+    ensures { λ r. ⌜ r ≡ normValue norm ⌝ }
+{
+    match norm {
+        SourceNorm::Absent => 1.0,
+        SourceNorm::Given(x) => x,
+    }
 }
 
 // The checks of indices and of signs.
@@ -242,16 +263,29 @@ fn put_signs(signs: &[i8], out: &mut [u8])
 
 // Writes the header.
 fn put_header(code: Code, range: Range, out: &mut [u8])
-    requires { ⌜ length (now out) ≡ headerLength (mapFor (code .profile) (code .mode)) ⌝ }
+    requires { ⌜ length (now out) ≡ headerLength (mapFor (code .profile) (code .mode) (code .norm)) ⌝ }
     ensures { λ r. ⌜ now (out .exit) ≡ headerBytes code range ⌝ }
 {
     let profile = code.profile;
     let mode = code.mode;
-    out[0] = packed_size::map_for(profile, mode);
+    let norm = code.norm;
+    out[0] = packed_size::map_for(profile, mode, norm);
     digits::put_word(out, 1, code.dim as u64);
     out[5] = code.bits;
     put_range(out, profile, range);
-    put_projections(out, mode, code.projections);
+    put_projections(out, range_end(profile), mode, code.projections);
+    put_norm(out, norm);
+}
+
+// Where the range of a header ends; byte 6 where it has none.
+fn range_end(profile: RadiusCodecProfileV1) -> usize
+    ensures { λ r. ⌜ r ≡ 6 + byProfile profile 0 8 ⌝ }
+{
+    match profile {
+        RadiusCodecProfileV1::F32 => 6,
+        RadiusCodecProfileV1::BlockLinearU16 => 14,
+        RadiusCodecProfileV1::BlockLogU8 => 6,
+    }
 }
 
 // Writes the range at byte 6 of a header, where radii are linear.
@@ -269,13 +303,23 @@ fn put_range(out: &mut [u8], profile: RadiusCodecProfileV1, range: Range)
     }
 }
 
-// Writes the projections in the last four bytes of a header, where there are signs.
-fn put_projections(out: &mut [u8], mode: TurboMode, projections: usize)
-    requires { ⌜ byMode mode 0 4 ≤ length (now out) ⌝ }
-    ensures { λ r. ⌜ now (out .exit) ≡ take (length (now (out .entry)) - byMode mode 0 4) (now (out .entry)) ++ projectionBytes mode projections ⌝ }
+// Writes the projections at a byte of a header, where there are signs.
+fn put_projections(out: &mut [u8], at: usize, mode: TurboMode, projections: usize)
+    requires { ⌜ at + byMode mode 0 4 ≤ length (now out) ⌝ }
+    ensures { λ r. ⌜ now (out .exit) ≡ take at (now (out .entry)) ++ projectionBytes mode projections ++ drop (at + byMode mode 0 4) (now (out .entry)) ⌝ }
 {
     if let TurboMode::PolarWithQjl = mode {
-        let at = out.len() - 4;
         digits::put_word(out, at, projections as u64);
+    }
+}
+
+// Writes a norm that is given in the last four bytes of a header.
+fn put_norm(out: &mut [u8], norm: SourceNorm)
+    requires { ⌜ byNorm norm 0 (λ x. 4) ≤ length (now out) ⌝ }
+    ensures { λ r. ⌜ now (out .exit) ≡ take (length (now (out .entry)) - byNorm norm 0 (λ x. 4)) (now (out .entry)) ++ normBytes norm ⌝ }
+{
+    if let SourceNorm::Given(x) = norm {
+        let at = out.len() - 4;
+        float::put_f32(out, at, x);
     }
 }

@@ -1,7 +1,7 @@
 -- The answers of the calls, case by case, from what their checks find. Assumes nothing.
 use Prim.Native.Nat.{ℕ, _≤_, _<_}
 use mathlib.Core.Path.{_≡_, refl, sym, ap, _∙_, subst}
-use mathlib.Core.Bool.{false}
+use mathlib.Core.Bool.{true, false}
 use mathlib.Core.List.{List, [], _∷_, map}
 use borrow.Author.Tests.{eqb-true, not-false, eq-eqb, ne-eqb, ltb-false}
 use lib.Dec.{ltb}
@@ -24,9 +24,10 @@ use Rattle.rounding.specs.Rows.{projected}
 use Rattle.qjl_rows.specs.Inner.{Rowed}
 use Rattle.qjl.specs.Sketch.{signOfSum, vectorChecks, sketchOf}
 use Rattle.bitpack.specs.Signs.{badSketchSign}
+use Rattle.radius.specs.Radii.{badRadius}
 use Rattle.qjl_rows.proofs.FiniteSums.{matrix-finite, query-finite}
 use Rattle.qjl_rows.proofs.Rows.{above-zero}
-use Rattle.qjl_residual.specs.Residual.{unitResidual}
+use Rattle.qjl_residual.specs.Residual.{residualOf}
 use Rattle.qjl.specs.Score.{signedScore, modeScore, sketchScoreOf}
 
 -- ---- the checks of a vector
@@ -54,25 +55,29 @@ module _ (s : Setup) (l : Lent) (vector : List Float) where
 
 -- ---- a score from a projected query
 
-module _ (m : ℕ) (values : List Float) (signs : List ℤ) where
-  pub signed-entry : {i : ℕ} → i ≡ place badValue values → i < length values → signedScore m values signs ≡ refused 11 i
+module _ (m : ℕ) (values : List Float) (signs : List ℤ) (norm : Float) where
+  pub signed-entry : {i : ℕ} → i ≡ place badValue values → i < length values → signedScore m values signs norm ≡ refused 11 i
   unfolding signedScore
   signed-entry p l = simp (each-offends badValue values p l, p)
 
   module _ {i : ℕ} (p : i ≡ place badValue values) (l : length values ≤ i) where
-    pub signed-length : (length signs ≡ m → ⊥) → signedScore m values signs ≡ refused 5 (length signs)
+    pub signed-length : (length signs ≡ m → ⊥) → signedScore m values signs norm ≡ refused 5 (length signs)
     unfolding signedScore
     signed-length h = simp (each-passes badValue values p l, ne-eqb (length signs) m h)
 
     module _ (h : length signs ≡ m) where
-      pub signed-sign : {j : ℕ} → j ≡ place badSketchSign signs → j < length signs → signedScore m values signs ≡ refused 10 j
+      pub signed-sign : {j : ℕ} → j ≡ place badSketchSign signs → j < length signs → signedScore m values signs norm ≡ refused 10 j
       unfolding signedScore
       signed-sign q k = simp (each-passes badValue values p l, eq-eqb (length signs) m h, each-offends badSketchSign signs q k, q)
 
       module _ {j : ℕ} (q : j ≡ place badSketchSign signs) (k : length signs ≤ j) where
-        pub signed-judged : signedScore m values signs ≡ finiteScoreOf (unitResidual m values signs)
+        pub signed-norm : badRadius norm ≡ true → signedScore m values signs norm ≡ refused 23 0
         unfolding signedScore
-        signed-judged = simp (each-passes badValue values p l, eq-eqb (length signs) m h, each-passes badSketchSign signs q k)
+        signed-norm bad = simp (each-passes badValue values p l, eq-eqb (length signs) m h, each-passes badSketchSign signs q k, bad)
+
+        pub signed-judged : badRadius norm ≡ false → signedScore m values signs norm ≡ finiteScoreOf (residualOf m norm values signs)
+        unfolding signedScore
+        signed-judged good = simp (each-passes badValue values p l, eq-eqb (length signs) m h, each-passes badSketchSign signs q k, good)
 
 -- ---- what a vector has whose checks all pass
 
@@ -146,32 +151,37 @@ module _ (s : Setup) (l : Lent) (vector : List Float) (room : ℕ) (passed : fir
 
 -- ---- a sketch score
 
-module _ (s : Setup) (l : Lent) (query : List Float) (sketch : List ℤ) where
+module _ (s : Setup) (l : Lent) (query : List Float) (sketch : List ℤ) (norm : Float) where
   pub score-refused : {number place : ℕ} → first (vectorChecks s l query) accepted ≡ refused number place
-      → sketchScoreOf s l query sketch ≡ refused number place
+      → sketchScoreOf s l query sketch norm ≡ refused number place
   unfolding sketchScoreOf
-  score-refused e = first-refused (vectorChecks s l query) (modeScore (s .mode) (s .dim) (s .projections) (l .matrix) query sketch) e
+  score-refused e = first-refused (vectorChecks s l query) (modeScore (s .mode) (s .dim) (s .projections) (l .matrix) query sketch norm) e
 
   -- the checks of the query pass, and the mode is known
   module _ {mode : TurboMode} (passed : first (vectorChecks s l query) accepted ≡ accepted) (is : s .mode ≡ mode) where
-    score-rest : sketchScoreOf s l query sketch ≡ modeScore mode (s .dim) (s .projections) (l .matrix) query sketch
+    score-rest : sketchScoreOf s l query sketch norm ≡ modeScore mode (s .dim) (s .projections) (l .matrix) query sketch norm
     unfolding sketchScoreOf
     score-rest =
-        first-passed (vectorChecks s l query) (modeScore (s .mode) (s .dim) (s .projections) (l .matrix) query sketch) passed
-        ∙ ap (λ (m : TurboMode). modeScore m (s .dim) (s .projections) (l .matrix) query sketch) is
+        first-passed (vectorChecks s l query) (modeScore (s .mode) (s .dim) (s .projections) (l .matrix) query sketch norm) passed
+        ∙ ap (λ (m : TurboMode). modeScore m (s .dim) (s .projections) (l .matrix) query sketch norm) is
 
   pub score-residual : first (vectorChecks s l query) accepted ≡ accepted → s .mode ≡ PolarWithQjl
-      → sketchScoreOf s l query sketch ≡ signedScore (s .projections) (projected (s .dim) (s .projections) (l .matrix) query) sketch
+      → sketchScoreOf s l query sketch norm ≡ signedScore (s .projections) (projected (s .dim) (s .projections) (l .matrix) query) sketch norm
   unfolding modeScore
   score-residual e m = score-rest e m
 
   pub score-alone-length : first (vectorChecks s l query) accepted ≡ accepted → s .mode ≡ PolarOnly → (length sketch ≡ 0 → ⊥)
-      → sketchScoreOf s l query sketch ≡ refused 5 (length sketch)
+      → sketchScoreOf s l query sketch norm ≡ refused 5 (length sketch)
   unfolding modeScore
   score-alone-length e m h = score-rest e m ∙ simp (ne-eqb (length sketch) 0 h)
 
-  -- without residual it is 0
-  pub score-alone : first (vectorChecks s l query) accepted ≡ accepted → s .mode ≡ PolarOnly → length sketch ≡ 0
-      → sketchScoreOf s l query sketch ≡ value posZero
+  pub score-alone-norm : first (vectorChecks s l query) accepted ≡ accepted → s .mode ≡ PolarOnly → length sketch ≡ 0 → badRadius norm ≡ true
+      → sketchScoreOf s l query sketch norm ≡ refused 23 0
   unfolding modeScore
-  score-alone e m h = score-rest e m ∙ simp (eq-eqb (length sketch) 0 h)
+  score-alone-norm e m h bad = score-rest e m ∙ simp (eq-eqb (length sketch) 0 h, bad)
+
+  -- without residual it is 0
+  pub score-alone : first (vectorChecks s l query) accepted ≡ accepted → s .mode ≡ PolarOnly → length sketch ≡ 0 → badRadius norm ≡ false
+      → sketchScoreOf s l query sketch norm ≡ value posZero
+  unfolding modeScore
+  score-alone e m h good = score-rest e m ∙ simp (eq-eqb (length sketch) 0 h, good)

@@ -2,6 +2,7 @@
 // Ported from turbo-quant/src/qjl.rs and changed: the matrix and the outputs are lent, and an error is a number and a place.
 
 use error::DIMENSION_MISMATCH;
+use error::MALFORMED_NORM;
 use error::MALFORMED_SIGN;
 use error::NON_FINITE_INPUT;
 use error::OUTPUT_LENGTH;
@@ -40,7 +41,7 @@ pub fn sketch(
     sketch_checked(setup, signs, directions, matrix, vector, out)
 }
 
-// The score of a sketch for a query: the residual with the source norm 1.0, and 0 in `PolarOnly`.
+// The score of a sketch for a query: the residual with the sketch's source norm, and 0 in `PolarOnly`.
 pub fn sketch_score(
     setup: Setup,
     signs: &[f32],
@@ -48,8 +49,9 @@ pub fn sketch_score(
     matrix: &[f32],
     query: &[f32],
     sketch: &[i8],
+    norm: f32,
 ) -> Scored
-    ensures { λ r. ⌜ saysScore r ≡ sketchScoreOf setup (lent (now (signs .entry)) (now (directions .entry)) (now (matrix .entry))) (now (query .entry)) (now (sketch .entry)) ⌝ }
+    ensures { λ r. ⌜ saysScore r ≡ sketchScoreOf setup (lent (now (signs .entry)) (now (directions .entry)) (now (matrix .entry))) (now (query .entry)) (now (sketch .entry)) norm ⌝ }
 {
     let checked = check_vector(setup, signs, directions, matrix, query);
     if let Outcome::Refused { number, place } = checked {
@@ -64,6 +66,12 @@ pub fn sketch_score(
                     place: sketch.len(),
                 };
             }
+            if radius::is_bad_radius(norm) {
+                return Scored::Refused {
+                    number: MALFORMED_NORM,
+                    place: 0,
+                };
+            }
             Scored::Score(0.0)
         }
         TurboMode::PolarWithQjl => residual_score(
@@ -72,6 +80,7 @@ pub fn sketch_score(
             matrix,
             query,
             sketch,
+            norm,
         ),
     }
 }
@@ -216,19 +225,20 @@ fn residual_score(
     matrix: &[f32],
     query: &[f32],
     sketch: &[i8],
+    norm: f32,
 ) -> Scored
     requires { ⌜ Rowed dim (now matrix) (now query) projections × (projections ≤ 4096) ⌝ }
-    ensures { λ r. ⌜ saysScore r ≡ signedScore projections (projected dim projections (now (matrix .entry)) (now (query .entry))) (now (sketch .entry)) ⌝ }
+    ensures { λ r. ⌜ saysScore r ≡ signedScore projections (projected dim projections (now (matrix .entry)) (now (query .entry))) (now (sketch .entry)) norm ⌝ }
 {
     let mut values = zeros();
     qjl_rows::project(dim, matrix, query, &mut values[0..projections]);
-    signed_score(projections, &values[0..projections], sketch)
+    signed_score(projections, &values[0..projections], sketch, norm)
 }
 
 // The score of a sketch from the projected query.
-fn signed_score(projections: usize, values: &[f32], sketch: &[i8]) -> Scored
+fn signed_score(projections: usize, values: &[f32], sketch: &[i8], norm: f32) -> Scored
     requires { ⌜ projections ≤ 4096 ⌝ }
-    ensures { λ r. ⌜ saysScore r ≡ signedScore projections (now (values .entry)) (now (sketch .entry)) ⌝ }
+    ensures { λ r. ⌜ saysScore r ≡ signedScore projections (now (values .entry)) (now (sketch .entry)) norm ⌝ }
 {
     let bad = error::first_non_finite(values);
     if bad < values.len() {
@@ -250,7 +260,13 @@ fn signed_score(projections: usize, values: &[f32], sketch: &[i8]) -> Scored
             place: stray,
         };
     }
-    error::finite_score(qjl_residual::residual(projections as u16, 1.0, values, sketch))
+    if radius::is_bad_radius(norm) {
+        return Scored::Refused {
+            number: MALFORMED_NORM,
+            place: 0,
+        };
+    }
+    error::finite_score(qjl_residual::residual(projections as u16, norm, values, sketch))
 }
 
 // Room for the projections, of which there are at most 4,096.

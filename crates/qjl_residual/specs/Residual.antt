@@ -1,18 +1,17 @@
--- This is the residual: a scale times the sum of sign times projected value. Quotes are document 01's. Assumes nothing.
+-- This is the residual: a scale times the sum of sign times projected value. Quotes are document 01's where they name no other. Assumes nothing.
 use Prim.Native.Nat.{ℕ}
-use mathlib.Core.Bool.{false}
 use mathlib.Core.List.{List, map}
 use lib.IntN.{ℤ, pos}
 use lib.Ieee.{Float, binary32, mul, div, ofInt}
 use Rattle.float.specs.SquareRoot.{squareRoot}
-use Rattle.float.specs.Constants.{one, two, pi}
+use Rattle.float.specs.Constants.{two, pi}
 use Rattle.rounding.specs.Sums.{dot}
 
 -- This is root(PI / 2), with 'PI is 40490FDB'; quotient and root are each rounded once.
 unfoldable pub root : Float
 root = squareRoot (div binary32 pi two)
 
--- 'the scale K is root(PI / 2) × 1.0 / m', with the norm in the place of 1.0.
+-- Document 02: 'K becomes root(PI / 2) × norm / m, in that order', each step rounded once.
 unfoldable pub scaleOf : ℕ → Float → Float
 scaleOf m norm = div binary32 (mul binary32 root norm) (ofInt binary32 (pos m))
 
@@ -23,7 +22,3 @@ signSumOf signs values = dot (map (ofInt binary32) signs) values
 -- 'Residual: scale times the sum of sign times projected value'.
 unfoldable pub residualOf : ℕ → Float → List Float → List ℤ → Float
 residualOf m norm values signs = mul binary32 (scaleOf m norm) (signSumOf signs values)
-
--- This is the residual of a projected query and lent signs, with the norm 1.0.
-abbrev pub unitResidual : ℕ → List Float → List ℤ → Float
-unitResidual m values signs = residualOf m (one false) values signs

@@ -11,7 +11,7 @@ use lib.ListN.{length, getD, drop, drop-of-length-le}
 use lib.Seq.{drop-cons}
 use lib.Ieee.{Float, nan, inf, fin, isNan, lt}
 use lib.Ieee.Scale.{finite}
-use Rattle.float.specs.Constants.{posZero}
+use Rattle.float.specs.Constants.{posZero, one}
 use Rattle.radius.specs.Radii.{badRadius, least, greatest, rangeOf}
 use Rattle.radius.specs.declared.Range.{Range}
 
@@ -60,3 +60,8 @@ pub radius-not-below : (r : Float) → badRadius r ≡ false → lt r posZero �
 radius-not-below nan e = absurd (true≢false e)
 radius-not-below (inf s) e = absurd (true≢false e)
 radius-not-below (fin s m x) e = e
+
+-- 1.0 passes
+pub one-good : badRadius (one false) ≡ false
+unfolding lt
+one-good = refl

@@ -4,6 +4,7 @@ use mathlib.Core.List.{List, [], _∷_}
 use lib.Ieee.{Float, binary32, ofBits, lt}
 use lib.Ieee.Scale.{finite}
 use Rattle.float.specs.Constants.{posZero}
+use Rattle.error.specs.Answer.{Check, check}
 use Rattle.radius.specs.declared.Range.{Range}
 
 -- These two are 65535.0 and 2^−23, by their patterns.
@@ -16,6 +17,10 @@ epsilonFloat = ofBits binary32 0x3400_0000
 -- '16: a radius is NaN, infinite or below zero.' −0.0 is not below zero.
 abbrev pub badRadius : Float → Bool
 badRadius r = not (finite r) || lt r posZero
+
+-- Document 02: '23 when the norm is not finite or below zero', with place 0. It is the test that a radius has to pass.
+abbrev pub wrongNorm : Float → Check
+wrongNorm norm = check (badRadius norm) 23 0
 
 -- '17: a bound not finite, or min above max'. A negative range passes here; a record's own rule refuses it.
 abbrev pub badRange : Range → Bool

@@ -6,6 +6,7 @@
 //    4 the place      12, 20, 28 three numbers      36, 40, 44 three floats      48, 52 the floats of the answer
 //   56 ten lists: where it starts, counted in its elements, in two bytes, and how many it has, in two
 
+use packed::SourceNorm;
 use radius::RadiusCodecProfileV1;
 use radius::Range;
 use setup::Setup;
@@ -94,6 +95,14 @@ pub(crate) fn count(case: &[u8; 512]) -> usize {
 
 pub(crate) fn projections(case: &[u8; 512]) -> usize {
     long(case, SECOND) as usize
+}
+
+// The norm that a record is written with: given where the third number is not 0.
+pub(crate) fn norm(case: &[u8; 512]) -> SourceNorm {
+    if long(case, THIRD) == 0 {
+        return SourceNorm::Absent;
+    }
+    SourceNorm::Given(float_at(case, VALUE))
 }
 
 pub(crate) fn range(case: &[u8; 512]) -> Range {

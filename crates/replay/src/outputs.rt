@@ -72,12 +72,14 @@ fn write_record(case: &[u8; 512], out: &mut [u8]) -> bool {
     let signs = frame::sign_view(case);
     let profile = frame::profile(case);
     let mode = frame::mode(case);
+    let norm = frame::norm(case);
     let code = Code {
         profile,
         mode,
         dim: frame::count(case),
         bits: frame::bits(case),
         projections: frame::projections(case),
+        norm,
     };
     let given = packed_writing::write_record(
         code,

@@ -53,6 +53,14 @@ pub(crate) fn number(case: &[u8; 512], given: u64) -> bool {
     accepted(case) && given == frame::long(case, frame::THIRD)
 }
 
+// Whether the list says that a record was read, that a norm stood or did not, and this norm, to the last bit.
+pub(crate) fn norm(case: &[u8; 512], stood: bool, given: f32) -> bool {
+    let wanted = frame::float_at(case, frame::VALUE);
+    accepted(case)
+        && stood == (frame::long(case, frame::THIRD) == 1)
+        && float::to_bits(given) == float::to_bits(wanted)
+}
+
 pub(crate) fn score(case: &[u8; 512], given: Scored) -> bool {
     match given {
         Scored::Score(x) => value(case, x),

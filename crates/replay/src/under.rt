@@ -156,7 +156,8 @@ fn score(
     if call == 31 {
         let view = frame::sign_view(case);
         let sketch = frame::signs(case, &view);
-        return qjl::sketch_score(setup, signs, directions, matrix, query, sketch);
+        let norm = frame::float_at(case, frame::VALUE);
+        return qjl::sketch_score(setup, signs, directions, matrix, query, sketch, norm);
     }
     let record = frame::bytes(case, frame::BYTES);
     if call == 32 {

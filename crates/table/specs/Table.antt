@@ -16,6 +16,7 @@ use Rattle.radius.specs.declared.RadiusCodecProfileV1.the-variants.{F32, BlockL
 use Rattle.rotation.specs.Rotation.{applyOf}
 use Rattle.polar.specs.Angle.{dequantizeAngleOf}
 use Rattle.setup.specs.declared.TurboMode.the-variants.{PolarOnly, PolarWithQjl}
+use Rattle.packed.specs.declared.SourceNorm.the-variants.{Absent}
 use Rattle.packed.specs.Reading.{radiiOf, indicesOf, signsOf, readRecordOf}
 use Rattle.packed_writing.specs.Writing.{writeRecordOf}
 
@@ -54,14 +55,14 @@ pub record Table : Type 0 where
   -- '(0, 0.5, 1): 00 00 00 80 FF FF.'
   pub p11 : compressBytesOf (float 0x0000_0000 ∷ float 0x3F00_0000 ∷ float 0x3F80_0000 ∷ []) BlockLinearU16 6 ≡ value (0x00 ∷ 0x00 ∷ 0x00 ∷ 0x80 ∷ 0xFF ∷ 0xFF ∷ [])
   -- 'n 2, 1 bit, radius 1.0, index 1: 00 02 00 00 00 01 00 00 80 3F 01.' It is written, and read again.
-  pub p12-written : writeRecordOf (record { profile = F32; mode = PolarOnly; dim = 2; bits = 1; projections = 0 }) (one false ∷ []) (1 ∷ []) [] 11 ≡ value withoutSigns
-  pub p12-read : readRecordOf withoutSigns ≡ value (record { mode = PolarOnly; profile = F32; dim = 2; bits = 1; projections = 0; range = record { min = posZero; max = posZero }; «radii_start» = 6; «indices_start» = 10; «signs_start» = 11; end = 11 })
+  pub p12-written : writeRecordOf (record { profile = F32; mode = PolarOnly; dim = 2; bits = 1; projections = 0; norm = Absent }) (one false ∷ []) (1 ∷ []) [] 11 ≡ value withoutSigns
+  pub p12-read : readRecordOf withoutSigns ≡ value (record { mode = PolarOnly; profile = F32; dim = 2; bits = 1; projections = 0; range = record { min = posZero; max = posZero }; «has_norm» = false; norm = one false; «radii_start» = 6; «indices_start» = 10; «signs_start» = 11; end = 11 })
   pub p12-radii : radiiOf withoutSigns ≡ one false ∷ []
   pub p12-indices : indicesOf withoutSigns ≡ 1 ∷ []
   pub p12-signs : signsOf withoutSigns ≡ []
   -- 'With signs (+, −, +): 02 02 00 00 00 01 03 00 00 00 00 00 80 3F 01 05.' It is written, and read again.
-  pub p13-written : writeRecordOf (record { profile = F32; mode = PolarWithQjl; dim = 2; bits = 1; projections = 3 }) (one false ∷ []) (1 ∷ []) (pos 1 ∷ negsuc 0 ∷ pos 1 ∷ []) 16 ≡ value withSigns
-  pub p13-read : readRecordOf withSigns ≡ value (record { mode = PolarWithQjl; profile = F32; dim = 2; bits = 1; projections = 3; range = record { min = posZero; max = posZero }; «radii_start» = 10; «indices_start» = 14; «signs_start» = 15; end = 16 })
+  pub p13-written : writeRecordOf (record { profile = F32; mode = PolarWithQjl; dim = 2; bits = 1; projections = 3; norm = Absent }) (one false ∷ []) (1 ∷ []) (pos 1 ∷ negsuc 0 ∷ pos 1 ∷ []) 16 ≡ value withSigns
+  pub p13-read : readRecordOf withSigns ≡ value (record { mode = PolarWithQjl; profile = F32; dim = 2; bits = 1; projections = 3; range = record { min = posZero; max = posZero }; «has_norm» = false; norm = one false; «radii_start» = 10; «indices_start» = 14; «signs_start» = 15; end = 16 })
   pub p13-radii : radiiOf withSigns ≡ one false ∷ []
   pub p13-indices : indicesOf withSigns ≡ 1 ∷ []
   pub p13-signs : signsOf withSigns ≡ pos 1 ∷ negsuc 0 ∷ pos 1 ∷ []

@@ -18,8 +18,9 @@ use Rattle.setup.specs.declared.TurboMode.the-variants.{PolarOnly, PolarWithQjl
 use Rattle.setup.specs.Setups.{byMode, countedProjectionsOf}
 use Rattle.setup.specs.Checks.{scalarChecks}
 use Rattle.setup_tables.specs.Checks.{tableChecks, setupChecks, directionChecks}
-use Rattle.qjl_residual.specs.Residual.{unitResidual}
+use Rattle.qjl_residual.specs.Residual.{residualOf}
 use Rattle.qjl.specs.Sketch.{vectorChecks}
+use Rattle.packed.specs.Fields.{normOf}
 use Rattle.packed.specs.Reading.{unlessWithdrawn, radiiOf, signsOf}
 use Rattle.packed.proofs.Withdrawn.{unless-none, unless-some, unless-value, unless-refused, unless-withdrawn}
 use Rattle.turbo_order.specs.Scores.{accountOf, scoreFrom, scoreOf}
@@ -52,7 +53,7 @@ module _ (s : Setup) (l : Lent) (query : List Float) (bytes : List ℕ) where
   unfolding scoreOf scoreFrom
   estimate-record =
       either-rows (s .mode) (polarPart (accountOf s l query) l (contentOf bytes))
-      (λ k. add binary32 (polarPart (accountOf s l query) l (contentOf bytes)) (unitResidual (s .projections) (projectedOn (s .dim) k (l .matrix) query) (signsOf bytes)))
+      (λ k. add binary32 (polarPart (accountOf s l query) l (contentOf bytes)) (residualOf (s .projections) (normOf bytes) (projectedOn (s .dim) k (l .matrix) query) (signsOf bytes)))
       (s .projections)
 
   pub phased-refused : {n p : ℕ} → first (queryChecks s l query) accepted ≡ refused n p → innerProductEstimatePhasedOf s l query bytes ≡ refused n p

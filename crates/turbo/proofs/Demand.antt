@@ -24,7 +24,7 @@ use Rattle.packed.specs.Layout.{headerOf}
 use Rattle.packed.specs.Reading.{isWithdrawn, radiiOf}
 use Rattle.packed.proofs.Payloads.{length-radiiOf}
 use Rattle.packed.proofs.Withdrawn.{unless-some, unless-value}
-use Rattle.packed.proofs.Radii.{radii-fit, length-signsOf, signs-good}
+use Rattle.packed.proofs.Radii.{radii-fit, length-signsOf, signs-good, norm-fits}
 use Rattle.turbo_order.proofs.Sound.{Sound}
 use Rattle.turbo_order.specs.Scores.{accountOf, scoreOf}
 use Rattle.turbo_order.proofs.Within.{Scorable, score-within, scores-ordered}
@@ -94,6 +94,7 @@ module _ (s : Setup) (l : Lent) (query : List Float) (bytes : List ℕ) {x : Flo
           radii-long = scored-pairs;
           marks-long = length-signsOf bytes ∙ opened-projections s bytes scored-open;
           marks-good = signs-good bytes;
+          norm-fits = norm-fits bytes;
         }
 
 -- ---- demand 3

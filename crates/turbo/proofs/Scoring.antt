@@ -13,9 +13,9 @@ use Rattle.setup.specs.declared.TurboMode.{TurboMode}
 use Rattle.setup.specs.declared.TurboMode.the-variants.{PolarOnly, PolarWithQjl}
 use Rattle.setup.specs.Setups.{byMode}
 use Rattle.polar.specs.Polar.{polarSumOf}
-use Rattle.qjl_residual.specs.Residual.{unitResidual}
+use Rattle.qjl_residual.specs.Residual.{residualOf}
 use Rattle.packed.specs.declared.Header.{Header}
-use Rattle.packed.specs.Fields.{projectionsOf}
+use Rattle.packed.specs.Fields.{projectionsOf, normOf}
 use Rattle.packed.specs.Layout.{headerOf}
 use Rattle.packed.specs.Reading.{radiiOf, indicesOf, signsOf}
 use Rattle.packed.proofs.Withdrawn.{unless-none, unless-some}
@@ -54,15 +54,15 @@ module _ (s : Setup) (directions rotated projected : List Float) (bytes : List �
     pub record-alone : s .mode ≡ PolarOnly → recordScore s directions rotated projected bytes ≡ polarSumOf rotated directions (indicesOf bytes) (radiiOf bytes)
     unfolding scoreFrom
     record-alone e =
-        ap (λ (m : TurboMode). byMode m (polarSumOf rotated directions (indicesOf bytes) (radiiOf bytes)) (add binary32 (polarSumOf rotated directions (indicesOf bytes) (radiiOf bytes)) (unitResidual (s .projections) projected (signsOf bytes)))) e
+        ap (λ (m : TurboMode). byMode m (polarSumOf rotated directions (indicesOf bytes) (radiiOf bytes)) (add binary32 (polarSumOf rotated directions (indicesOf bytes) (radiiOf bytes)) (residualOf (s .projections) (normOf bytes) projected (signsOf bytes)))) e
 
     -- with it
-    pub record-both : s .mode ≡ PolarWithQjl → (x y : Float) → x ≡ polarSumOf rotated directions (indicesOf bytes) (radiiOf bytes) → y ≡ unitResidual (projectionsOf bytes) projected (signsOf bytes)
+    pub record-both : s .mode ≡ PolarWithQjl → (x y : Float) → x ≡ polarSumOf rotated directions (indicesOf bytes) (radiiOf bytes) → y ≡ residualOf (projectionsOf bytes) (normOf bytes) projected (signsOf bytes)
         → recordScore s directions rotated projected bytes ≡ add binary32 x y
     unfolding scoreFrom
     record-both e x y f g =
         let counted = opened-projections s bytes opened ∙ ap (λ (m : TurboMode). byMode m 0 (s .projections)) e in
-        ap (λ (m : TurboMode). byMode m (polarSumOf rotated directions (indicesOf bytes) (radiiOf bytes)) (add binary32 (polarSumOf rotated directions (indicesOf bytes) (radiiOf bytes)) (unitResidual (s .projections) projected (signsOf bytes)))) e
-        ∙ ap (λ (k : ℕ). add binary32 (polarSumOf rotated directions (indicesOf bytes) (radiiOf bytes)) (unitResidual k projected (signsOf bytes))) (sym counted)
-        ∙ ap (λ (a : Float). add binary32 a (unitResidual (projectionsOf bytes) projected (signsOf bytes))) (sym f)
+        ap (λ (m : TurboMode). byMode m (polarSumOf rotated directions (indicesOf bytes) (radiiOf bytes)) (add binary32 (polarSumOf rotated directions (indicesOf bytes) (radiiOf bytes)) (residualOf (s .projections) (normOf bytes) projected (signsOf bytes)))) e
+        ∙ ap (λ (k : ℕ). add binary32 (polarSumOf rotated directions (indicesOf bytes) (radiiOf bytes)) (residualOf k (normOf bytes) projected (signsOf bytes))) (sym counted)
+        ∙ ap (λ (a : Float). add binary32 a (residualOf (projectionsOf bytes) (normOf bytes) projected (signsOf bytes))) (sym f)
         ∙ ap (add binary32 x) (sym g)

@@ -19,8 +19,8 @@ ghost use Rattle.error.specs.Outcomes.{says, saysScore};
 ghost use Rattle.setup.specs.Lent.{lent};
 ghost use Rattle.setup.specs.Checks.{scalarChecks};
 ghost use Rattle.polar.specs.Polar.{polarSumOf};
-ghost use Rattle.qjl_residual.specs.Residual.{unitResidual};
-ghost use Rattle.packed.specs.Fields.{projectionsOf};
+ghost use Rattle.qjl_residual.specs.Residual.{residualOf};
+ghost use Rattle.packed.specs.Fields.{projectionsOf, normOf};
 ghost use Rattle.packed.specs.Reading.{readRecordOf, radiiOf, indicesOf, signsOf};
 ghost use Rattle.turbo_opening.specs.Inner.{openedOf};
 ghost use Rattle.turbo.specs.Scoring.{recordScore};
@@ -242,15 +242,20 @@ fn polar_part(
     polar::polar_sum(rotated, directions, &indices[0..pairs], &radii[0..pairs])
 }
 
-// The residual of a record, by the header that was read from it, with the source norm 1.0.
+// The residual of a record, by the header that was read from it, with the record's own norm.
 fn residual_part(projected: &[f32], bytes: &[u8], header: Header) -> f32
     requires { ⌜ readRecordOf (now bytes) ≡ value header ⌝ }
-    ensures { λ r. ⌜ r ≡ unitResidual (projectionsOf (now (bytes .entry))) (now (projected .entry)) (signsOf (now (bytes .entry))) ⌝ }
+    ensures { λ r. ⌜ r ≡ residualOf (projectionsOf (now (bytes .entry))) (normOf (now (bytes .entry))) (now (projected .entry)) (signsOf (now (bytes .entry))) ⌝ }
 {
     let projections = header.projections;
     let mut signs = no_signs();
     packed_values::signs_at(bytes, header, &mut signs[0..projections]);
-    qjl_residual::residual(projections as u16, 1.0, projected, &signs[0..projections])
+    qjl_residual::residual(
+        projections as u16,
+        header.norm,
+        projected,
+        &signs[0..projections],
+    )
 }
 
 // The checks of a prepared query: the scalars of the setup and its directions, both lengths, and that every value is finite.

@@ -9,14 +9,14 @@ use Rattle.setup.specs.declared.Setup.{Setup}
 use Rattle.setup.specs.Checks.{scalarChecks}
 use Rattle.setup.specs.Setups.{polarBitsOf, countedProjectionsOf}
 use Rattle.packed.specs.declared.Header.{Header}
-use Rattle.packed.specs.Fields.{dimOf, bitsOf, projectionsOf}
+use Rattle.packed.specs.Fields.{dimOf, bitsOf, projectionsOf, normOf}
 use Rattle.packed.specs.Layout.{headerOf}
 use Rattle.packed.specs.Reading.{unlessWithdrawn, recordChecks, radiiOf, indicesOf, signsOf}
 use Rattle.turbo_order.specs.Scores.{Content}
 
 -- This is what a record holds, as read from its bytes.
 abbrev pub contentOf : List ℕ → Content
-contentOf bytes = record { radii = radiiOf bytes; indices = indicesOf bytes; signs = signsOf bytes }
+contentOf bytes = record { radii = radiiOf bytes; indices = indicesOf bytes; signs = signsOf bytes; norm = normOf bytes }
 
 -- '.. a record's bits or projections are not the setup's.' Without signs its projections count as 0.
 abbrev pub badMatch : Setup → ℕ → ℕ → Bool

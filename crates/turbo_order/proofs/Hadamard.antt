@@ -1,4 +1,4 @@
--- The Hadamard rotation's account is sound for every accepted setup, and its size and bound are those that document 01 writes. Assumes nothing.
+-- The Hadamard rotation's account is sound for every accepted setup, and its size and bound are those that documents 01 and 02 write. Assumes nothing.
 use Prim.Native.Nat.{ℕ, _+_, _*_, _≤_}
 use mathlib.Core.Path.{_≡_, refl, sym, ap, transport}
 use mathlib.Core.List.{List}
@@ -18,6 +18,7 @@ use Rattle.setup.specs.declared.Setup.{Setup}
 use Rattle.setup_tables.proofs.Accepted.{AcceptedSetup}
 use Rattle.setup.specs.Setups.{byMode, countedProjectionsOf}
 use Rattle.polar.proofs.Counts.{polar-size-even}
+use Rattle.qjl_residual.specs.Exact.{wholeNorm}
 use Rattle.turbo_order.specs.Scores.{Content, accountOf, polarPartSize, residualPartSize, sizeBy, perStep, perRadius, boundBy, scoreBound}
 use Rattle.turbo_order.specs.AsWritten.{writtenPolarSize, writtenSize, AsWritten}
 use Rattle.turbo_order.proofs.Sound.{Sound}
@@ -51,7 +52,7 @@ module _ (s : Setup) (l : Lent) (query : List Float) (accepted : AcceptedSetup s
         some = le-refl 1;
       }
 
--- ---- the products of document 01
+-- ---- the products as they are written
 
 module _ (s : Setup) (l : Lent) (query : List Float) (c : Content) (half : 2 * length (c .radii) ≤ s .dim) where
   hadamard-size : polarPartSize (accountOf s l query) l c ≡ writtenPolarSize s l query c
@@ -61,10 +62,10 @@ module _ (s : Setup) (l : Lent) (query : List Float) (c : Content) (half : 2 * l
 
   hadamard-sizes : sizeBy (accountOf s l query) s l query c ≡ writtenSize s l query c
   unfolding sizeBy
-  hadamard-sizes = ap (λ (k : ℕ). byMode (s .mode) k (k + residualPartSize s l query)) hadamard-size
+  hadamard-sizes = ap (λ (k : ℕ). byMode (s .mode) k (k + residualPartSize s l query c)) hadamard-size
 
   hadamard-bound : scoreBound s l query c
-      ≡ (s .dim + countedProjectionsOf s + 16) * writtenSize s l query c + (perRadius * absoluteSum (c .radii) + perStep * (s .dim * countedProjectionsOf s + s .dim))
+      ≡ (s .dim + countedProjectionsOf s + 16) * writtenSize s l query c + (perRadius * absoluteSum (c .radii) + perStep * (s .dim * countedProjectionsOf s * wholeNorm (c .norm) + s .dim))
   unfolding boundBy
   hadamard-bound = rw (hadamard-sizes, one-mul)
 

@@ -34,13 +34,14 @@ module _ (steps count factor pairs n size radii two three : ℕ) (few : 2 * (ste
       let twice = ap (λ (k : ℕ). k * three) half in
       omega (arith, total, twice)
 
-  pub residual-within : (m rest : ℕ) → 0 < m → 0 < pairs
-      → (count + m + 15 + 1) * (size + rest) + 2 ^ 24 * (4 * (factor * two) * radii + pairs * three + (2 * n + 1) * three)
-      ≤ (count + m + 16) * (size + rest) + (2 ^ 23 * (8 * two) * (factor * radii) + 2 ^ 23 * (8 * three) * (n * m + n))
-  residual-within m rest some pair =
+  -- w is the norm's whole number
+  pub residual-within : (m w rest : ℕ) → 0 < m → 0 < pairs
+      → (count + m + 15 + 1) * (size + rest) + 2 ^ 24 * (4 * (factor * two) * radii + pairs * three + (2 * n * w + 1) * three)
+      ≤ (count + m + 16) * (size + rest) + (2 ^ 23 * (8 * two) * (factor * radii) + 2 ^ 23 * (8 * three) * (n * m * w + n))
+  residual-within m w rest some pair =
       let total : count + m + 15 + 1 ≡ count + m + 16 = omega arith in
       let same = ap (λ (k : ℕ). k * (size + rest)) total in
       let twice = ap (λ (k : ℕ). k * three) half in
-      let rows = mul-le-mul-right three (mul-le-mul-left n some) in
+      let rows = mul-le-mul-right three (mul-le-mul-right w (mul-le-mul-left n some)) in
       let one = mul-le-mul-right three pair in
       omega (arith, same, twice, rows, one)

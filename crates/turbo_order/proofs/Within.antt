@@ -10,7 +10,7 @@ use native.Mathlib.Omega.{arith}
 use lib.Dec.{T}
 use lib.IntN.{pos}
 use lib.ListN.{length, getD, getD-replicate}
-use lib.Ieee.{Float, nan, fin, binary32, add, lt}
+use lib.Ieee.{Float, nan, fin, binary32, add, lt, fits}
 use lib.Ieee.Scale.{finite}
 use Rattle.error.proofs.Chains.{or-false}
 use Rattle.bitpack.specs.Signs.{badSketchSign}
@@ -33,8 +33,9 @@ use Rattle.polar.specs.Polar.{valueAt, polarSumOf}
 use Rattle.polar.proofs.Directions.{within-small, missing-small}
 use Rattle.polar.proofs.Counts.{close-polar-most}
 use Rattle.rounding.specs.Rows.{projected}
-use Rattle.qjl_residual.specs.Residual.{unitResidual}
-use Rattle.qjl_residual.proofs.ScaleBound.{close-unit-residual}
+use Rattle.qjl_residual.specs.Residual.{residualOf}
+use Rattle.qjl_residual.specs.Exact.{wholeNorm}
+use Rattle.qjl_residual.proofs.ScaleBound.{close-norm-residual}
 use Rattle.turbo_order.specs.Account.{Account}
 use Rattle.turbo_order.specs.Scores.{Content, scoreFrom, scoreBy, exactPolarPart, exactResidualPart, exactBy, polarPartSize, residualPartSize, sizeBy, perUnit, boundBy}
 use Rattle.turbo_order.proofs.Sound.{Sound}
@@ -51,13 +52,14 @@ pub record Scorable (s : Setup) (l : Lent) (query : List Float) (c : Content) : 
   pub radii-long : 2 * length (c .radii) ≡ s .dim
   pub marks-long : length (c .signs) ≡ countedProjectionsOf s
   pub marks-good : (i : ℕ) → i < length (c .signs) → badSketchSign (getD (c .signs) i (pos 0)) ≡ false
+  pub norm-fits : T (fits binary32 (c .norm))
 
 -- the polar sum and the residual of the score that an account gives
 abbrev pub polarPart : Account → Lent → Content → Float
 polarPart a l c = polarSumOf (a .entries) (l .directions) (c .indices) (c .radii)
 
 abbrev pub residualPart : Setup → Lent → List Float → Content → Float
-residualPart s l query c = unitResidual (s .projections) (projected (s .dim) (s .projections) (l .matrix) query) (c .signs)
+residualPart s l query c = residualOf (s .projections) (c .norm) (projected (s .dim) (s .projections) (l .matrix) query) (c .signs)
 
 -- a direction that passes is at most 1.0 in size
 direction-small : (x : Float) → badDirection x ≡ false → mag x ≤ unit
@@ -92,21 +94,21 @@ module _ (a : Account) (s : Setup) (l : Lent) (query : List Float) (c : Content)
   pairs-some : 0 < length (c .radii)
   pairs-some = let above = h .usable .above in let half = h .radii-long in omega arith
 
-  close-residual-part : s .mode ≡ PolarWithQjl → Close (unit * unit * unit) (s .dim + s .projections + 2) ((2 * s .dim + 1) * (unit * unit * unit)) (residualPartSize s l query) (residualPart s l query c) (exactResidualPart s l query c)
+  close-residual-part : s .mode ≡ PolarWithQjl → Close (unit * unit * unit) (s .dim + s .projections + 2) ((2 * s .dim * wholeNorm (c .norm) + 1) * (unit * unit * unit)) (residualPartSize s l query c) (residualPart s l query c) (exactResidualPart s l query c)
   close-residual-part e =
       let same = counted e in
       let most = h .usable .most in
       let rows = h .usable .most-projections in
       let lifted =
       close-lift unit
-      (close-unit-residual (s .dim) (s .projections) (l .matrix) query (c .signs) (h .matrix-fit) (h .query-fit) (omega (arith, same)) (h .marks-long ∙ same) (h .marks-good)) in
+      (close-norm-residual (s .dim) (s .projections) (l .matrix) query (c .signs) (h .matrix-fit) (h .query-fit) (omega (arith, same)) (h .marks-long ∙ same) (h .marks-good) (c .norm) (h .norm-fits)) in
       let three : unit * (unit * unit) ≡ unit * unit * unit = omega arith in
-      let error : unit * (2 * s .dim * (unit * unit) + unit * unit) ≡ (2 * s .dim + 1) * (unit * unit * unit) = omega arith in
-      transport (λ i. Close (three i) (s .dim + s .projections + 2) (error i) (residualPartSize s l query) (residualPart s l query c) (exactResidualPart s l query c)) lifted
+      let error : unit * (2 * s .dim * wholeNorm (c .norm) * (unit * unit) + unit * unit) ≡ (2 * s .dim * wholeNorm (c .norm) + 1) * (unit * unit * unit) = omega arith in
+      transport (λ i. Close (three i) (s .dim + s .projections + 2) (error i) (residualPartSize s l query c) (residualPart s l query c) (exactResidualPart s l query c)) lifted
 
   close-whole : s .mode ≡ PolarWithQjl
-      → Close (unit * unit * unit) (a .count + s .projections + 15 + 1) (polarPartError + (2 * s .dim + 1) * (unit * unit * unit))
-      (polarPartSize a l c + residualPartSize s l query) (add binary32 (polarPart a l c) (residualPart s l query c)) (exactPolarPart a l c ⊞ exactResidualPart s l query c)
+      → Close (unit * unit * unit) (a .count + s .projections + 15 + 1) (polarPartError + (2 * s .dim * wholeNorm (c .norm) + 1) * (unit * unit * unit))
+      (polarPartSize a l c + residualPartSize s l query c) (add binary32 (polarPart a l c) (residualPart s l query c)) (exactPolarPart a l c ⊞ exactResidualPart s l query c)
   close-whole e =
       let same = counted e in
       let least = sound .least in
@@ -119,7 +121,7 @@ module _ (a : Account) (s : Setup) (l : Lent) (query : List Float) (c : Content)
   error-at mode =
       byMode mode
       ((sound .roundings + 3 + length (c .radii)) * polarPartSize a l c + 2 ^ 24 * polarPartError)
-      ((a .count + s .projections + 15 + 1) * (polarPartSize a l c + residualPartSize s l query) + 2 ^ 24 * (polarPartError + (2 * s .dim + 1) * (unit * unit * unit)))
+      ((a .count + s .projections + 15 + 1) * (polarPartSize a l c + residualPartSize s l query c) + 2 ^ 24 * (polarPartError + (2 * s .dim * wholeNorm (c .norm) + 1) * (unit * unit * unit)))
 
   near-at : (mode : TurboMode) → s .mode ≡ mode → T (finite (byMode mode (polarPart a l c) (add binary32 (polarPart a l c) (residualPart s l query c))))
       → Near (perUnit ⊙ val (byMode mode (polarPart a l c) (add binary32 (polarPart a l c) (residualPart s l query c)))) (2 ^ 23 ⊙ byMode mode (exactPolarPart a l c) (exactPolarPart a l c ⊞ exactResidualPart s l query c)) (error-at mode)
@@ -140,7 +142,7 @@ module _ (a : Account) (s : Setup) (l : Lent) (query : List Float) (c : Content)
   bound-enough PolarWithQjl e =
       let same = counted e in
       let some = h .usable .residual-projections e in
-      let bound = residual-within (sound .roundings) (a .count) (a .factor) (length (c .radii)) (s .dim) (polarPartSize a l c) (absoluteSum (c .radii)) (unit * unit) (unit * unit * unit) (sound .counted) (h .radii-long) (s .projections) (residualPartSize s l query) (omega (arith, same)) pairs-some in
+      let bound = residual-within (sound .roundings) (a .count) (a .factor) (length (c .radii)) (s .dim) (polarPartSize a l c) (absoluteSum (c .radii)) (unit * unit) (unit * unit * unit) (sound .counted) (h .radii-long) (s .projections) (wholeNorm (c .norm)) (residualPartSize s l query c) (omega (arith, same)) pairs-some in
       rw (e, per-radius, per-one) (omega (arith, bound))
 
   -- Each finite score lies within its bound of its exact score.

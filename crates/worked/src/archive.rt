@@ -1,7 +1,8 @@
-// A small whole job: an archive of four records, in both modes and both radius forms, a damaged copy and a withdrawn position, under one query.
+// A small whole job: an archive of five records, in both modes and both radius forms, one with a norm, a damaged copy and a withdrawn position, under one query.
 use super::show;
 use error::Outcome;
 use packed::Code;
+use packed::SourceNorm;
 use radius::RadiusCodecProfileV1;
 use setup::Setup;
 use setup::TurboMode;
@@ -13,6 +14,7 @@ pub(crate) fn archive() {
     withdrawn();
     third();
     fourth();
+    fifth();
 }
 
 // R1: radii as they are, without signs.
@@ -23,6 +25,7 @@ fn first() {
     let mut made = [0u8; 15];
     kept(
         RadiusCodecProfileV1::F32,
+        SourceNorm::Absent,
         &radii,
         &indices,
         &signs,
@@ -38,6 +41,7 @@ fn second() {
     let mut made = [0u8; 19];
     kept(
         RadiusCodecProfileV1::BlockLinearU16,
+        SourceNorm::Absent,
         &radii,
         &indices,
         &signs,
@@ -66,6 +70,7 @@ fn third() {
     let mut made = [0u8; 20];
     kept(
         RadiusCodecProfileV1::F32,
+        SourceNorm::Absent,
         &radii,
         &indices,
         &signs,
@@ -82,6 +87,23 @@ fn fourth() {
     let mut made = [0u8; 24];
     kept(
         RadiusCodecProfileV1::BlockLinearU16,
+        SourceNorm::Absent,
+        &radii,
+        &indices,
+        &signs,
+        &mut made,
+    );
+}
+
+// R5: R3 with the norm 2.0.
+fn fifth() {
+    let signs = [1i8, -1, 1];
+    let radii = [1.0f32, 2.0];
+    let indices = [2u16, 3];
+    let mut made = [0u8; 24];
+    kept(
+        RadiusCodecProfileV1::F32,
+        SourceNorm::Given(2.0),
         &radii,
         &indices,
         &signs,
@@ -92,20 +114,22 @@ fn fourth() {
 // Writes a record of the archive, and asks for what it says under the setup that it was written for.
 fn kept(
     profile: RadiusCodecProfileV1,
+    norm: SourceNorm,
     radii: &[f32],
     indices: &[u16],
     signs: &[i8],
     made: &mut [u8],
 ) {
     let rows = signs.len();
-    write(profile, 2, radii, indices, signs, made);
+    write(profile, 2, norm, radii, indices, signs, made);
     under(rows, made);
 }
 
-// Writes a record of these radii, indices of so many bits, and signs where there are any.
+// Writes a record of these radii, indices of so many bits, signs where there are any, and a norm where one is given.
 pub(crate) fn write(
     profile: RadiusCodecProfileV1,
     bits: u8,
+    norm: SourceNorm,
     radii: &[f32],
     indices: &[u16],
     signs: &[i8],
@@ -119,6 +143,7 @@ pub(crate) fn write(
         dim: dim_of(radii),
         bits,
         projections: rows,
+        norm,
     };
     let written = packed_writing::write_record(code, radii, indices, signs, made);
     show::bytes(written, made);

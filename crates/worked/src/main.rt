@@ -4,6 +4,7 @@ mod archive;
 mod show;
 
 use packed::Reading;
+use packed::SourceNorm;
 use radius::RadiusCodecProfileV1;
 use radius::Range;
 use radius_writing::Compressed;
@@ -117,7 +118,15 @@ fn records() {
 fn record(signs: &[i8], made: &mut [u8], back: &mut [i8]) {
     let radii = [1.0f32];
     let indices = [1u16];
-    archive::write(RadiusCodecProfileV1::F32, 1, &radii, &indices, signs, made);
+    archive::write(
+        RadiusCodecProfileV1::F32,
+        1,
+        SourceNorm::Absent,
+        &radii,
+        &indices,
+        signs,
+        made,
+    );
     header(made);
     parts(made);
     values(made);

@@ -126,6 +126,7 @@ fn turbo(rng: &mut Rng, seed: u64) -> Turbo {
         min: 0.0,
         max: 0.0,
         projections: projections as u32,
+        norm: 1.0,
         radii: packed.polar_code.radii.payload.clone(),
         indices: packed.polar_code.packed_angle_indices.clone(),
         signs: packed.residual_sketch.packed_signs.clone(),

@@ -88,7 +88,7 @@ pub fn call<'a>(row: &str, inputs: &'a Inputs) -> Option<Call<'a>> {
         let wide = &inputs.sketches[i];
         return Some(Box::new(move || {
             let (query, signs) = (black_box(&wide.vector), black_box(&wide.sketch.signs));
-            black_box(sketch_setup(wide).sketch_score(query, signs).unwrap());
+            black_box(sketch_setup(wide).sketch_score(query, signs, 1.0).unwrap());
         }));
     }
     single(row, inputs)

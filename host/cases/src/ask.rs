@@ -8,7 +8,7 @@ use std::{
 use oracle::{
     packed::{PackedPolarCode, PackedQjlSketch},
     qjl::QjlSketch,
-    thin::{self, Answer as Rust},
+    thin::{self, Answer as Rust, Halves},
     turbo::TurboCode,
 };
 
@@ -56,7 +56,11 @@ pub fn distance_sum(case: &Case) -> Answer {
     };
     caught(|| {
         with_code(setup, record, |turbo, code| {
-            told(thin::distance_sum(turbo, code, query), Value::Float)
+            let sum = match normed(setup, record) {
+                None => thin::distance_sum(turbo, code, query),
+                Some((halves, norm)) => halves.distance_sum(code, norm, query),
+            };
+            told(sum, Value::Float)
         })
     })
 }
@@ -134,35 +138,73 @@ fn answer(case: &Case) -> Answer {
                 projected,
             })
         }),
-        Case::SketchScore { setup, query, signs } => with_qjl(setup, Value::Float(0.0), |qjl| {
-            told(thin::sketch_score(qjl, signs, query), Value::Float)
-        }),
+        Case::SketchScore { setup, query, signs, norm } => {
+            with_qjl(setup, Value::Float(0.0), |qjl| {
+                let score = match *norm {
+                    1.0 => thin::sketch_score(qjl, signs, query),
+                    norm => thin::sketch_score_with_norm(qjl, signs, norm, query),
+                };
+                told(score, Value::Float)
+            })
+        }
         Case::WriteRecord { .. } => write(case),
         Case::ReadRecord { record } => match code(record) {
             None => Answer::Absent,
-            Some(found) => told(found, |code| Value::Record {
-                radii: code.polar_code.radii,
-                indices: code.polar_code.angle_indices,
-                signs: code.residual_sketch.signs,
-            }),
+            Some(found) => told(found.and_then(|code| Ok((code, norm(record)?))), read),
         },
         Case::Score { setup, query, record } => with_code(setup, record, |turbo, code| {
-            told(thin::score(turbo, code, query), Value::Float)
+            let score = match normed(setup, record) {
+                None => thin::score(turbo, code, query),
+                Some((halves, norm)) => halves.score(code, norm, query),
+            };
+            told(score, Value::Float)
         }),
         Case::Distance { setup, query, record } => with_code(setup, record, |turbo, code| {
-            told(thin::distance(turbo, code, query), Value::Float)
+            let distance = match normed(setup, record) {
+                None => thin::distance(turbo, code, query),
+                Some((halves, norm)) => halves.distance(code, norm, query),
+            };
+            told(distance, Value::Float)
         }),
         Case::Decode { setup, record, .. } => {
             with_code(setup, record, |turbo, code| told(thin::decode(turbo, code), Value::Floats))
         }
         Case::ScorePrepared { query: None, .. } => Answer::Absent,
         Case::ScorePrepared { setup, query: Some(query), record, .. } => {
-            with_code(setup, record, |turbo, code| match thin::prepared(turbo, query) {
-                Err(fault) => Answer::Error(fault),
-                Ok(prepared) => told(thin::score_prepared(turbo, code, &prepared), Value::Float),
+            with_code(setup, record, |turbo, code| {
+                let score = match normed(setup, record) {
+                    None => thin::prepared(turbo, query)
+                        .and_then(|query| thin::score_prepared(turbo, code, &query)),
+                    Some((halves, norm)) => halves
+                        .prepared(query)
+                        .and_then(|query| halves.score_prepared(code, norm, &query)),
+                };
+                told(score, Value::Float)
             })
         }
     }
+}
+
+/// What a record holds, with its norm where one stands.
+fn read((code, norm): (TurboCode, Option<f32>)) -> Value {
+    Value::Record {
+        radii: code.polar_code.radii,
+        indices: code.polar_code.angle_indices,
+        signs: code.residual_sketch.signs,
+        norm,
+    }
+}
+
+/// A record's norm, if the Rust keeps it as one; None where none stands.
+fn norm(bytes: &[u8]) -> Rust<Option<f32>> {
+    record::header(bytes).and_then(|head| head.given_norm()).map(thin::source_norm).transpose()
+}
+
+/// The halves that a record is scored with, and its norm; None where the norm is 1.0, given
+/// or absent, and turbo.rs's own calls score it.
+fn normed<'a>(setup: &'a Setup, record: &[u8]) -> Option<(&'a Halves, f32)> {
+    let norm = record::header(record)?.norm;
+    setup.halves.as_ref().filter(|_| norm != 1.0).map(|halves| (halves, norm))
 }
 
 fn apply(inverse: bool, dim: usize, signs: &[f32], input: &[f32]) -> Answer {
@@ -196,8 +238,8 @@ fn with_qjl(
 ) -> Answer {
     with(setup, |_| match setup.mode {
         Mode::PolarOnly => Answer::Value(other),
-        Mode::PolarWithQjl => match &setup.qjl {
-            Some(qjl) => call(qjl),
+        Mode::PolarWithQjl => match &setup.halves {
+            Some(halves) => call(&halves.qjl),
             None => Answer::Absent,
         },
     })
@@ -207,7 +249,7 @@ fn with_qjl(
 /// the Rust knows no withdrawn position.
 pub fn code(bytes: &[u8]) -> Option<Rust<TurboCode>> {
     let parts = record::split(bytes)?;
-    if parts.map & !(record::LINEAR | record::SIGNS) != 0 {
+    if !record::defined(parts.map) {
         return None;
     }
     let profile = if parts.linear() { Profile::BlockLinearU16 } else { Profile::F32 };
@@ -242,13 +284,27 @@ fn fault(error: &oracle::error::TurboQuantError) -> Answer {
     Answer::Error(thin::Fault { variant: thin::variant(error), index: None })
 }
 
-/// The record of these parts, its payloads packed by packed.rs.
+/// The record of these parts, its payloads packed by packed.rs, its norm judged by qjl.rs. For
+/// a norm without signs the Rust has no form.
 fn write(case: &Case) -> Answer {
-    let Case::WriteRecord { profile, dim, bits, mode, projections, radii, indices, signs, .. } =
-        case
+    let Case::WriteRecord {
+        profile,
+        dim,
+        bits,
+        mode,
+        projections,
+        norm,
+        radii,
+        indices,
+        signs,
+        ..
+    } = case
     else {
         unreachable!()
     };
+    if *mode == Mode::PolarOnly && norm.is_some() {
+        return Answer::Absent;
+    }
     let polar = match thin::polar_code(*dim, *bits, radii, indices) {
         Ok(polar) => polar,
         Err(fault) => return Answer::Error(fault),
@@ -264,6 +320,7 @@ fn write(case: &Case) -> Answer {
         min: packed.radii.min,
         max: packed.radii.max,
         projections: 0,
+        norm: 1.0,
         radii: packed.radii.payload,
         indices: packed.packed_angle_indices,
         signs: Vec::new(),
@@ -280,6 +337,14 @@ fn write(case: &Case) -> Answer {
         parts.map |= record::SIGNS;
         parts.projections = *projections as u32;
         parts.signs = packed.packed_signs;
+    }
+    match norm.map(thin::source_norm) {
+        None => {}
+        Some(Err(fault)) => return Answer::Error(fault),
+        Some(Ok(norm)) => {
+            parts.map |= record::NORM;
+            parts.norm = norm;
+        }
     }
     Answer::Value(Value::Bytes(parts.bytes()))
 }

@@ -3,9 +3,8 @@
 use std::{fmt, rc::Rc};
 
 use oracle::{
-    qjl::QjlQuantizer,
     radius::RadiusCodecProfileV1,
-    thin::{self, Answer as Rust, Fault},
+    thin::{self, Answer as Rust, Fault, Halves},
     turbo::{TurboMode, TurboQuantizer},
 };
 
@@ -25,8 +24,8 @@ pub struct Setup {
     /// None where the Rust can't hold these parts (lengths, signs, entries that it never
     /// has), so that there is nothing to compare.
     pub rust: Option<Rust<TurboQuantizer>>,
-    /// The residual half alone, with the same matrix.
-    pub qjl: Option<QjlQuantizer>,
+    /// The same quantizer in its two halves; None in `PolarOnly`.
+    pub halves: Option<Halves>,
 }
 
 impl Setup {
@@ -151,6 +150,7 @@ pub enum Case {
         setup: Rc<Setup>,
         query: Vec<f32>,
         signs: Vec<i8>,
+        norm: f32,
     },
     WriteRecord {
         profile: RadiusCodecProfileV1,
@@ -158,6 +158,7 @@ pub enum Case {
         bits: u8,
         mode: TurboMode,
         projections: usize,
+        norm: Option<f32>,
         radii: Vec<f32>,
         indices: Vec<u16>,
         signs: Vec<i8>,
@@ -301,7 +302,7 @@ pub enum Value {
     Radii { min: f32, max: f32, payload: Vec<u8> },
     Seeds { rotation: u64, matrix: u64 },
     Prepared { rotated: Vec<f32>, projected: Vec<f32> },
-    Record { radii: Vec<f32>, indices: Vec<u16>, signs: Vec<i8> },
+    Record { radii: Vec<f32>, indices: Vec<u16>, signs: Vec<i8>, norm: Option<f32> },
 }
 
 /// The oracle's answer.
@@ -353,9 +354,13 @@ fn alike(a: &Value, b: &Value, float: fn(f32, f32) -> bool) -> bool {
             Value::Prepared { rotated: turned, projected: rows },
         ) => floats(rotated, turned) && floats(projected, rows),
         (
-            Value::Record { radii, indices, signs },
-            Value::Record { radii: r, indices: i, signs: s },
-        ) => floats(radii, r) && indices == i && signs == s,
+            Value::Record { radii, indices, signs, norm },
+            Value::Record { radii: r, indices: i, signs: s, norm: n },
+        ) => {
+            // A norm is kept bit for bit, −0.0 too.
+            let kept = norm.map(f32::to_bits) == n.map(f32::to_bits);
+            floats(radii, r) && indices == i && signs == s && kept
+        }
         _ => a == b,
     }
 }
@@ -493,8 +498,9 @@ impl fmt::Display for Case {
                 "{setup} query={} out_rotated={rotated} out_projected={projected}",
                 Patterns(query)
             ),
-            Case::SketchScore { setup, query, signs } => {
-                write!(f, "{setup} query={} sketch={}", Patterns(query), List(signs))
+            Case::SketchScore { setup, query, signs, norm } => {
+                let (query, signs, norm) = (Patterns(query), List(signs), pattern(*norm));
+                write!(f, "{setup} query={query} sketch={signs} norm={norm}")
             }
             Case::WriteRecord {
                 profile,
@@ -502,16 +508,18 @@ impl fmt::Display for Case {
                 bits,
                 mode,
                 projections,
+                norm,
                 radii,
                 indices,
                 signs,
                 out,
             } => write!(
                 f,
-                "profile={} dim={dim} bits={bits} mode={} projections={projections} radii={} \
-                 indices={} signs={} out={out}",
+                "profile={} dim={dim} bits={bits} mode={} projections={projections} norm={} \
+                 radii={} indices={} signs={} out={out}",
                 profile_name(*profile),
                 mode_name(*mode),
+                Patterns(norm.as_slice()),
                 Patterns(radii),
                 List(indices),
                 List(signs)
@@ -554,8 +562,9 @@ impl fmt::Display for Value {
             Value::Prepared { rotated, projected } => {
                 write!(f, "prepared {} {}", Patterns(rotated), Patterns(projected))
             }
-            Value::Record { radii, indices, signs } => {
-                write!(f, "record {} {} {}", Patterns(radii), List(indices), List(signs))
+            Value::Record { radii, indices, signs, norm } => {
+                let (radii, norm) = (Patterns(radii), Patterns(norm.as_slice()));
+                write!(f, "record {radii} {} {} {norm}", List(indices), List(signs))
             }
         }
     }

@@ -5,6 +5,7 @@ pub mod ask;
 pub mod case;
 pub mod expect;
 pub mod make;
+pub mod norms;
 pub mod paper;
 pub mod plain;
 pub mod record;

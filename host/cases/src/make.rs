@@ -7,6 +7,7 @@ use oracle::thin;
 
 use crate::{
     case::{Case, Profile, Setup, CALLS, TAKE_A_RECORD},
+    norms::Norms,
     rng::Rng,
 };
 
@@ -31,6 +32,10 @@ pub struct Maker {
     /// Makes the cases whose records are cut short, so that all others are the same with
     /// them and without.
     cutter: Option<Box<Maker>>,
+    /// Draws the norms of records, of their writing and of sketch scores, for the same end.
+    pub(crate) norms: Norms,
+    /// Whether the case that was made last has its norm already.
+    pub(crate) normed: bool,
 }
 
 impl Maker {
@@ -40,27 +45,45 @@ impl Maker {
     }
 
     fn alone(seed: u64, size: Size) -> Self {
-        let (rng, tables) = (Rng(seed), HashMap::new());
-        Self { rng, size, tables, kept: None, uses: 0, damaged: 4, cutter: None }
+        let (rng, tables, norms) = (Rng(seed), HashMap::new(), Norms(Rng(seed.rotate_left(32))));
+        Self {
+            rng,
+            size,
+            tables,
+            kept: None,
+            uses: 0,
+            damaged: 4,
+            cutter: None,
+            norms,
+            normed: false,
+        }
     }
 
     /// The next case of the call with this place in `CALLS`. Of a hundred records ten are cut
     /// to no bytes, a withdrawn position, and two to 1 to 5; there two of five setups are
-    /// damaged, and queries and outputs as ever.
+    /// damaged, and queries and outputs as ever. The others get their norms (`norms`).
     pub fn make(&mut self, call: usize) -> Case {
-        match &mut self.cutter {
-            Some(cutter) if TAKE_A_RECORD.contains(&CALLS[call]) => {
-                let kept = match cutter.rng.below(100) {
-                    0..10 => 0,
-                    10..12 => 1 + cutter.rng.below(5),
-                    _ => return self.whole(call),
-                };
-                let mut case = cutter.whole(call);
-                case.record_mut().unwrap().truncate(kept);
-                case
-            }
-            _ => self.whole(call),
+        if let Some(case) = self.cut(call) {
+            return case;
         }
+        self.normed = false;
+        let mut case = self.whole(call);
+        if !self.normed {
+            self.norms.put(&mut case);
+        }
+        case
+    }
+
+    fn cut(&mut self, call: usize) -> Option<Case> {
+        let cutter = self.cutter.as_mut().filter(|_| TAKE_A_RECORD.contains(&CALLS[call]))?;
+        let kept = match cutter.rng.below(100) {
+            0..10 => 0,
+            10..12 => 1 + cutter.rng.below(5),
+            _ => return None,
+        };
+        let mut case = cutter.whole(call);
+        case.record_mut().unwrap().truncate(kept);
+        Some(case)
     }
 
     fn whole(&mut self, call: usize) -> Case {

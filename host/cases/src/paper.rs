@@ -6,7 +6,7 @@
 //!
 //! Document 02 has a record of no bytes as a withdrawn position, which the Rust doesn't
 //! know: the reader says so before its first check, and so after all that a call checks
-//! before it reads the record.
+//! before it reads the record. It has a record's norm too, with the number 23 in three lists.
 
 use crate::{
     ask,
@@ -83,6 +83,11 @@ fn radius(radius: &f32) -> bool {
     radius.is_finite() && *radius >= 0.0
 }
 
+/// A source norm: finite and not below zero, −0.0 among them.
+fn norm(norm: f32) -> Checked {
+    need(norm.is_finite() && norm >= 0.0, 23, 0)
+}
+
 fn dimension(dim: usize) -> Checked {
     need(dim != 0, 2, 0)?;
     need(dim % 2 == 0, 3, dim)
@@ -130,7 +135,7 @@ fn read(bytes: &[u8]) -> Result<Header, Ended> {
     }
     need(len >= 6, 13, len)?;
     let map = bytes[0];
-    need(map & !(record::LINEAR | record::SIGNS) == 0, 18, map as usize)?;
+    need(record::defined(map), 18, map as usize)?;
     let dim = u32::from_le_bytes([bytes[1], bytes[2], bytes[3], bytes[4]]) as usize;
     let bits = bytes[5];
     dimension(dim)?;
@@ -146,16 +151,22 @@ fn read(bytes: &[u8]) -> Result<Header, Ended> {
     let Some(parts) = record::split(bytes) else {
         return refuse(13, len);
     };
+    range(&parts)?;
+    norm(parts.norm)?;
     radii(&parts)?;
     padding(&parts.indices, dim / 2 * bits as usize)?;
     padding(&parts.signs, projections)?;
     Ok(Header { dim, bits, projections })
 }
 
-/// The range of a linear record, and its radii as read.
+/// The range of a linear record; without one there is nothing to check.
+fn range(parts: &record::Parts) -> Checked {
+    need(radius(&parts.min) && radius(&parts.max) && parts.min <= parts.max, 17, 0)
+}
+
+/// The radii of a record, as read.
 fn radii(parts: &record::Parts) -> Checked {
     if parts.linear() {
-        need(radius(&parts.min) && radius(&parts.max) && parts.min <= parts.max, 17, 0)?;
         let span = parts.max - parts.min;
         let values: Vec<f32> = parts
             .radii
@@ -316,7 +327,7 @@ fn judge(case: &Case, answer: &Answer) -> Checked {
             need(*rotated == lent.dim, 6, lent.dim)?;
             need(*projected == lent.counted(), 6, lent.counted())
         }
-        Case::SketchScore { setup: lent, query, signs } => {
+        Case::SketchScore { setup: lent, query, signs, norm: given } => {
             setup(lent)?;
             vector(lent, query)?;
             if let Answer::Error(oracle::thin::Fault { index: Some(index), .. }) = answer {
@@ -324,6 +335,7 @@ fn judge(case: &Case, answer: &Answer) -> Checked {
             }
             need(signs.len() == lent.counted(), 5, signs.len())?;
             each(signs, 10, sign)?;
+            norm(*given)?;
             finite(case, answer)
         }
         Case::WriteRecord { .. } => write(case),
@@ -356,13 +368,24 @@ fn judge(case: &Case, answer: &Answer) -> Checked {
 }
 
 fn write(case: &Case) -> Checked {
-    let Case::WriteRecord { profile, dim, bits, mode, projections, radii, indices, signs, out } =
-        case
+    let Case::WriteRecord {
+        profile,
+        dim,
+        bits,
+        mode,
+        projections,
+        norm: given,
+        radii,
+        indices,
+        signs,
+        out,
+    } = case
     else {
         unreachable!()
     };
     let residual = *mode == Mode::PolarWithQjl;
     need(*profile != Profile::BlockLogU8, 18, 0)?;
+    need(residual || given.is_none(), 18, 0)?;
     dimension(*dim)?;
     power(*dim)?;
     width(*bits)?;
@@ -375,8 +398,10 @@ fn write(case: &Case) -> Checked {
     need(indices.len() == pairs, 5, indices.len())?;
     let counted = if residual { *projections } else { 0 };
     need(signs.len() == counted, 5, signs.len())?;
+    norm(given.unwrap_or(1.0))?;
     each(radii, 16, radius)?;
     let mut map = if residual { record::SIGNS } else { 0 };
+    map |= if given.is_some() { record::NORM } else { 0 };
     if *profile == Profile::BlockLinearU16 {
         map |= record::LINEAR;
         let packed = oracle::thin::compress(radii, *profile).unwrap();

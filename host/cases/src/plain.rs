@@ -1,8 +1,11 @@
-//! Document 01's formulas as plain f32 loops, sums from +0.0, with the lent direction
-//! table. It answers where the Rust can't: other tables, and prepared values that were
+//! Document 01's formulas as plain f32 loops, with document 02's norm in K, sums from +0.0,
+//! with the lent direction table. It answers where the Rust can't: other tables, and prepared values that were
 //! not prepared. Wherever the Rust does answer, `cases run` holds the two together.
 
-use crate::case::{Case, Mode, Setup, Value};
+use crate::{
+    case::{Case, Mode, Setup, Value},
+    record,
+};
 
 fn butterflies(values: &mut [f32]) {
     let n = values.len();
@@ -51,8 +54,8 @@ fn dots(setup: &Setup, vector: &[f32]) -> Vec<f32> {
         .collect()
 }
 
-fn residual(signs: &[i8], projected: &[f32]) -> f32 {
-    let scale = (std::f32::consts::PI / 2.0).sqrt() * 1.0 / projected.len() as f32;
+fn residual(signs: &[i8], norm: f32, projected: &[f32]) -> f32 {
+    let scale = (std::f32::consts::PI / 2.0).sqrt() * norm / projected.len() as f32;
     let sum = projected.iter().zip(signs).fold(0.0, |sum, (p, sign)| sum + f32::from(*sign) * p);
     scale * sum
 }
@@ -61,6 +64,7 @@ struct Content {
     radii: Vec<f32>,
     indices: Vec<u16>,
     signs: Vec<i8>,
+    norm: f32,
 }
 
 fn content(bytes: &[u8]) -> Option<Content> {
@@ -69,6 +73,7 @@ fn content(bytes: &[u8]) -> Option<Content> {
         radii: code.polar_code.radii,
         indices: code.polar_code.angle_indices,
         signs: code.residual_sketch.signs,
+        norm: record::header(bytes)?.norm,
     })
 }
 
@@ -80,7 +85,7 @@ fn score(setup: &Setup, content: &Content, rotated: &[f32], projected: &[f32]) -
     }
     match setup.mode {
         Mode::PolarOnly => sum,
-        Mode::PolarWithQjl => sum + residual(&content.signs, projected),
+        Mode::PolarWithQjl => sum + residual(&content.signs, content.norm, projected),
     }
 }
 
@@ -124,9 +129,9 @@ pub fn value(case: &Case) -> Option<Value> {
             rotated: rotate(false, &setup.signs, query),
             projected: dots(setup, query),
         },
-        Case::SketchScore { setup, query, signs } => Value::Float(match setup.mode {
+        Case::SketchScore { setup, query, signs, norm } => Value::Float(match setup.mode {
             Mode::PolarOnly => 0.0,
-            Mode::PolarWithQjl => residual(signs, &dots(setup, query)),
+            Mode::PolarWithQjl => residual(signs, *norm, &dots(setup, query)),
         }),
         Case::Score { setup, query, record } => Value::Float(record_score(setup, query, record)?),
         Case::Distance { setup, query, record } => {

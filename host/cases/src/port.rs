@@ -3,12 +3,13 @@
 //!
 //! Every output is lent between two guards and filled with a known item. After a value
 //! the guards must have kept it; after a refusal or a withdrawn position all of the output
-//! must have, and the place of a scalar too.
+//! must have, and the place of a scalar too. A record that was written is read back, and its
+//! length asked for.
 
 use foldrima::{call, call_under, raw};
 
 use crate::{
-    case::{Case, Mode, Profile, Value},
+    case::{strictly_same, Case, Mode, Profile, Value},
     expect::Given,
     paper::{Ended, Refusal},
     record,
@@ -106,6 +107,15 @@ fn profile_code(profile: Profile) -> u8 {
         Profile::F32 => 0,
         Profile::BlockLinearU16 => 1,
         Profile::BlockLogU8 => 2,
+    }
+}
+
+/// Whether a norm is given, as one of the numbers that say so, and its value; where it is
+/// absent, a value that would be refused.
+fn norm_code(norm: Option<f32>) -> (u8, f32) {
+    match norm {
+        Some(norm) => ((norm.to_bits() as u8).max(1), norm),
+        None => (0, f32::NAN),
     }
 }
 
@@ -247,12 +257,27 @@ pub fn answer(case: &Case) -> Given {
                 projected: projected.found().to_vec(),
             })
         }
-        Case::SketchScore { setup, query, signs } => float(&mut told, |to| unsafe {
-            let mode = mode_code(setup.mode);
-            call_under!(setup, mode, foldrima_sketch_score([query], [signs], number, place, to))
+        Case::SketchScore { setup, query, signs, norm } => float(&mut told, |to| unsafe {
+            call_under!(
+                setup,
+                mode_code(setup.mode),
+                foldrima_sketch_score([query], [signs], *norm, number, place, to)
+            )
         }),
-        Case::WriteRecord { profile, dim, bits, mode, projections, radii, indices, signs, out } => {
+        Case::WriteRecord {
+            profile,
+            dim,
+            bits,
+            mode,
+            projections,
+            norm,
+            radii,
+            indices,
+            signs,
+            out,
+        } => {
             let mut out = Lent::new(*out, BYTE);
+            let (has_norm, norm) = norm_code(*norm);
             unsafe {
                 call!(foldrima_write_record(
                     profile_code(*profile),
@@ -260,6 +285,8 @@ pub fn answer(case: &Case) -> Given {
                     *bits,
                     mode_code(*mode),
                     *projections,
+                    has_norm,
+                    norm,
                     [radii],
                     [indices],
                     [signs],
@@ -268,7 +295,9 @@ pub fn answer(case: &Case) -> Given {
                     place
                 ))
             };
-            told.given(&[&out], || Value::Bytes(out.found().to_vec()))
+            let given = told.given(&[&out], || Value::Bytes(out.found().to_vec()));
+            let back = given.answer.is_err() || reads_back(case, out.found());
+            Given { untouched: given.untouched && back && size_fits(case, &given), ..given }
         }
         Case::ReadRecord { record } => read(record),
         Case::Score { setup, query, record } => float(&mut told, |to| unsafe {
@@ -328,6 +357,69 @@ fn plain(value: Value) -> Given {
     Given { answer: Ok(value), untouched: true }
 }
 
+/// Whether a record that was written for a case reads as what it was written from; linear
+/// radii may read as others.
+fn reads_back(case: &Case, bytes: &[u8]) -> bool {
+    let Case::WriteRecord { profile, dim, norm, radii, indices, signs, .. } = case else {
+        unreachable!()
+    };
+    let (header, head) = header(bytes);
+    let (given, value) = values(bytes, (dim / 2, dim / 2, signs.len()));
+    let Value::Record { radii: found, .. } = &value else { unreachable!() };
+    let radii = if *profile == Profile::F32 { radii.clone() } else { found.clone() };
+    let norm = norm.map_or((0, 1.0), |norm| (1, norm));
+    let wanted = Value::Record {
+        radii,
+        indices: indices.clone(),
+        signs: signs.clone(),
+        norm: head.given_norm(),
+    };
+    header.answer.is_ok()
+        && given.iter().all(|given| given.answer.is_ok())
+        && (head.has_norm, head.norm.to_bits()) == (norm.0, norm.1.to_bits())
+        && head.fits(bytes, parts(bytes))
+        && strictly_same(&value_with(value, head.given_norm()), &wanted)
+}
+
+/// Whether `record_size` answers as the writing of the same record did: with its refusal
+/// where a scalar is refused, else with its length, whatever the norm is.
+fn size_fits(case: &Case, written: &Given) -> bool {
+    let Case::WriteRecord { profile, dim, bits, mode, projections, norm, .. } = case else {
+        unreachable!()
+    };
+    let mut told = Told::new();
+    let (number, place) = (told.number.as_mut_ptr(), told.place.as_mut_ptr());
+    let mut value = Lent::new(1, usize::MAX);
+    let to = value.as_mut_ptr();
+    let (has_norm, _) = norm_code(*norm);
+    unsafe {
+        call!(foldrima_record_size(
+            profile_code(*profile),
+            *dim,
+            *bits,
+            mode_code(*mode),
+            *projections,
+            has_norm,
+            number,
+            place,
+            to
+        ))
+    };
+    let size = told.given(&[&value], || Value::Number(value.first() as u64));
+    let wanted = match written.answer {
+        Err(Ended::Refused(Refusal { number: 1..=4 | 8 | 18, .. })) => written.answer.clone(),
+        _ => {
+            let bit = |holds: bool, bit: u8| if holds { bit } else { 0 };
+            let map = bit(*profile == Profile::BlockLinearU16, record::LINEAR)
+                | bit(*mode == Mode::PolarWithQjl, record::SIGNS)
+                | bit(norm.is_some(), record::NORM);
+            let lens = record::payload_lens(map, *dim as u32, *bits, *projections as u32);
+            Ok(Value::Number(record::header_len(map) as u64 + lens.iter().sum::<u64>()))
+        }
+    };
+    size == Given { answer: wanted, untouched: true }
+}
+
 /// A record's header, parts and values. The seven calls must agree: with each other where
 /// there is no value, and with the record's layout on its header and parts.
 fn read(bytes: &[u8]) -> Given {
@@ -349,7 +441,7 @@ fn read(bytes: &[u8]) -> Given {
     });
     let done = exact.iter().all(|given| given.answer.is_ok() && given.untouched);
     let untouched = header.untouched && head.fits(bytes, parts) && refused && done;
-    Given { answer: Ok(value), untouched }
+    Given { answer: Ok(value_with(value, head.given_norm())), untouched }
 }
 
 /// What a record's header hands back.
@@ -361,9 +453,15 @@ struct Head {
     projections: usize,
     min: f32,
     max: f32,
+    has_norm: u8,
+    norm: f32,
 }
 
 impl Head {
+    fn given_norm(&self) -> Option<f32> {
+        (self.has_norm != 0).then_some(self.norm)
+    }
+
     /// Whether header and parts are the record's own, by its layout.
     fn fits(&self, bytes: &[u8], parts: [(usize, usize); 3]) -> bool {
         record::split(bytes).is_some_and(|wanted| {
@@ -372,7 +470,10 @@ impl Head {
             let (a, b) = (wanted.radii.len(), wanted.indices.len());
             let start = record::header_len(map);
             let found = (self.mode, self.profile, self.dim, self.bits, self.projections);
-            found == (map >> 1, map & 1, wanted.dim as usize, wanted.bits, counted)
+            let mode = wanted.has_signs() as u8;
+            found == (mode, map & 1, wanted.dim as usize, wanted.bits, counted)
+                && self.has_norm == wanted.has_norm() as u8
+                && self.norm.to_bits() == wanted.norm.to_bits()
                 && self.min.to_bits() == wanted.min.to_bits()
                 && self.max.to_bits() == wanted.max.to_bits()
                 && parts == [(start, a), (start + a, b), (start + a + b, wanted.signs.len())]
@@ -396,6 +497,7 @@ fn header(bytes: &[u8]) -> (Given, Head) {
         (Lent::new(1, BYTE), Lent::new(1, BYTE), Lent::new(1, BYTE));
     let (mut dim, mut projections) = (Lent::new(1, usize::MAX), Lent::new(1, usize::MAX));
     let (mut min, mut max) = (Lent::new(1, FLOAT), Lent::new(1, FLOAT));
+    let (mut has_norm, mut norm) = (Lent::new(1, BYTE), Lent::new(1, FLOAT));
     unsafe {
         call!(foldrima_read_record(
             [bytes],
@@ -407,10 +509,13 @@ fn header(bytes: &[u8]) -> (Given, Head) {
             bits.as_mut_ptr(),
             projections.as_mut_ptr(),
             min.as_mut_ptr(),
-            max.as_mut_ptr()
+            max.as_mut_ptr(),
+            has_norm.as_mut_ptr(),
+            norm.as_mut_ptr()
         ))
     };
-    let lent: [&dyn Kept; 7] = [&mode, &profile, &dim, &bits, &projections, &min, &max];
+    let lent: [&dyn Kept; 9] =
+        [&mode, &profile, &dim, &bits, &projections, &min, &max, &has_norm, &norm];
     let head = Head {
         mode: mode.first(),
         profile: profile.first(),
@@ -419,6 +524,8 @@ fn header(bytes: &[u8]) -> (Given, Head) {
         projections: projections.first(),
         min: min.first(),
         max: max.first(),
+        has_norm: has_norm.first(),
+        norm: norm.first(),
     };
     (told.given(&lent, || Value::Done), head)
 }
@@ -446,8 +553,19 @@ fn values(bytes: &[u8], lens: (usize, usize, usize)) -> ([Given; 3], Value) {
         radii: radii.found().to_vec(),
         indices: indices.found().to_vec(),
         signs: signs.found().to_vec(),
+        norm: None,
     };
     (given, value)
+}
+
+/// What a record holds, with the norm that its header told.
+fn value_with(value: Value, norm: Option<f32>) -> Value {
+    match value {
+        Value::Record { radii, indices, signs, .. } => {
+            Value::Record { radii, indices, signs, norm }
+        }
+        other => other,
+    }
 }
 
 #[cfg(test)]

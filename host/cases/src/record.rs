@@ -1,9 +1,17 @@
-//! The record's layout, as document 01 gives it. The Rust has no such record: a record
-//! is taken apart here, and its payloads go to packed.rs.
+//! The record's layout, as document 01 gives it, with document 02's norm. The Rust has no
+//! such record: a record is taken apart here, its payloads go to packed.rs, and its norm to
+//! qjl.rs.
 
 /// Bits of the map byte.
 pub const LINEAR: u8 = 1;
 pub const SIGNS: u8 = 2;
+pub const NORM: u8 = 4;
+
+/// Whether the map byte is one that the reader takes: no bit but these three, and a norm's
+/// only beside that of signs.
+pub fn defined(map: u8) -> bool {
+    map & !(LINEAR | SIGNS | NORM) == 0 && map & (SIGNS | NORM) != NORM
+}
 
 /// A record in parts, before any of them is judged.
 #[derive(Debug, Clone, PartialEq)]
@@ -14,6 +22,8 @@ pub struct Parts {
     pub min: f32,
     pub max: f32,
     pub projections: u32,
+    /// 1.0 where none stands.
+    pub norm: f32,
     pub radii: Vec<u8>,
     pub indices: Vec<u8>,
     pub signs: Vec<u8>,
@@ -28,6 +38,15 @@ impl Parts {
         self.map & SIGNS != 0
     }
 
+    pub fn has_norm(&self) -> bool {
+        self.map & NORM != 0
+    }
+
+    /// The norm, where one stands.
+    pub fn given_norm(&self) -> Option<f32> {
+        self.has_norm().then_some(self.norm)
+    }
+
     /// The record's bytes.
     pub fn bytes(&self) -> Vec<u8> {
         let mut out = vec![self.map];
@@ -40,6 +59,9 @@ impl Parts {
         if self.has_signs() {
             out.extend_from_slice(&self.projections.to_le_bytes());
         }
+        if self.has_norm() {
+            out.extend_from_slice(&self.norm.to_le_bytes());
+        }
         out.extend_from_slice(&self.radii);
         out.extend_from_slice(&self.indices);
         out.extend_from_slice(&self.signs);
@@ -49,7 +71,8 @@ impl Parts {
 
 /// The header's length for this map byte.
 pub fn header_len(map: u8) -> usize {
-    6 + if map & LINEAR != 0 { 8 } else { 0 } + if map & SIGNS != 0 { 4 } else { 0 }
+    let of = |bit: u8, len: usize| if map & bit != 0 { len } else { 0 };
+    6 + of(LINEAR, 8) + of(SIGNS, 4) + of(NORM, 4)
 }
 
 /// Lengths of the three payloads.
@@ -71,7 +94,7 @@ pub fn header(bytes: &[u8]) -> Option<Parts> {
     }
     let map = bytes[0];
     let mut at = 6;
-    let (mut min, mut max, mut projections) = (0.0, 0.0, 0);
+    let (mut min, mut max, mut projections, mut norm) = (0.0, 0.0, 0, 1.0);
     if map & LINEAR != 0 {
         min = f32::from_bits(word(bytes, at));
         max = f32::from_bits(word(bytes, at + 4));
@@ -79,6 +102,10 @@ pub fn header(bytes: &[u8]) -> Option<Parts> {
     }
     if map & SIGNS != 0 {
         projections = word(bytes, at);
+        at += 4;
+    }
+    if map & NORM != 0 {
+        norm = f32::from_bits(word(bytes, at));
     }
     Some(Parts {
         map,
@@ -87,6 +114,7 @@ pub fn header(bytes: &[u8]) -> Option<Parts> {
         min,
         max,
         projections,
+        norm,
         radii: Vec::new(),
         indices: Vec::new(),
         signs: Vec::new(),

@@ -109,17 +109,18 @@ impl Maker {
             matrix,
             own_table,
             rust: None,
-            qjl: None,
+            halves: None,
         })
     }
 
-    /// The largest setup, 4,096 × 4,096 at 16 bits, in every call that takes one.
+    /// The largest setup, 4,096 × 4,096 at 16 bits, in every call that takes one; records
+    /// have a norm, and one has none.
     pub fn largest(&mut self) -> Vec<Case> {
         let (mode, dim, bits, projections) = (Mode::PolarWithQjl, 4096, 16, 4096);
         let turbo = thin::turbo(mode, dim, bits, projections, self.rng.next()).unwrap();
         let signs = thin::turbo_signs(&turbo).unwrap();
         let matrix = thin::turbo_matrix(&turbo);
-        let qjl = thin::qjl(dim, projections, &matrix).ok();
+        let halves = thin::halves(&turbo);
         let directions = self.table(15);
         let rust = Some(Ok(turbo));
         let own_table = true;
@@ -133,16 +134,19 @@ impl Maker {
             matrix,
             own_table,
             rust,
-            qjl,
+            halves,
         });
         let query: Vec<f32> = (0..dim).map(|_| self.rng.unit()).collect();
-        let record = self.good_parts(dim, bits - 1, projections, true).bytes();
+        let parts = self.good_parts(dim, bits - 1, projections, true);
+        let without = parts.bytes();
+        let norm = self.rng.unit().abs() * 4.0;
+        let record = Parts { map: parts.map | record::NORM, norm, ..parts }.bytes();
         let signs = self.signs(projections, 0);
         let (again, vector) = (setup.clone(), query.clone());
         let mut cases = vec![
             Case::SetupCheck { setup: setup.clone() },
             Case::Sketch { setup: again, vector, out: projections },
-            Case::SketchScore { setup: setup.clone(), query: query.clone(), signs },
+            Case::SketchScore { setup: setup.clone(), query: query.clone(), signs, norm },
             Case::Decode { setup: setup.clone(), record: record.clone(), out: dim },
         ];
         if let Some(Ok(turbo)) = &setup.rust {
@@ -155,6 +159,8 @@ impl Maker {
         cases.push(Case::Prepare { setup: again, query: asked, rotated, projected });
         let (again, asked, read) = (setup.clone(), query.clone(), record.clone());
         cases.push(Case::Distance { setup: again, query: asked, record: read });
+        let (again, asked) = (setup.clone(), query.clone());
+        cases.push(Case::Score { setup: again, query: asked, record: without });
         cases.push(Case::Score { setup, query, record });
         cases
     }
@@ -229,7 +235,7 @@ impl Maker {
         let setup = self.setup();
         let query = self.query(setup.dim);
         let count = self.rng.length(setup.counted().min(8192), 5);
-        Case::SketchScore { signs: self.signs(count, 8), setup, query }
+        Case::SketchScore { signs: self.signs(count, 8), setup, query, norm: 1.0 }
     }
 
     pub(crate) fn scored(&mut self) -> (Rc<Setup>, Vec<f32>, Vec<u8>) {
@@ -270,19 +276,25 @@ impl Maker {
             directions: setup.directions.clone(),
             matrix: (0..count).map(|_| self.rng.unit() * 2f32.powi(80)).collect(),
             rust: None,
-            qjl: None,
+            halves: None,
             ..*setup
         })
     }
 
-    /// A record of the setup whose radii lie below one power of two, or are zero.
+    /// A record of the setup whose radii lie below one power of two, or are zero, with its
+    /// norm.
     fn wide_record(&mut self, setup: &Setup) -> Vec<u8> {
         let scale = 2f32.powi(self.rng.pick(&[0, 60, 60, 60, 60, 62, 63, 64, 66]));
         let scale = if self.rng.chance(10) { 0.0 } else { scale };
         let radii: Vec<f32> = (0..setup.dim / 2).map(|_| self.rng.unit().abs() * scale).collect();
         let linear = self.rng.chance(50);
         let signs = setup.mode == Mode::PolarWithQjl;
-        self.parts_with(&radii, linear, setup.polar_bits(), setup.counted(), signs).bytes()
+        let parts = self.parts_with(&radii, linear, setup.polar_bits(), setup.counted(), signs);
+        self.normed = true;
+        match self.norms.near_the_top() {
+            Some(norm) if signs => Parts { map: parts.map | record::NORM, norm, ..parts }.bytes(),
+            _ => parts.bytes(),
+        }
     }
 
     pub(crate) fn score_prepared(&mut self) -> Case {
@@ -344,6 +356,7 @@ impl Maker {
             min: packed.min,
             max: packed.max,
             projections: projections as u32,
+            norm: 1.0,
             radii: packed.payload,
             indices: thin::pack_indices(&indices, bits).unwrap(),
             signs: thin::pack_signs(&sketch).unwrap(),
@@ -477,7 +490,19 @@ impl Maker {
         let lens = record::payload_lens(map, dim as u32, bits.min(16), counted as u32);
         let exact = record::header_len(map) + lens.iter().sum::<u64>() as usize;
         let out = self.rng.length(exact, 8);
-        Case::WriteRecord { profile, dim, bits, mode, projections, radii, indices, signs, out }
+        let norm = None;
+        Case::WriteRecord {
+            profile,
+            dim,
+            bits,
+            mode,
+            projections,
+            norm,
+            radii,
+            indices,
+            signs,
+            out,
+        }
     }
 }
 
@@ -488,8 +513,8 @@ fn with_rust(mut setup: Setup) -> Rc<Setup> {
     // In `PolarOnly` the Rust keeps the count and never looks at it.
     let asked = if residual { projections } else { projections.min(64) };
     setup.rust = rust_setup(mode, dim, bits, asked, &setup.signs, &setup.matrix);
-    if residual && matches!(setup.rust, Some(Ok(_))) {
-        setup.qjl = thin::qjl(dim, projections, &setup.matrix).ok();
+    if let Some(Ok(turbo)) = &setup.rust {
+        setup.halves = thin::halves(turbo);
     }
     Rc::new(setup)
 }
@@ -509,6 +534,7 @@ fn own(code: &oracle::turbo::TurboCode, residual: bool) -> Vec<u8> {
         min: 0.0,
         max: 0.0,
         projections: code.residual_sketch.projections as u32,
+        norm: 1.0,
         radii: polar.radii.iter().flat_map(|radius| radius.to_le_bytes()).collect(),
         indices: thin::pack_indices(&polar.angle_indices, polar.bits).unwrap(),
         signs: thin::pack_signs(&code.residual_sketch.signs).unwrap(),

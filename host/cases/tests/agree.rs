@@ -28,6 +28,20 @@ fn changed(value: &Value) -> Option<Value> {
     Some(value)
 }
 
+/// The same record with another norm: one more or none, or another pattern, that of the other
+/// zero too.
+fn other_norm(value: &Value) -> Option<Value> {
+    let mut value = value.clone();
+    let Value::Record { norm, .. } = &mut value else { return None };
+    *norm = match *norm {
+        None => Some(1.0),
+        Some(norm) if norm == 0.0 => Some(-norm),
+        Some(1.0) => None,
+        Some(norm) => Some(next(norm)),
+    };
+    Some(value)
+}
+
 /// Another float, one pattern away where there is one.
 fn next(value: f32) -> f32 {
     if value.is_nan() {
@@ -87,7 +101,7 @@ fn every_change_is_seen() {
                     assert!(!given(Err(Ended::Withdrawn)).agrees(&wanted));
                     let astray = Given { answer: Ok(value.clone()), untouched: false };
                     assert!(!astray.agrees(&wanted));
-                    if let Some(other) = changed(value) {
+                    for other in changed(value).into_iter().chain(other_norm(value)) {
                         assert!(!given(Ok(other)).agrees(&wanted), "{case}: {value}");
                     }
                 }

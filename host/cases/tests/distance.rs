@@ -8,6 +8,7 @@ use cases::{
     case::{Case, Value, CALLS},
     expect::{expected, sum_name, Expected},
     make::{Maker, Size},
+    norms,
     paper::Refusal,
     plain,
 };
@@ -37,12 +38,22 @@ fn held(case: &Case) -> Option<&'static str> {
         Expected::Refused(Refusal { number, .. }) if number != 12 => return None,
         other => panic!("{case}: {other:?}"),
     };
-    let answer = turbo.l2_distance_estimate(&code, query);
-    if let Err(error) = &answer {
-        assert!(error.to_string().ends_with("is not finite"), "{case}: {error}");
-    }
-    let sum = thin::distance_sum(turbo, &code, query).ok();
-    assert_eq!((answer.ok(), expected), distances(sum), "{case}");
+    // With another norm than 1.0 the Rust's halves answer.
+    let (answer, sum) = match norms::given(case) {
+        None | Some(1.0) => {
+            let answer = turbo.l2_distance_estimate(&code, query);
+            if let Err(error) = &answer {
+                assert!(error.to_string().ends_with("is not finite"), "{case}: {error}");
+            }
+            (answer.ok(), thin::distance_sum(turbo, &code, query).ok())
+        }
+        Some(norm) => {
+            let halves = setup.halves.as_ref()?;
+            let sum = halves.distance_sum(&code, norm, query).ok();
+            (halves.distance(&code, norm, query).ok(), sum)
+        }
+    };
+    assert_eq!((answer, expected), distances(sum), "{case}");
     // The plain sums come to the same.
     let Some(Value::Float(plain)) = plain::value(case) else { panic!("{case}") };
     assert_eq!(plain.is_finite().then_some(plain), expected, "{case}");

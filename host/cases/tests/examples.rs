@@ -97,6 +97,7 @@ fn records() {
         bits: 1,
         mode,
         projections,
+        norm: None,
         radii: vec![1.0],
         indices: vec![1],
         signs: signs.into(),
@@ -107,9 +108,11 @@ fn records() {
     let signed = vec![2, 2, 0, 0, 0, 1, 3, 0, 0, 0, 0, 0, 0x80, 0x3F, 1, 5];
     let signs = [1, -1, 1];
     assert_eq!(value(write(Mode::PolarWithQjl, 3, &signs, 16)), Value::Bytes(signed.clone()));
-    let read = Value::Record { radii: vec![1.0], indices: vec![1], signs: vec![] };
+    let (radii, indices, norm) = (vec![1.0], vec![1], None);
+    let read = Value::Record { radii, indices, signs: vec![], norm };
     assert_eq!(value(Case::ReadRecord { record: plain }), read);
-    let read = Value::Record { radii: vec![1.0], indices: vec![1], signs: signs.to_vec() };
+    let (radii, indices) = (vec![1.0], vec![1]);
+    let read = Value::Record { radii, indices, signs: signs.to_vec(), norm };
     assert_eq!(value(Case::ReadRecord { record: signed }), read);
 }
 
@@ -129,7 +132,7 @@ fn score_of_one_pair() {
         matrix: vec![],
         own_table: true,
         rust,
-        qjl: None,
+        halves: None,
     });
     let record = vec![0, 2, 0, 0, 0, 1, 0, 0, 0x80, 0x3F, 1];
     let case = Case::Score { setup, query: vec![1.0, 3.0], record };

@@ -21,8 +21,19 @@ fn setup(signs: &[f32], entry: f32) -> Rc<Setup> {
     let (signs, matrix) = (signs.to_vec(), vec![entry, 1.0]);
     let rust = rust_setup(mode, dim, bits, projections, &signs, &matrix);
     let directions = Rc::new(oracle::thin::directions(1));
-    let (own_table, qjl) = (true, None);
-    Rc::new(Setup { mode, dim, bits, projections, signs, directions, matrix, own_table, rust, qjl })
+    let (own_table, halves) = (true, None);
+    Rc::new(Setup {
+        mode,
+        dim,
+        bits,
+        projections,
+        signs,
+        directions,
+        matrix,
+        own_table,
+        rust,
+        halves,
+    })
 }
 
 /// A score and a distance of a record of no bytes.

@@ -2,7 +2,8 @@
 //! library, under the Rust's names. Outputs are lent and must have exactly the needed
 //! length; a refused call writes to none of them. A record of no bytes is a withdrawn
 //! position, neither a refusal nor a value: calls that take a record answer a [`Position`],
-//! and write nothing where it is withdrawn.
+//! and write nothing where it is withdrawn. A record with signs may have the norm of its
+//! source, which its residual is scaled with; without one the norm is 1.0.
 //!
 //! The library's answers rest on the float mode that a thread starts with: round to
 //! nearest, subnormals kept. A call panics in a thread that has changed it.
@@ -22,6 +23,8 @@
 //! let record = [2, 2, 0, 0, 0, 1, 3, 0, 0, 0, 0, 0, 0x80, 0x3F, 1, 5];
 //! let score = |record: &[u8]| setup.inner_product_estimate_prepared(&rotated, &projected, record);
 //! assert!(matches!(score(&record)?, Position::Kept(x) if x > 3.66 && x < 3.67));
+//! let normed = [6, 2, 0, 0, 0, 1, 3, 0, 0, 0, 0, 0, 0, 0x40, 0, 0, 0x80, 0x3F, 1, 5]; // norm 2.0
+//! assert!(matches!(score(&normed)?, Position::Kept(x) if x > 4.49 && x < 4.50));
 //! let refused = Refusal { number: refusal::MALFORMED_LENGTH, place: 9 };
 //! assert_eq!(score(&record[..9]), Err(refused));
 //! assert_eq!(refused.to_string(), "refused (13): byte length wrong; the length found: 9");

@@ -169,6 +169,7 @@ extern "C" {
         bits: u8,
         mode: u8,
         projections: usize,
+        has_norm: u8,
         number: *mut u32,
         place: *mut usize,
         value: *mut usize,
@@ -185,6 +186,8 @@ extern "C" {
         projections: *mut usize,
         min: *mut f32,
         max: *mut f32,
+        has_norm: *mut u8,
+        norm: *mut f32,
     );
     pub fn foldrima_radii_part(
         bytes: *const u8,
@@ -234,6 +237,8 @@ extern "C" {
         bits: u8,
         mode: u8,
         projections: usize,
+        has_norm: u8,
+        norm: f32,
         radii: *const f32,
         radii_len: usize,
         indices: *const u16,
@@ -308,6 +313,7 @@ under_a_setup! {
         query_len: usize,
         sketch: *const i8,
         sketch_len: usize,
+        norm: f32,
         number: *mut u32,
         place: *mut usize,
         value: *mut f32,

@@ -15,16 +15,31 @@ pub struct Header {
     pub bits: u8,
     pub projections: usize,
     pub range: Range,
+    /// Whether the record has a norm.
+    pub has_norm: bool,
+    /// The norm that its scores are scaled with; 1.0 where it has none.
+    pub norm: f32,
 }
 
-/// How many bytes a record of these scalars takes; `bits` are those of an angle.
+/// A norm as the C functions take it: whether it is given, and its value.
+fn given(norm: Option<f32>) -> (u8, f32) {
+    match norm {
+        Some(norm) => (1, norm),
+        None => (0, 1.0),
+    }
+}
+
+/// How many bytes a record of these scalars takes; `bits` are those of an angle. A norm takes
+/// four, whatever its value, and is refused (18) in `PolarOnly`.
 pub fn record_size(
     profile: RadiusCodecProfileV1,
     dim: usize,
     bits: u8,
     mode: TurboMode,
     projections: usize,
+    norm: Option<f32>,
 ) -> Result<usize, Refusal> {
+    let (has_norm, _) = given(norm);
     valued(|number, place, value| unsafe {
         call!(foldrima_record_size(
             profile as u8,
@@ -32,6 +47,7 @@ pub fn record_size(
             bits,
             mode as u8,
             projections,
+            has_norm,
             number,
             place,
             value
@@ -39,7 +55,9 @@ pub fn record_size(
     })
 }
 
-/// Writes a record of these parts; `bits` are those of an angle.
+/// Writes a record of these parts; `bits` are those of an angle. A norm is stored exactly
+/// where one is given, bit for bit, 1.0 and −0.0 too. In `PolarOnly` it is refused (18), as it
+/// scales the residual; one that is not finite or below zero is refused too (23).
 #[allow(clippy::too_many_arguments)]
 pub fn write_record(
     profile: RadiusCodecProfileV1,
@@ -47,11 +65,13 @@ pub fn write_record(
     bits: u8,
     mode: TurboMode,
     projections: usize,
+    norm: Option<f32>,
     radii: &[f32],
     indices: &[u16],
     signs: &[i8],
     out: &mut [u8],
 ) -> Result<(), Refusal> {
+    let (has_norm, norm) = given(norm);
     asked(|number, place| unsafe {
         call!(foldrima_write_record(
             profile as u8,
@@ -59,6 +79,8 @@ pub fn write_record(
             bits,
             mode as u8,
             projections,
+            has_norm,
+            norm,
             [radii],
             [indices],
             [signs],
@@ -74,6 +96,7 @@ pub fn write_record(
 pub fn read_record(bytes: &[u8]) -> Result<Position<Header>, Refusal> {
     let (mut mode, mut profile, mut dim, mut bits, mut projections) = (0, 0, 0, 0, 0);
     let mut range = Range { min: 0.0, max: 0.0 };
+    let (mut has_norm, mut norm) = (0, 1.0);
     let answer = of_record(|number, place| unsafe {
         call!(foldrima_read_record(
             [bytes],
@@ -85,7 +108,9 @@ pub fn read_record(bytes: &[u8]) -> Result<Position<Header>, Refusal> {
             &mut bits,
             &mut projections,
             &mut range.min,
-            &mut range.max
+            &mut range.max,
+            &mut has_norm,
+            &mut norm
         ))
     })?;
     let mode = if mode == 0 { TurboMode::PolarOnly } else { TurboMode::PolarWithQjl };
@@ -93,7 +118,8 @@ pub fn read_record(bytes: &[u8]) -> Result<Position<Header>, Refusal> {
         0 => RadiusCodecProfileV1::F32,
         _ => RadiusCodecProfileV1::BlockLinearU16,
     };
-    Ok(answer.map(|()| Header { mode, profile, dim, bits, projections, range }))
+    let has_norm = has_norm != 0;
+    Ok(answer.map(|()| Header { mode, profile, dim, bits, projections, range, has_norm, norm }))
 }
 
 type Part = unsafe extern "C" fn(*const u8, usize, *mut usize, *mut usize);

@@ -1,8 +1,8 @@
-//! Document 01's refusals: their numbers by name, and in words.
+//! The refusals of documents 01 and 02: their numbers by name, and in words.
 
 use std::fmt;
 
-/// Why a call was refused: document 01's number, and the place that it names. A withdrawn
+/// Why a call was refused: the documents' number, and the place that it names. A withdrawn
 /// position is no refusal: `Position`.
 #[derive(Debug, Clone, Copy, PartialEq, Eq, Hash)]
 pub struct Refusal {
@@ -17,7 +17,7 @@ macro_rules! refusals {
         pub const $name: u32 = $number;)*
 
         /// The name of each number, in their order.
-        pub const NAMES: [(&str, u32); 20] = [$((stringify!($name), $name)),*];
+        pub const NAMES: [(&str, u32); 21] = [$((stringify!($name), $name)),*];
 
         fn words(number: u32) -> Option<(&'static str, &'static str)> {
             match number {
@@ -46,9 +46,10 @@ refusals! {
     MALFORMED_INDEX = 15, "an index at or above 2^bits", "its index, or 0 for a single one";
     MALFORMED_RADIUS = 16, "a radius is NaN, infinite or below zero", "its index";
     MALFORMED_RANGE = 17, "a bound not finite, or min above max, or for a codebook equal to it", "";
-    UNDEFINED_PROFILE = 18, "a map bit not defined, or profile BlockLogU8", "the map byte, or 0";
+    UNDEFINED_PROFILE = 18, "a map bit not defined, a norm without signs, or profile BlockLogU8", "the map byte, or 0";
     LENGTH_OVERFLOW = 19, "count times bits exceeds the largest usize", "";
     PROFILE_MISMATCH = 20, "a record's bits or projections are not the setup's", "";
+    MALFORMED_NORM = 23, "a norm is not finite or below zero", "";
 }
 
 impl fmt::Display for Refusal {

@@ -53,11 +53,17 @@ impl Setup<'_> {
         })
     }
 
-    /// The residual's estimate from a sketch's signs; 0 in `PolarOnly`.
-    pub fn sketch_score(&self, query: &[f32], sketch: &[i8]) -> Result<f32, Refusal> {
+    /// The residual's estimate from a sketch's signs, scaled with the source's norm, 1.0 where
+    /// it isn't known; 0 in `PolarOnly`. A norm that is not finite or below zero is refused (23)
+    /// in both modes.
+    pub fn sketch_score(&self, query: &[f32], sketch: &[i8], norm: f32) -> Result<f32, Refusal> {
         let mode = self.mode as u8;
         valued(|number, place, value| unsafe {
-            call_under!(self, mode, foldrima_sketch_score([query], [sketch], number, place, value))
+            call_under!(
+                self,
+                mode,
+                foldrima_sketch_score([query], [sketch], norm, number, place, value)
+            )
         })
     }
 
@@ -78,8 +84,8 @@ impl Setup<'_> {
         })
     }
 
-    /// The score of a record against a query. A record of no bytes is withdrawn, after the
-    /// checks of the setup and of the query.
+    /// The score of a record against a query, its residual scaled with the record's norm. A
+    /// record of no bytes is withdrawn, after the checks of the setup and of the query.
     pub fn inner_product_estimate(
         &self,
         query: &[f32],

@@ -1,5 +1,5 @@
 //! An empty slice may be lent as NULL: every call answers as for one with an address, and
-//! does not read or write through it. What a record without range or signs hands back.
+//! does not read or write through it. What a record without range, signs or norm hands back.
 
 use std::ptr::{null, null_mut, NonNull};
 
@@ -53,6 +53,7 @@ fn all_empty(e: Empty) -> Vec<(&'static str, u32, usize)> {
     let mut list = Vec::new();
     let (mut size, mut float, mut other) = (0, 0.0, 0.0);
     let (mut mode, mut profile, mut bits, mut dim, mut projections) = (0, 0, 0, 0, 0);
+    let (mut has_norm, mut norm) = (0, 0.0);
     ask!(list, foldrima_pack_indices(e.from(), 0, 3, e.to(), 0));
     ask!(list, foldrima_unpack_indices(e.from(), 0, 0, 3, e.to(), 0));
     ask!(list, foldrima_pack_signs(e.from(), 0, e.to(), 0));
@@ -66,19 +67,36 @@ fn all_empty(e: Empty) -> Vec<(&'static str, u32, usize)> {
     ask!(list, foldrima_apply(2, e.from(), 0, e.from(), 0, e.to(), 0));
     ask!(list, foldrima_apply_inverse(2, e.from(), 0, e.from(), 0, e.to(), 0));
     ask!(list, foldrima_read_record(e.from(), 0)
-        => &mut mode, &mut profile, &mut dim, &mut bits, &mut projections, &mut float, &mut other);
+        => &mut mode, &mut profile, &mut dim, &mut bits, &mut projections, &mut float, &mut other,
+        &mut has_norm, &mut norm);
     ask!(list, foldrima_read_radii(e.from(), 0, e.to(), 0));
     ask!(list, foldrima_read_indices(e.from(), 0, e.to(), 0));
     ask!(list, foldrima_read_signs(e.from(), 0, e.to(), 0));
     ask!(
         list,
-        foldrima_write_record(0, 2, 1, 0, 0, e.from(), 0, e.from(), 0, e.from(), 0, e.to(), 0)
+        foldrima_write_record(
+            0,
+            2,
+            1,
+            0,
+            0,
+            0,
+            1.0,
+            e.from(),
+            0,
+            e.from(),
+            0,
+            e.from(),
+            0,
+            e.to(),
+            0
+        )
     );
     let (s, d, m) = (e.from(), e.from(), e.from());
     let (q, v) = (e.from(), &mut float);
     ask!(list, foldrima_check_setup(1, 2, 2, 3, s, 0, d, 0, m, 0));
     ask!(list, foldrima_sketch(1, 2, 2, 3, s, 0, d, 0, m, 0, q, 0, e.to(), 0));
-    ask!(list, foldrima_sketch_score(1, 2, 2, 3, s, 0, d, 0, m, 0, q, 0, e.from(), 0) => v);
+    ask!(list, foldrima_sketch_score(1, 2, 2, 3, s, 0, d, 0, m, 0, q, 0, e.from(), 0, 1.0) => v);
     ask!(list, foldrima_prepare_query(1, 2, 2, 3, s, 0, d, 0, m, 0, q, 0, e.to(), 0, e.to(), 0));
     ask!(list, foldrima_inner_product_estimate(1, 2, 2, 3, s, 0, d, 0, m, 0, q, 0, e.from(), 0) => v);
     ask!(list, foldrima_inner_product_estimate_prepared(1, 2, 2, 3, d, 0, q, 0, q, 0, e.from(), 0) => v);
@@ -109,7 +127,7 @@ fn one_empty(e: Empty, k: usize) -> Vec<(&'static str, u32, usize)> {
     }
     under!(foldrima_check_setup(;));
     under!(foldrima_sketch(q; signs, 3));
-    under!(foldrima_sketch_score(q, t;) => v);
+    under!(foldrima_sketch_score(q, t; 2.5) => v);
     under!(foldrima_prepare_query(q; turned, 2, rows, 3));
     under!(foldrima_inner_product_estimate(q, r;) => v);
     under!(foldrima_l2_distance_estimate(q, r;) => v);
@@ -133,7 +151,7 @@ fn last_empty(e: Empty) -> Vec<(&'static str, u32, usize)> {
     ask!(list, foldrima_apply_inverse(2, s, 2, e.from(), 0, to, 2));
     ask!(list, foldrima_apply_inverse(2, s, 2, q, 2, e.to(), 0));
     ask!(list, foldrima_sketch(0, 2, 1, 0, s, 2, d, 4, m, 0, q, 2, e.to(), 0));
-    ask!(list, foldrima_sketch_score(0, 2, 1, 0, s, 2, d, 4, m, 0, q, 2, e.from(), 0) => v);
+    ask!(list, foldrima_sketch_score(0, 2, 1, 0, s, 2, d, 4, m, 0, q, 2, e.from(), 0, 2.5) => v);
     ask!(list, foldrima_prepare_query(0, 2, 1, 0, s, 2, d, 4, m, 0, q, 2, e.to(), 0, e.to(), 0));
     ask!(list, foldrima_prepare_query(0, 2, 1, 0, s, 2, d, 4, m, 0, q, 2, to, 2, e.to(), 0));
     ask!(list, foldrima_inner_product_estimate(0, 2, 1, 0, s, 2, d, 4, m, 0, q, 2, r, size) => v);
@@ -147,9 +165,12 @@ fn last_empty(e: Empty) -> Vec<(&'static str, u32, usize)> {
     ask!(list, foldrima_read_signs(r, size, e.to(), 0));
     let (radius, index, sign) = ([1.0], [1], [1]);
     let (a, b, c) = (radius.as_ptr(), index.as_ptr(), sign.as_ptr());
-    ask!(list, foldrima_write_record(0, 2, 1, 0, 0, a, 1, e.from(), 0, e.from(), 0, e.to(), 0));
-    ask!(list, foldrima_write_record(0, 2, 1, 1, 1, a, 1, b, 1, e.from(), 0, e.to(), 0));
-    ask!(list, foldrima_write_record(0, 2, 1, 0, 0, a, 1, b, 1, e.from(), 0, e.to(), 0));
+    ask!(
+        list,
+        foldrima_write_record(0, 2, 1, 0, 0, 0, 1.0, a, 1, e.from(), 0, e.from(), 0, e.to(), 0)
+    );
+    ask!(list, foldrima_write_record(0, 2, 1, 1, 1, 1, 2.5, a, 1, b, 1, e.from(), 0, e.to(), 0));
+    ask!(list, foldrima_write_record(0, 2, 1, 0, 0, 0, 1.0, a, 1, b, 1, e.from(), 0, e.to(), 0));
     ask!(list, foldrima_pack_indices(b, 1, 3, e.to(), 0));
     ask!(list, foldrima_unpack_indices(r, 1, 2, 4, e.to(), 0));
     ask!(list, foldrima_pack_signs(c, 1, e.to(), 0));
@@ -206,10 +227,11 @@ fn parts_of_an_empty_record() {
 }
 
 #[test]
-fn a_record_without_range_and_signs() {
+fn a_record_without_range_signs_and_norm() {
     let header = foldrima::read_record(&RECORD).unwrap().kept().unwrap();
     assert_eq!((header.range.min.to_bits(), header.range.max.to_bits()), (0, 0));
     assert_eq!(header.projections, 0);
+    assert_eq!((header.has_norm, header.norm.to_bits()), (false, 0x3F80_0000));
     let (mut start, mut count) = (9, 9);
     unsafe {
         raw::foldrima_signs_part(RECORD.as_ptr(), RECORD.len(), &mut start, &mut count);

@@ -23,19 +23,26 @@ fn of_a_record() {
                 {
                     let ones = (vec![1.0; dim / 2], vec![1; dim / 2], vec![1; projections]);
                     let all = fixed + radii + packed_len(dim / 2, bits).unwrap();
-                    let written = |mode, signs: &[i8]| {
+                    let written = |mode, norm, signs: &[i8]| {
                         let (radii, indices) = (&ones.0, &ones.1);
                         let (to, count) = (&mut [], projections);
                         foldrima::write_record(
-                            profile, dim, bits, mode, count, radii, indices, signs, to,
+                            profile, dim, bits, mode, count, norm, radii, indices, signs, to,
                         )
                     };
-                    let size = |mode| foldrima::record_size(profile, dim, bits, mode, projections);
-                    needs(written(Mode::PolarOnly, &[]), all);
-                    assert_eq!(size(Mode::PolarOnly), Ok(all));
-                    let signs = packed_len(projections, 1).unwrap();
-                    needs(written(Mode::PolarWithQjl, &ones.2), all + 4 + signs);
-                    assert_eq!(size(Mode::PolarWithQjl), Ok(all + 4 + signs));
+                    let size = |mode, norm| {
+                        foldrima::record_size(profile, dim, bits, mode, projections, norm)
+                    };
+                    needs(written(Mode::PolarOnly, None, &[]), all);
+                    assert_eq!(size(Mode::PolarOnly, None), Ok(all));
+                    let all = all + 4 + packed_len(projections, 1).unwrap();
+                    needs(written(Mode::PolarWithQjl, None, &ones.2), all);
+                    assert_eq!(size(Mode::PolarWithQjl, None), Ok(all));
+                    needs(written(Mode::PolarWithQjl, Some(-0.0), &ones.2), all + 4);
+                    // The norm's value is not judged here.
+                    for norm in [1.0, 0.0, f32::MAX, -1.0, f32::INFINITY, f32::NAN] {
+                        assert_eq!(size(Mode::PolarWithQjl, Some(norm)), Ok(all + 4));
+                    }
                 }
             }
         }

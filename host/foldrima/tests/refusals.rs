@@ -1,4 +1,5 @@
-//! A refusal of each of document 01's kinds, with its place; outputs stay as they were.
+//! A refusal of each kind, with its place; outputs stay as they were. Those of norms are in
+//! `norms`.
 
 use foldrima::{
     refusal, Position, RadiusCodecProfileV1 as Profile, Range, Refusal, ScalarCodebook, Setup,
@@ -56,7 +57,7 @@ fn by_an_output_of_another_length() {
     assert_eq!(foldrima::pack_signs(&[1, -1], &mut bytes), refused(6, 1));
     assert_eq!(foldrima::compress(&[1.0], Profile::F32, &mut bytes), refused(6, 4));
     let (f32s, only) = (Profile::F32, Mode::PolarOnly);
-    let written = foldrima::write_record(f32s, 2, 1, only, 0, &[1.0], &[1], &[], &mut bytes);
+    let written = foldrima::write_record(f32s, 2, 1, only, 0, None, &[1.0], &[1], &[], &mut bytes);
     assert_eq!(written, refused(6, 11));
     assert_eq!(bytes, [0xA5; 2]);
     let mut floats = [7.5; 5];
@@ -156,13 +157,13 @@ fn by_the_writer_of_a_code() {
     assert_eq!(foldrima::compress(&[1.0], log, &mut [0; 9]), refused(18, 0));
     assert_eq!(foldrima::encoded_bytes(log, &[]), refused(18, 0));
     let only = Mode::PolarOnly;
-    assert_eq!(foldrima::record_size(log, 0, 0, only, 0), refused(18, 0));
-    assert_eq!(foldrima::record_size(f32s, 3, 0, only, 0), refused(3, 3));
-    assert_eq!(foldrima::record_size(f32s, 2, 17, only, 0), refused(1, 17));
-    assert_eq!(foldrima::record_size(f32s, 2, 1, Mode::PolarWithQjl, 0), refused(8, 0));
+    assert_eq!(foldrima::record_size(log, 0, 0, only, 0, None), refused(18, 0));
+    assert_eq!(foldrima::record_size(f32s, 3, 0, only, 0, None), refused(3, 3));
+    assert_eq!(foldrima::record_size(f32s, 2, 17, only, 0, None), refused(1, 17));
+    assert_eq!(foldrima::record_size(f32s, 2, 1, Mode::PolarWithQjl, 0, None), refused(8, 0));
     let mut odd = RECORD;
-    odd[0] = 4;
-    assert_eq!(foldrima::read_record(&odd), refused(18, 4));
+    odd[0] = 8;
+    assert_eq!(foldrima::read_record(&odd), refused(18, 8));
     assert_eq!(foldrima::read_record(&RECORD[..5]), refused(13, 5));
     assert_eq!(foldrima::radii_part(&odd), []);
     let wider = Setup { bits: 2, directions: &[0.5; 8], ..ONLY };
@@ -173,14 +174,15 @@ fn by_the_writer_of_a_code() {
 #[test]
 fn in_words() {
     let said = |number, place| Refusal { number, place }.to_string();
-    for (i, (name, number)) in refusal::NAMES.into_iter().enumerate() {
-        assert_eq!(number as usize, i + 1, "{name}");
+    for ((name, number), wanted) in refusal::NAMES.into_iter().zip((1..=20).chain([23])) {
+        assert_eq!(number, wanted, "{name}");
         assert!(said(number, 0).starts_with(&format!("refused ({number}): ")), "{name}");
     }
     let odd = "refused (3): odd dimension; the dimension: 7";
     assert_eq!(said(refusal::ODD_DIMENSION, 7), odd);
     assert_eq!(said(refusal::ZERO_DIMENSION, 0), "refused (2): dimension 0");
     assert_eq!(said(21, 5), "refused with the unknown number 21 at 5");
+    assert_eq!(said(23, 0), "refused (23): a norm is not finite or below zero");
 }
 
 /// The radii of an accepted linear record, as read, have a range that starts higher; within
@@ -195,7 +197,7 @@ fn a_linear_record_that_is_not_written_again() {
     foldrima::read_indices(&linear, &mut indices).unwrap().kept().unwrap();
     assert_eq!(radii[1], f32::MAX);
     let again = |profile, out: &mut [u8]| {
-        foldrima::write_record(profile, 4, 1, header.mode, 0, &radii, &indices, &[], out)
+        foldrima::write_record(profile, 4, 1, header.mode, 0, None, &radii, &indices, &[], out)
     };
     assert_eq!(again(header.profile, &mut [0xA5; 19]), refused(16, 1));
     assert_eq!(again(Profile::F32, &mut [0xA5; 15]), Ok(()));

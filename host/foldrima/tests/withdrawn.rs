@@ -163,7 +163,7 @@ fn a_score_keeps_what_its_value_held() {
 #[test]
 fn a_reading_keeps_what_its_header_held() {
     let (mut mode, mut profile, mut dim, mut bits, mut projections) = (91, 92, 93, 94, 95);
-    let (mut min, mut max) = (7.5, 8.5);
+    let (mut min, mut max, mut has_norm, mut norm) = (7.5, 8.5, 96, 9.5);
     withdrawn(|n, p| unsafe {
         raw::foldrima_read_record(
             null(),
@@ -177,10 +177,12 @@ fn a_reading_keeps_what_its_header_held() {
             &mut projections,
             &mut min,
             &mut max,
+            &mut has_norm,
+            &mut norm,
         )
     });
     assert_eq!((mode, profile, dim, bits, projections), (91, 92, 93, 94, 95));
-    assert_eq!((min, max), (7.5, 8.5));
+    assert_eq!((min, max, has_norm, norm), (7.5, 8.5, 96, 9.5));
 }
 
 #[test]
@@ -198,7 +200,7 @@ fn an_output_keeps_what_it_held() {
 #[test]
 fn no_refusal_has_its_number() {
     assert_eq!(raw::WITHDRAWN, 255);
-    assert_eq!(refusal::NAMES.len(), 20);
+    assert_eq!(refusal::NAMES.len(), 21);
     for (name, number) in refusal::NAMES {
         assert!(number != 0 && number != raw::WITHDRAWN, "{name}");
     }

@@ -74,16 +74,18 @@ fn p11_radii() {
 fn p12_and_p13_records() {
     let mut out = [0xA5; 11];
     let only = Mode::PolarOnly;
-    foldrima::write_record(Profile::F32, 2, 1, only, 0, &[1.0], &[1], &[], &mut out).unwrap();
+    let (f32s, radii, indices) = (Profile::F32, [1.0], [1]);
+    foldrima::write_record(f32s, 2, 1, only, 0, None, &radii, &indices, &[], &mut out).unwrap();
     assert_eq!(out, P12);
     let mut out = [0xA5; 16];
     let (both, signs) = (Mode::PolarWithQjl, [1, -1, 1]);
-    foldrima::write_record(Profile::F32, 2, 1, both, 3, &[1.0], &[1], &signs, &mut out).unwrap();
+    foldrima::write_record(f32s, 2, 1, both, 3, None, &radii, &indices, &signs, &mut out).unwrap();
     assert_eq!(out, P13);
     for (record, mode, projections) in [(&P12[..], only, 0), (&P13[..], both, 3)] {
         let header = foldrima::read_record(record).unwrap().kept().unwrap();
         assert_eq!((header.mode, header.profile), (mode, Profile::F32));
         assert_eq!((header.dim, header.bits, header.projections), (2, 1, projections));
+        assert_eq!((header.has_norm, header.norm), (false, 1.0));
         let (mut radii, mut indices, mut found) = ([9.0], [9], vec![9; projections]);
         foldrima::read_radii(record, &mut radii).unwrap().kept().unwrap();
         foldrima::read_indices(record, &mut indices).unwrap().kept().unwrap();
@@ -119,7 +121,7 @@ fn scores_of_one_pair() {
     let (mut rotated, mut projected) = ([9.0; 2], [9.0; 3]);
     both.prepare_query(&query, &mut rotated, &mut projected).unwrap();
     assert_eq!((rotated, projected), ([4.0 * root, -2.0 * root], [1.0, 3.0, 4.0]));
-    assert_eq!(both.sketch_score(&query, &[1, -1, 1]), Ok(residual));
+    assert_eq!(both.sketch_score(&query, &[1, -1, 1], 1.0), Ok(residual));
     let score = 4.0 * root + residual;
     assert_eq!(both.inner_product_estimate(&query, &P13), kept(score));
     assert_eq!(both.inner_product_estimate_prepared(&rotated, &projected, &P13), kept(score));

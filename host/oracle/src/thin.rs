@@ -1,7 +1,8 @@
 //! Thin calls of the nine files for a driver: plain values in, a value or the name of
 //! the error's variant out. Nothing is computed here but what the port is lent (the
-//! direction table, and the parts read back out of serialised forms), and the sum of a
-//! distance, which the Rust does not show.
+//! direction table, and the parts read back out of serialised forms), the sum of a
+//! distance, which the Rust does not show, and the score with a source norm, which turbo.rs
+//! has no call for: the sum of its two halves.
 
 use serde_json::{json, Value};
 
@@ -10,8 +11,8 @@ use crate::{
     codebook::ScalarCodebook,
     error::TurboQuantError,
     packed::{PackedPolarCode, PackedQjlSketch, PackedTurboCode},
-    polar::{PolarCode, PolarQuantizer},
-    qjl::{QjlQuantizer, QjlSketch},
+    polar::{PolarCode, PolarProjectedQuery, PolarQuantizer},
+    qjl::{QjlProjectedQuery, QjlQuantizer, QjlSketch, QjlSketchProvenanceV1},
     radius::{CompressedRadiiV1, RadiusCodecProfileV1},
     rotation::{FastHadamardRotation, Rotation},
     turbo::{TurboCode, TurboMode, TurboProjectedQuery, TurboQuantizer},
@@ -189,11 +190,38 @@ pub fn project_query(qjl: &QjlQuantizer, query: &[f32]) -> Answer<Vec<f32>> {
     Ok(floats_in(&format!("{projected:?}"), "projected: ["))
 }
 
+fn sketch_of(qjl: &QjlQuantizer, signs: &[i8]) -> QjlSketch {
+    QjlSketch { dim: qjl.dim(), projections: qjl.projections(), signs: signs.to_vec() }
+}
+
 /// `inner_product_estimate` of a sketch with these signs.
 pub fn sketch_score(qjl: &QjlQuantizer, signs: &[i8], query: &[f32]) -> Answer<f32> {
-    let sketch =
-        QjlSketch { dim: qjl.dim(), projections: qjl.projections(), signs: signs.to_vec() };
-    named(qjl.inner_product_estimate(&sketch, query))
+    named(qjl.inner_product_estimate(&sketch_of(qjl, signs), query))
+}
+
+/// The same with a source norm, by document 02's reference.
+pub fn sketch_score_with_norm(
+    qjl: &QjlQuantizer,
+    signs: &[i8],
+    norm: f32,
+    query: &[f32],
+) -> Answer<f32> {
+    let projected = named(qjl.project_query(query))?;
+    with_norm(qjl, &sketch_of(qjl, signs), norm, &projected)
+}
+
+fn with_norm(
+    qjl: &QjlQuantizer,
+    sketch: &QjlSketch,
+    norm: f32,
+    projected: &QjlProjectedQuery,
+) -> Answer<f32> {
+    named(qjl.inner_product_estimate_with_projected_query_and_source_norm(sketch, norm, projected))
+}
+
+/// The norm as the Rust would keep it beside a sketch, if it does.
+pub fn source_norm(norm: f32) -> Answer<f32> {
+    Ok(named(QjlSketchProvenanceV1::new(norm, None))?.source_norm)
 }
 
 // Polar code with given parts.
@@ -313,10 +341,74 @@ pub fn distance(turbo: &TurboQuantizer, code: &TurboCode, query: &[f32]) -> Answ
 /// The sum that `l2_distance_estimate` cuts to zero: the Rust's own score, and the very
 /// expressions of turbo.rs.
 pub fn distance_sum(turbo: &TurboQuantizer, code: &TurboCode, query: &[f32]) -> Answer<f32> {
-    let ip = score(turbo, code, query)?;
+    Ok(sum_with(score(turbo, code, query)?, code, query))
+}
+
+fn sum_with(ip: f32, code: &TurboCode, query: &[f32]) -> f32 {
     let query_norm_sq: f32 = query.iter().map(|x| x * x).sum();
     let code_norm_sq: f32 = code.polar_code.radii.iter().map(|r| r * r).sum();
-    Ok(query_norm_sq + code_norm_sq - 2.0 * ip)
+    query_norm_sq + code_norm_sq - 2.0 * ip
+}
+
+// A source norm. turbo.rs scales every residual with the norm 1.0. With another norm a score is
+// put together here as its `inner_product_estimate_prepared` does it: the Rust's polar estimate,
+// document 02's reference for the residual, and one sum of the two.
+
+/// The two halves of a quantizer in residual mode, with its own signs and matrix.
+pub struct Halves {
+    pub polar: PolarQuantizer,
+    pub qjl: QjlQuantizer,
+}
+
+/// The halves of a quantizer, from its own serialised form; none in `PolarOnly`.
+pub fn halves(turbo: &TurboQuantizer) -> Option<Halves> {
+    let mut form = serde_json::to_value(turbo).unwrap();
+    let mut half = |name: &str| Some(form[name].take()).filter(|half| !half.is_null());
+    let (polar, qjl) = (half("polar")?, half("qjl")?);
+    let polar = serde_json::from_value(polar).unwrap();
+    Some(Halves { polar, qjl: serde_json::from_value(qjl).unwrap() })
+}
+
+/// A query prepared for the two halves.
+pub struct Prepared {
+    polar: PolarProjectedQuery,
+    qjl: QjlProjectedQuery,
+}
+
+fn finite(value: f32) -> Answer<f32> {
+    match value.is_finite() {
+        true => Ok(value),
+        false => Err(Fault { variant: "MalformedCode", index: None }),
+    }
+}
+
+impl Halves {
+    pub fn prepared(&self, query: &[f32]) -> Answer<Prepared> {
+        let polar = named(self.polar.project_query(query))?;
+        Ok(Prepared { polar, qjl: named(self.qjl.project_query(query))? })
+    }
+
+    pub fn score_prepared(&self, code: &TurboCode, norm: f32, query: &Prepared) -> Answer<f32> {
+        let polar = &self.polar;
+        let polar_estimate = named(
+            polar.inner_product_estimate_with_projected_query(&code.polar_code, &query.polar),
+        )?;
+        let qjl_correction = with_norm(&self.qjl, &code.residual_sketch, norm, &query.qjl)?;
+        finite(polar_estimate + qjl_correction)
+    }
+
+    pub fn score(&self, code: &TurboCode, norm: f32, query: &[f32]) -> Answer<f32> {
+        self.score_prepared(code, norm, &self.prepared(query)?)
+    }
+
+    /// The sum of a distance before its cut to zero.
+    pub fn distance_sum(&self, code: &TurboCode, norm: f32, query: &[f32]) -> Answer<f32> {
+        Ok(sum_with(self.score(code, norm, query)?, code, query))
+    }
+
+    pub fn distance(&self, code: &TurboCode, norm: f32, query: &[f32]) -> Answer<f32> {
+        finite(self.distance_sum(code, norm, query)?.max(0.0))
+    }
 }
 
 pub fn decode(turbo: &TurboQuantizer, code: &TurboCode) -> Answer<Vec<f32>> {

@@ -11,7 +11,7 @@ use Rattle.error.specs.Outcomes.{says}
 use Rattle.error.proofs.Chains.{first-all}
 use Rattle.setup.specs.declared.TurboMode.{TurboMode}
 use Rattle.packed.specs.Fields.{mapOf, modeOf, dimOf, bitsOf, projectionsOf}
-use Rattle.packed.specs.Reading.{shapeChecks}
+use Rattle.packed.specs.Reading.{badMap, shapeChecks}
 use Rattle.setup.specs.Checks.{badProjections}
 use Rattle.packed.proofs.Headers.{word-run, HeaderPassed, header-shape, header-cut, header-wrong, header-right}
 use borrow.Author.Tests.{lt-ltb, le-ltb}
@@ -23,30 +23,30 @@ returns : tie.Need-returns
 returns c = simp (lt-ltb _ _ (c .if1 .taken))
 
 returns-2 : tie.Need-returns-2
-returns-2 c = simp (le-ltb _ _ (c .before .before .if1 .left), lt-ltb _ _ (c .if2 .taken))
+returns-2 c = simp (le-ltb _ _ (c .before .before .before .if1 .left), sym (c .before .outside-map .ensures) ∙ c .if2 .taken)
 
 -- at the check of dimension and bits, the two checks before it have passed
-long : (c : tie.After-check-shape) → ltb (length (now (c .before .before .before .before .before .before .before .before .args .bytes))) 6 ≡ false
-long c = le-ltb _ _ (c .before .before .before .before .before .before .if1 .left)
+long : (c : tie.After-check-shape) → ltb (length (now (c .before .before .before .before .before .before .before .before .before .args .bytes))) 6 ≡ false
+long c = le-ltb _ _ (c .before .before .before .before .before .before .before .if1 .left)
 
-known : (c : tie.After-check-shape) → ltb 3 (mapOf (now (c .before .before .before .before .before .before .before .before .args .bytes))) ≡ false
-known c = le-ltb _ _ (c .before .before .before .before .if2 .left)
+known : (c : tie.After-check-shape) → badMap (mapOf (now (c .before .before .before .before .before .before .before .before .before .args .bytes))) ≡ false
+known c = sym (c .before .before .before .before .before .outside-map .ensures) ∙ c .before .before .before .before .if2 .left
 
 -- what it answers, in the record's terms
-shape : (c : tie.After-check-shape) → let bytes = now (c .before .before .before .before .before .before .before .before .args .bytes) in says (c .check-shape .result) ≡ first (shapeChecks (modeOf (mapOf bytes)) (dimOf bytes) (bitsOf bytes)) accepted
+shape : (c : tie.After-check-shape) → let bytes = now (c .before .before .before .before .before .before .before .before .before .args .bytes) in says (c .check-shape .result) ≡ first (shapeChecks (modeOf (mapOf bytes)) (dimOf bytes) (bitsOf bytes)) accepted
 shape c =
-    let bytes = now (c .before .before .before .before .before .before .before .before .args .bytes) in
+    let bytes = now (c .before .before .before .before .before .before .before .before .before .args .bytes) in
     c .check-shape .ensures
     ∙ ap (λ (m : TurboMode). first (shapeChecks m (c .before .before .get-u32 .result) (bitsOf bytes)) accepted) (c .before .before .before .mode-of .ensures)
     ∙ ap (λ (n : ℕ). first (shapeChecks (modeOf (mapOf bytes)) n (bitsOf bytes)) accepted) (c .before .before .get-u32 .ensures ∙ word-run bytes 1 (search needs))
 
-shaped : (c : tie.After-enum-told) → let bytes = now (c .before .before .before .before .before .before .before .before .before .before .args .bytes) in first (shapeChecks (modeOf (mapOf bytes)) (dimOf bytes) (bitsOf bytes)) accepted ≡ accepted
+shaped : (c : tie.After-enum-told) → let bytes = now (c .before .before .before .before .before .before .before .before .before .before .before .args .bytes) in first (shapeChecks (modeOf (mapOf bytes)) (dimOf bytes) (bitsOf bytes)) accepted ≡ accepted
 shaped c = sym (shape (c .before .before)) ∙ ap says (c .enum-told .given .1)
 
 -- all checks but the last
-passed : (c : tie.Else3) → HeaderPassed (now (c .before .before .before .before .before .before .before .before .before .before .before .before .args .bytes))
+passed : (c : tie.Else3) → HeaderPassed (now (c .before .before .before .before .before .before .before .before .before .before .before .before .before .args .bytes))
 passed c =
-    let bytes = now (c .before .before .before .before .before .before .before .before .before .before .before .before .args .bytes) in
+    let bytes = now (c .before .before .before .before .before .before .before .before .before .before .before .before .before .args .bytes) in
     let all = first-all (shapeChecks (modeOf (mapOf bytes)) (dimOf bytes) (bitsOf bytes)) accepted (shaped (c .before .before)) in
     record {
       long = long (c .before .before .before .before);
@@ -59,14 +59,17 @@ passed c =
     }
 
 -- the last one, as the code asks it
-asked : (c : tie.After-outside-projections) → let bytes = now (c .before .before .before .before .before .before .before .before .before .before .before .before .before .before .before .args .bytes) in c .outside-projections .result ≡ badProjections (modeOf (mapOf bytes)) (projectionsOf bytes)
+asked : (c : tie.After-outside-projections) → let bytes = now (c .before .before .before .before .before .before .before .before .before .before .before .before .before .before .before .before .args .bytes) in c .outside-projections .result ≡ badProjections (modeOf (mapOf bytes)) (projectionsOf bytes)
 asked c = c .outside-projections .ensures ∙ rw (c .before .mode-of2 .ensures, c .before .before .projections-of .ensures)
 
 shared-slice-read-map : tie.Need-shared-slice-read-map
 shared-slice-read-map c = search needs
 
-cast-t11 : tie.Need-cast-t11
-cast-t11 c = omega (arith, c .before .shared-slice-known2 .given 0)
+outside-map-requires : tie.Need-outside-map-requires
+outside-map-requires c κs = search needs
+
+cast-t12 : tie.Need-cast-t12
+cast-t12 c = omega (arith, c .before .before .shared-slice-known2 .given 0)
 
 mode-of-requires : tie.Need-mode-of-requires
 mode-of-requires c κs = search needs
@@ -84,7 +87,7 @@ enum-known-number : tie.Need-enum-known-number
 enum-known-number c = search needs
 
 returns-3 : tie.Need-returns-3
-returns-3 c = sym (header-shape (now (c .before .before .before .before .before .before .before .before .before .before .before .args .bytes)) accepted (long (c .before .before .before)) (known (c .before .before .before)) (sym (shape (c .before .before .before)) ∙ ap says (c .before .number .given .1)))
+returns-3 c = sym (header-shape (now (c .before .before .before .before .before .before .before .before .before .before .before .before .args .bytes)) accepted (long (c .before .before .before)) (known (c .before .before .before)) (sym (shape (c .before .before .before)) ∙ ap says (c .before .number .given .1)))
 
 enum-told : tie.Need-enum-told
 enum-told c = search needs
@@ -93,7 +96,7 @@ header-length-requires : tie.Need-header-length-requires
 header-length-requires c κs = search needs
 
 returns-4 : tie.Need-returns-4
-returns-4 c = sym (header-cut (now (c .before .before .before .before .before .before .before .before .before .before .before .before .args .bytes)) accepted (long (c .before .before .before .before)) (known (c .before .before .before .before)) (shaped (c .before .before)) (ap (ltb (length (now (c .before .before .before .before .before .before .before .before .before .before .before .before .args .bytes)))) (sym (c .before .header-length .ensures)) ∙ lt-ltb _ _ (c .if3 .taken)))
+returns-4 c = sym (header-cut (now (c .before .before .before .before .before .before .before .before .before .before .before .before .before .args .bytes)) accepted (long (c .before .before .before .before)) (known (c .before .before .before .before)) (shaped (c .before .before)) (ap (ltb (length (now (c .before .before .before .before .before .before .before .before .before .before .before .before .before .args .bytes)))) (sym (c .before .header-length .ensures)) ∙ lt-ltb _ _ (c .if3 .taken)))
 
 projections-of-requires : tie.Need-projections-of-requires
 projections-of-requires c κs = search needs
@@ -116,7 +119,8 @@ check-header-spec =
     (tie.spec
     returns
     shared-slice-read-map
-    cast-t11
+    outside-map-requires
+    cast-t12
     returns-2
     mode-of-requires
     get-u32-requires

@@ -21,7 +21,7 @@ dim-read c =
 
 -- the sizes that the sums are made of
 pub record Sizes (head width dim bits m : ℕ) : Type 0 where
-  pub head-most : head ≤ 18
+  pub head-most : head ≤ 22
   pub radii-most : width * (dim / 2) ≤ 8192
   pub indices-most : dim / 2 * bits ≤ 32768
   pub projections-most : m ≤ 4096
@@ -95,9 +95,17 @@ mode-of-requires c κs = search needs
 bounds-of-requires : tie.Need-bounds-of-requires
 bounds-of-requires c κs = let u = header-usable (now (c .before .before .before .before .before .before .before .before .before .args .bytes)) accepted (c .before .before .before .before .before .before .before .before .before .pre) in (u .long, u .header)
 
+norm-stands-requires : tie.Need-norm-stands-requires
+norm-stands-requires c κs = search needs
+
+norm-of-requires : tie.Need-norm-of-requires
+norm-of-requires c κs = let s = c .before .before .before .before .before .before .before .before .before .before .before in let u = header-usable (now (s .args .bytes)) accepted (s .pre) in (u .long, u .header)
+
 returns : tie.Need-returns
 unfolding headerOf
-returns c = simp (c .bounds-of .ensures, c .before .mode-of .ensures, c .before .before .width-of .ensures, c .before .before .before .header-length .ensures, c .before .before .before .before .profile-of .ensures, c .before .before .before .before .before .projections-of .ensures, dim-read (c .before .before .before .before .before .before .before))
+returns c =
+    let b = c .before .before in
+    simp (c .norm-of .ensures, c .before .norm-stands .ensures, b .bounds-of .ensures, b .before .mode-of .ensures, b .before .before .width-of .ensures, b .before .before .before .header-length .ensures, b .before .before .before .before .profile-of .ensures, b .before .before .before .before .before .projections-of .ensures, dim-read (b .before .before .before .before .before .before .before))
 
 pub header-of-spec : {M : Type 1} → statement M
 header-of-spec =
@@ -120,4 +128,6 @@ header-of-spec =
     add-end-2
     mode-of-requires
     bounds-of-requires
+    norm-stands-requires
+    norm-of-requires
     returns)

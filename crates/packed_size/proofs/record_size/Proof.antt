@@ -22,11 +22,11 @@ passed c = sym (c .before .before .check-code .ensures) ∙ ap says (c .enum-tol
 
 -- the length with so many signs
 abbrev neededWith : Code → ℕ → ℕ
-neededWith code m = headerLength (mapFor (code .profile) (code .mode)) + widthOf (code .profile) * (code .dim / 2) + bytesFor (code .dim / 2 * code .bits) + bytesFor m
+neededWith code m = headerLength (mapFor (code .profile) (code .mode) (code .norm)) + widthOf (code .profile) * (code .dim / 2) + bytesFor (code .dim / 2 * code .bits) + bytesFor m
 
 -- the sizes that the sums are made of
 record Sizes (head width pairs bits signs : ℕ) : Type 0 where
-  head-most : head ≤ 18
+  head-most : head ≤ 22
   radii-most : width * pairs ≤ 8192
   indices-most : pairs * bits ≤ 32768
   signs-most : signs ≤ 4096
@@ -100,7 +100,7 @@ returns-2 c =
     let pairs = code .dim / 2 in
     ap value
     (ap (λ (n : ℕ). n + c .width-of .result * pairs + codes + bytesFor (c .before .before .before .counted-projections .result)) (c .before .header-length .ensures ∙ ap headerLength (c .before .before .map-for .ensures))
-    ∙ ap (λ (w : ℕ). headerLength (mapFor (code .profile) (code .mode)) + w * pairs + codes + bytesFor (c .before .before .before .counted-projections .result)) (c .width-of .ensures)
+    ∙ ap (λ (w : ℕ). headerLength (mapFor (code .profile) (code .mode) (code .norm)) + w * pairs + codes + bytesFor (c .before .before .before .counted-projections .result)) (c .width-of .ensures)
     ∙ ap (λ (m : ℕ). neededWith code m) (c .before .before .before .counted-projections .ensures))
     ∙ sym (first-passed (codeChecks code) (value (neededFor code)) (passed (c .before .before .before .before)))
 

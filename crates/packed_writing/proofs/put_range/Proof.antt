@@ -28,7 +28,7 @@ enum-told-3 : tie.Need-enum-told-3
 enum-told-3 c = search needs
 
 returns : tie.Need-returns
-returns c = rw (c .enum-told .given .1) (store-nothing (now (c .before .before .before .args .out)))
+returns c = rw (c .enum-told .given .1) (store-nothing (now (c .before .before .before .args .out)) 6)
 
 same-length : tie.Need-same-length
 same-length c = search needs
@@ -42,10 +42,10 @@ returns-2 c =
     (c .before .before .put-f322 .ensures
     ∙ put-f32-room _ 10 (range .max) (omega (arith, h, c .before .before .before .before .before .before .put-f32 .kept .0))
     ∙ ap (λ (l : List ℕ). take 10 l ++ toLeBytes (range .max) ++ drop 14 l) (c .before .before .before .before .before .before .put-f32 .ensures ∙ put-f32-room xs 6 (range .min) (omega (arith, h)))
-    ∙ store-pair xs (toLeBytes (range .min)) (toLeBytes (range .max)) (length-toLeBytes (range .min)) (length-toLeBytes (range .max)) h)
+    ∙ store-pair xs (toLeBytes (range .min)) (toLeBytes (range .max)) 4 4 (length-toLeBytes (range .min)) h)
 
 returns-3 : tie.Need-returns-3
-returns-3 c = rw (c .enum-told3 .given .1) (store-nothing (now (c .before .before .before .args .out)))
+returns-3 c = rw (c .enum-told3 .given .1) (store-nothing (now (c .before .before .before .args .out)) 6)
 
 pub put-range-spec : {M : Type 1} → statement M
 put-range-spec =

@@ -27,10 +27,10 @@ sized : (s : tie.Start) → Sized (s .args .code .profile) (s .args .code .bits)
 sized s = fields-sized (s .args .code) (length (now (s .args .radii))) (length (now (s .args .indices))) (length (now (s .args .signs))) (s .pre .0)
 
 -- and so have the values
-values : (c : tie.After-enum-told) → let a = c .before .before .before .before .before .before .args in first (valueChecks (a .code .profile) (a .code .bits) (now (a .radii)) (now (a .indices)) (now (a .signs))) accepted ≡ accepted
+values : (c : tie.After-enum-told) → let a = c .before .before .before .before .before .before .args in first (valueChecks (a .code .profile) (a .code .bits) (a .code .norm) (now (a .radii)) (now (a .indices)) (now (a .signs))) accepted ≡ accepted
 values c = sym (c .before .before .check-values .ensures) ∙ ap says (c .enum-told .given .1)
 
-head-is : (c : tie.After-header-length) → let a = c .before .before .before .before .before .before .before .before .before .args in c .header-length .result ≡ headerLength (mapFor (a .code .profile) (a .code .mode))
+head-is : (c : tie.After-header-length) → let a = c .before .before .before .before .before .before .before .before .before .args in c .header-length .result ≡ headerLength (mapFor (a .code .profile) (a .code .mode) (a .code .norm))
 head-is c = c .header-length .ensures ∙ ap headerLength (c .before .map-for .ensures)
 
 -- the output has room for the header and the payloads
@@ -46,13 +46,13 @@ out-long c =
 check-values-requires : tie.Need-check-values-requires
 check-values-requires c κs = sized (c .before .before .before) .known
 
-enum-known-number : tie.Need-enum-known-number
-enum-known-number c = search needs
+enum-known-checked : tie.Need-enum-known-checked
+enum-known-checked c = search needs
 
 returns : tie.Need-returns
 returns c =
     let s = c .before .before .before .before .before .before .before in
-    both-refused _ _ (write-values (s .args .code) (now (s .args .radii)) (now (s .args .indices)) (now (s .args .signs)) (length (now (s .args .out))) (s .pre .0) (sym (c .before .before .before .check-values .ensures) ∙ ap says (c .before .number .given .1)))
+    both-refused _ _ (write-values (s .args .code) (now (s .args .radii)) (now (s .args .indices)) (now (s .args .signs)) (length (now (s .args .out))) (s .pre .0) (sym (c .before .before .before .check-values .ensures) ∙ ap says (c .before .checked .given .1)))
 
 enum-told : tie.Need-enum-told
 enum-told c = search needs
@@ -83,14 +83,14 @@ put-payloads-requires c κs =
     let n = length (now (s .args .radii)) in
     let rest = bytesFor (length (now (s .args .indices)) * s .args .code .bits) + bytesFor (length (now (s .args .signs))) in
     let z = sized s in
-    let all = first-all (valueChecks (s .args .code .profile) (s .args .code .bits) (now (s .args .radii)) (now (s .args .indices)) (now (s .args .signs))) accepted (values (c .before .before .before .before)) in
+    let all = first-all (valueChecks (s .args .code .profile) (s .args .code .bits) (s .args .code .norm) (now (s .args .radii)) (now (s .args .indices)) (now (s .args .signs))) accepted (values (c .before .before .before .before)) in
     record {
       known = z .known;
       radii-most = z .radii-most;
-      radii-good = all .0;
+      radii-good = all .1 .0;
       rest = rest;
       exact = lent-back (now (s .args .out)) (c .before .header-length .result) (widthOf (s .args .code .profile) * n + rest) (let e = out-long (c .before) in omega (arith, e));
-      codes = record { codes = z .codes; indices-good = all .1 .1 .0; signs-good = all .1 .1 .1 .0; exact = refl };
+      codes = record { codes = z .codes; indices-good = all .1 .1 .1 .0; signs-good = all .1 .1 .1 .1 .0; exact = refl };
     }
 
 sub-put-header : tie.Need-sub-put-header
@@ -127,7 +127,7 @@ write-sized-spec =
     tie.close
     (tie.spec
     check-values-requires
-    enum-known-number
+    enum-known-checked
     returns
     enum-told
     returns-2

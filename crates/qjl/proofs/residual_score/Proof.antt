@@ -49,7 +49,7 @@ returns c =
     let m = s .args .projections in
     let xs = f .before .before .zeros .result in
     c .signed-score .ensures
-    ∙ ap (λ (vs : List Float). signedScore m vs (s .args .sketch .now)) (project-part (s .args .dim) m (s .args .matrix .now) (s .args .query .now) xs (f .project .last .1 .1 .1 .0) (postOf 0 (m - 0) xs) (omega (arith, s .pre .1, f .before .before .zeros .ok)) (f .project .kept .1 .1 .1 .0) (s .pre .0) (f .project .ensures .1))
+    ∙ ap (λ (vs : List Float). signedScore m vs (s .args .sketch .now) (s .args .norm)) (project-part (s .args .dim) m (s .args .matrix .now) (s .args .query .now) xs (f .project .last .1 .1 .1 .0) (postOf 0 (m - 0) xs) (omega (arith, s .pre .1, f .before .before .zeros .ok)) (f .project .kept .1 .1 .1 .0) (s .pre .0) (f .project .ensures .1))
 
 pub residual-score-spec : {M : Type 1} → statement M
 residual-score-spec =

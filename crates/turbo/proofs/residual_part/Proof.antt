@@ -6,12 +6,13 @@ use native.Mathlib.Omega.{arith}
 use borrow.Rule.Slice.PartMut.{postOf}
 use denote.Ref.{now}
 use lib.IntN.{ℤ}
-use lib.Ieee.{ofBits}
+use lib.Ieee.{Float}
 use Rattle.lists.proofs.Parts.{part-enough}
-use Rattle.qjl_residual.specs.Residual.{unitResidual}
+use Rattle.qjl_residual.specs.Residual.{residualOf}
+use Rattle.packed.specs.Fields.{normOf}
 use Rattle.packed.specs.Reading.{signsOf}
 use Rattle.packed.proofs.Accepted.{read-header}
-use Rattle.packed.proofs.Parts.{header-projections}
+use Rattle.packed.proofs.Parts.{header-projections, header-norm}
 use Rattle.packed_values.proofs.Scratch.{read-projections-most, signs-lent}
 use borrow.Author.Needs.{needs}
 use Rattle.turbo.proofs.residual_part.Statement.{statement}
@@ -49,12 +50,12 @@ residual-requires : tie.Need-residual-requires
 residual-requires c κs = search needs
 
 returns : tie.Need-returns
-unfolding ofBits
 returns c = let s = c .before .before .before .before .before .before .before .before .before in let bytes = now (s .args .bytes) in let most = read-projections-most bytes (s .pre) in let is = header-projections bytes (read-header bytes (s .pre)) in
     let ss = signs-lent bytes (s .pre) (c .before .before .before .before .before .before .no-signs .result) (omega (arith, most, c .before .before .before .before .before .before .no-signs .ok)) (c .before .before .before .before .signs-at .last .1 .1 .0) (postOf 0 (s .args .header .projections - 0) (c .before .before .before .before .before .before .no-signs .result)) (c .before .before .before .before .signs-at .kept .1 .1 .0) (c .before .before .before .before .signs-at .ensures .1) in
     c .residual .ensures
-    ∙ ap (λ (l : List ℤ). unitResidual (s .args .header .projections) (now (s .args .projected)) l) ss
-    ∙ ap (λ (k : ℕ). unitResidual k (now (s .args .projected)) (signsOf bytes)) is
+    ∙ ap (λ (l : List ℤ). residualOf (s .args .header .projections) (s .args .header .norm) (now (s .args .projected)) l) ss
+    ∙ ap (λ (x : Float). residualOf (s .args .header .projections) x (now (s .args .projected)) (signsOf bytes)) (header-norm bytes (read-header bytes (s .pre)))
+    ∙ ap (λ (k : ℕ). residualOf k (normOf bytes) (now (s .args .projected)) (signsOf bytes)) is
 
 pub residual-part-spec : {M : Type 1} → statement M
 residual-part-spec =

@@ -4,12 +4,16 @@ use std::collections::BTreeMap;
 
 use cases::{
     ask::{ask, hush},
-    case::{same, Answer, Case, Value, CALLS},
+    case::{same, Answer, Case, Profile, Value, CALLS},
     expect::{distance_sum, expected, sum_name, Expected},
     make::{Maker, Size},
+    norms::{class_of, classes_of, flaw_of, given, place_of, PLACES},
     paper::{ended, Ended, Refusal},
     plain,
 };
+
+/// From so many cases of each call on, every class of norms must have come up.
+const ENOUGH: usize = 4000;
 
 /// Longer lines are not worth writing down.
 const LONGEST: usize = 700;
@@ -18,7 +22,7 @@ const HELP: &str = "\
 cases COMMAND [--seed N] [--count N] [--call NAME]
 
   run      puts cases to the Rust and holds its answers against document 01's refusals
-           and document 02's withdrawn positions
+           and document 02's withdrawn positions and norms
   largest  the same at the limits of a setup, 4,096 x 4,096
   list     prints small cases with the answer that is expected
   replay   prints a few of them for each kind of answer
@@ -142,6 +146,66 @@ impl Empty {
     }
 }
 
+/// How many norms of each class there were, by `PLACES`; and how many scores and distances
+/// were expected of turbo.rs's own calls, and of its halves with another norm than 1.0.
+#[derive(Default)]
+struct Norms {
+    classes: BTreeMap<&'static str, BTreeMap<&'static str, usize>>,
+    own: usize,
+    halves: usize,
+}
+
+impl Norms {
+    fn count(&mut self, case: &Case, wanted: &Expected) {
+        let Some(place) = place_of(case) else { return };
+        let classes = self.classes.entry(place).or_default();
+        for class in class_of(case).into_iter().chain(flaw_of(case)) {
+            *classes.entry(class).or_default() += 1;
+        }
+        let scores =
+            matches!(case, Case::Score { .. } | Case::Distance { .. } | Case::ScorePrepared { .. });
+        if let (true, Expected::Value { by_rust: true, .. }) = (scores, wanted) {
+            match given(case) {
+                None | Some(1.0) => self.own += 1,
+                Some(_) => self.halves += 1,
+            }
+        }
+    }
+
+    fn print(&self) {
+        for (place, met) in &self.classes {
+            let named = |class: &&str| format!("{} {class}", met.get(class).unwrap_or(&0));
+            let all: Vec<String> = classes_of(place).iter().map(named).collect();
+            println!("norms, {place}: {}", all.join(", "));
+        }
+        if self.own + self.halves > 0 {
+            println!(
+                "scores and distances of the Rust: {} with the norm 1.0 by its own calls, {} with \
+                 another by its halves",
+                self.own, self.halves
+            );
+        }
+    }
+
+    /// Ends with 1 where a class has no case among enough of all calls.
+    fn complete(&self, options: &Options) {
+        if options.call.is_some() || options.count < ENOUGH {
+            return;
+        }
+        let met = |place, class| self.classes.get(place).is_some_and(|of| of.contains_key(class));
+        let missing: Vec<String> = PLACES
+            .into_iter()
+            .flat_map(|place| classes_of(place).into_iter().map(move |class| (place, class)))
+            .filter(|&(place, class)| !met(place, class))
+            .map(|(place, class)| format!("{place}: {class}"))
+            .collect();
+        if !missing.is_empty() {
+            println!("no case of a norm that is: {}", missing.join("; "));
+            std::process::exit(1);
+        }
+    }
+}
+
 fn main() {
     if std::env::args().skip(1).any(|word| word == "--help") {
         print!("{HELP}\ncalls: {}\n", CALLS.join(", "));
@@ -178,17 +242,19 @@ struct Ran {
     open: usize,
     sums: Sums,
     empty: Empty,
+    norms: Norms,
 }
 
 impl Ran {
     fn add(&mut self, case: &Case, kinds: &mut Kinds) {
         let answer = ask(case);
         let end = ended(case, &answer);
-        self.broken += inverse_broken(case, &answer) as usize;
+        self.broken += inverse_broken(case, &answer, end) as usize;
         let wanted = expected(case);
         self.open += matches!(wanted, Expected::Open) as usize;
         self.sums.count(case, &wanted);
         self.empty.count(case, &wanted);
+        self.norms.count(case, &wanted);
         if let Some(differs) = plain_differs(case, &answer, end) {
             self.apart += differs as usize;
             self.held += 1;
@@ -236,9 +302,11 @@ fn run(options: &Options, calls: &[usize]) {
     }
     ran.sums.print();
     ran.empty.print();
+    ran.norms.print();
     println!("{} cases, {} round trips broken", ran.total, ran.broken);
     println!("{} cases have nothing to be held against", ran.open);
     println!("plain sums held against the Rust {} times, {} differ", ran.held, ran.apart);
+    ran.norms.complete(options);
 }
 
 /// One case of each call that takes a setup, at its limits; one gigabyte of memory.
@@ -268,9 +336,27 @@ fn plain_differs(case: &Case, answer: &Answer, end: Option<Ended>) -> Option<boo
     Some(!same(found, &plain::value(case)?))
 }
 
-/// Whether a value that the oracle gave does not come back through its inverse.
-fn inverse_broken(case: &Case, answer: &Answer) -> bool {
+/// Whether a value that the oracle gave does not come back through its inverse. A record is
+/// read back only where it is not refused but for its output: the Rust writes some linear
+/// radii that it doesn't read.
+fn inverse_broken(case: &Case, answer: &Answer, end: Option<Ended>) -> bool {
+    let written = match end {
+        None => true,
+        Some(Ended::Refused(refused)) => refused.number == 6,
+        Some(Ended::Withdrawn) => false,
+    };
     let back = match (case, answer) {
+        (
+            Case::WriteRecord { profile, norm, radii, indices, signs, .. },
+            Answer::Value(Value::Bytes(bytes)),
+        ) if written => {
+            let back = ask(&Case::ReadRecord { record: bytes.clone() });
+            let Answer::Value(Value::Record { radii: found, .. }) = &back else { return true };
+            // Linear radii may come back as others.
+            let radii = if *profile == Profile::F32 { radii.clone() } else { found.clone() };
+            let (indices, signs, norm) = (indices.clone(), signs.clone(), *norm);
+            (back, Value::Record { radii, indices, signs, norm })
+        }
         (Case::PackIndices { indices, bits, .. }, Answer::Value(Value::Bytes(bytes))) => {
             let (bytes, count, bits) = (bytes.clone(), indices.len(), *bits);
             let back = ask(&Case::UnpackIndices { bytes, count, bits, out: 0 });
@@ -291,7 +377,7 @@ fn inverse_broken(case: &Case, answer: &Answer) -> bool {
         (
             Case::Compress { radii, profile, .. },
             Answer::Value(Value::Radii { min, max, payload }),
-        ) if *profile == cases::case::Profile::F32 => {
+        ) if *profile == Profile::F32 => {
             let (count, payload, profile) = (radii.len(), payload.clone(), *profile);
             let again = Case::Decompress { profile, count, min: *min, max: *max, payload, out: 0 };
             (ask(&again), Value::Floats(radii.clone()))
@@ -372,6 +458,7 @@ struct Differed {
     numbers: BTreeMap<u32, usize>,
     sums: Sums,
     empty: Empty,
+    norms: Norms,
 }
 
 #[cfg(feature = "capi")]
@@ -391,6 +478,7 @@ impl Differed {
         }
         self.sums.count(case, &wanted);
         self.empty.count(case, &wanted);
+        self.norms.count(case, &wanted);
         self.zeros += !given.agrees_in_zeros(&wanted) as usize;
         if !given.agrees(&wanted) {
             row.wrong += 1;
@@ -436,9 +524,11 @@ fn differ(options: &Options, calls: &[usize]) {
     println!("refusals by number: {}", numbers.collect::<Vec<_>>().join(", "));
     all.sums.print();
     all.empty.print();
-    let Differed { total, zeros, differ, .. } = all;
+    all.norms.print();
+    let Differed { total, zeros, differ, norms, .. } = all;
     println!("{total} cases, {zeros} with zeros of another sign, {differ} differ");
     if differ > 0 {
         std::process::exit(1);
     }
+    norms.complete(options);
 }

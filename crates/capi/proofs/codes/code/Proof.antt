@@ -9,8 +9,11 @@ profile-requires c κs = search needs
 mode-requires : tie.Need-mode-requires
 mode-requires c κs = search needs
 
+source-norm-requires : tie.Need-source-norm-requires
+source-norm-requires c κs = search needs
+
 returns : tie.Need-returns
-returns c = rw (c .before .profile .ensures, c .mode .ensures)
+returns c = rw (c .before .before .profile .ensures, c .before .mode .ensures, c .source-norm .ensures)
 
 pub code-spec : {M : Type 1} → statement M
-code-spec = tie.close (tie.spec profile-requires mode-requires returns)
+code-spec = tie.close (tie.spec profile-requires mode-requires source-norm-requires returns)

@@ -1,6 +1,7 @@
 -- `capi::records::foldrima_record_size` meets its contract. Assumes nothing.
 use mathlib.Core.Path.{ap, _∙_}
 use denote.Ref.{now}
+use lib.Ieee.{ofBits}
 use Rattle.packed_size.specs.Size.{recordSizeOf}
 use Rattle.capi.proofs.Tell.{told-as, left-as}
 use borrow.Author.Needs.{needs}
@@ -17,6 +18,7 @@ tell-length-requires : tie.Need-tell-length-requires
 tell-length-requires c κs = search needs
 
 returns : tie.Need-returns
+unfolding ofBits
 returns c =
     let a = c .before .before .before .before .before .before .args in
     let e = c .before .before .before .before .record-size .ensures ∙ ap recordSizeOf (c .before .before .before .before .before .code .ensures) in
