@@ -29,6 +29,32 @@ pub struct Setup {
 }
 
 impl Setup {
+    /// One pair of one polar bit, under these signs and this matrix, with the host's own table.
+    pub fn of_one_pair(
+        mode: TurboMode,
+        projections: usize,
+        signs: Vec<f32>,
+        matrix: Vec<f32>,
+    ) -> Rc<Setup> {
+        let (dim, bits) = (2, 1 + (mode == TurboMode::PolarWithQjl) as u8);
+        let rust = rust_setup(mode, dim, bits, projections, &signs, &matrix);
+        let halves = rust.as_ref().and_then(|rust| thin::halves(rust.as_ref().ok()?));
+        let directions = Rc::new(thin::directions(1));
+        let own_table = true;
+        Rc::new(Setup {
+            mode,
+            dim,
+            bits,
+            projections,
+            signs,
+            directions,
+            matrix,
+            own_table,
+            rust,
+            halves,
+        })
+    }
+
     /// Bits of an angle: the total, less 1 in residual mode.
     pub fn polar_bits(&self) -> u8 {
         match self.mode {

@@ -1,11 +1,9 @@
 //! Document 01's worked cases P1 to P13, put to the oracle, to the list of refusals and
 //! to the plain sums.
 
-use std::rc::Rc;
-
 use cases::{
     ask::ask,
-    case::{rust_setup, Answer, Case, Mode, Profile, Setup, Value},
+    case::{Answer, Case, Mode, Profile, Setup, Value},
     expect::{expected, Expected},
     paper::Refusal,
 };
@@ -119,21 +117,7 @@ fn records() {
 #[test]
 fn score_of_one_pair() {
     // Index 1 of 1 bit points along (1, 0), so the score is the first rotated value.
-    let mode = Mode::PolarOnly;
-    let signs = vec![1.0, 1.0];
-    let rust = rust_setup(mode, 2, 1, 0, &signs, &[]);
-    let setup = Rc::new(Setup {
-        mode,
-        dim: 2,
-        bits: 1,
-        projections: 0,
-        signs,
-        directions: Rc::new(oracle::thin::directions(1)),
-        matrix: vec![],
-        own_table: true,
-        rust,
-        halves: None,
-    });
+    let setup = Setup::of_one_pair(Mode::PolarOnly, 0, vec![1.0, 1.0], vec![]);
     let record = vec![0, 2, 0, 0, 0, 1, 0, 0, 0x80, 0x3F, 1];
     let case = Case::Score { setup, query: vec![1.0, 3.0], record };
     let root = 1.0 / 2.0f32.sqrt();

@@ -5,7 +5,7 @@ use std::{collections::BTreeMap, rc::Rc};
 
 use cases::{
     ask::{ask, code},
-    case::{rust_setup, strictly_same_float, Answer, Case, Mode, Profile, Setup, Value, CALLS},
+    case::{strictly_same_float, Answer, Case, Mode, Profile, Setup, Value, CALLS},
     expect::{expected, Expected},
     make::{Maker, Size},
     norms::{self, class_of, classes_of, flaw_of, place_of, BAD, FLAWED, GOOD, PLACES},
@@ -124,27 +124,13 @@ fn the_halves_with_one_are_the_quantizer() {
 
 /// One pair of one bit; in `PolarWithQjl` three projections.
 fn setup(mode: Mode) -> Rc<Setup> {
-    let residual = mode == Mode::PolarWithQjl;
-    let (dim, bits) = (2, 1 + residual as u8);
-    let projections = if residual { 3 } else { 0 };
     let signs = vec![1.0, 1.0];
-    let matrix = if residual { vec![1.0, 0.0, 0.0, 1.0, 1.0, 1.0] } else { vec![] };
-    let rust = rust_setup(mode, dim, bits, projections, &signs, &matrix);
-    let halves = rust.as_ref().and_then(|rust| thin::halves(rust.as_ref().unwrap()));
-    let directions = Rc::new(thin::directions(1));
-    let own_table = true;
-    Rc::new(Setup {
-        mode,
-        dim,
-        bits,
-        projections,
-        signs,
-        directions,
-        matrix,
-        own_table,
-        rust,
-        halves,
-    })
+    match mode {
+        Mode::PolarOnly => Setup::of_one_pair(mode, 0, signs, vec![]),
+        Mode::PolarWithQjl => {
+            Setup::of_one_pair(mode, 3, signs, vec![1.0, 0.0, 0.0, 1.0, 1.0, 1.0])
+        }
+    }
 }
 
 /// P13's record with this norm, in the F32 form.

@@ -9,7 +9,7 @@ use std::{
 
 use cases::{
     ask::ask,
-    case::{rust_setup, Answer, Case, Mode, Setup, CALLS, TAKE_A_RECORD},
+    case::{Answer, Case, Mode, Setup, CALLS, TAKE_A_RECORD},
     expect::{expected, Expected},
     make::{Maker, Size},
     paper::Refusal,
@@ -17,23 +17,7 @@ use cases::{
 
 /// One pair of one bit and one projection; its matrix has this entry first.
 fn setup(signs: &[f32], entry: f32) -> Rc<Setup> {
-    let (mode, dim, bits, projections) = (Mode::PolarWithQjl, 2, 2, 1);
-    let (signs, matrix) = (signs.to_vec(), vec![entry, 1.0]);
-    let rust = rust_setup(mode, dim, bits, projections, &signs, &matrix);
-    let directions = Rc::new(oracle::thin::directions(1));
-    let (own_table, halves) = (true, None);
-    Rc::new(Setup {
-        mode,
-        dim,
-        bits,
-        projections,
-        signs,
-        directions,
-        matrix,
-        own_table,
-        rust,
-        halves,
-    })
+    Setup::of_one_pair(Mode::PolarWithQjl, 1, signs.to_vec(), vec![entry, 1.0])
 }
 
 /// A score and a distance of a record of no bytes.
