@@ -36,23 +36,34 @@ impl Setup {
         signs: Vec<f32>,
         matrix: Vec<f32>,
     ) -> Rc<Setup> {
-        let (dim, bits) = (2, 1 + (mode == TurboMode::PolarWithQjl) as u8);
-        let rust = rust_setup(mode, dim, bits, projections, &signs, &matrix);
-        let halves = rust.as_ref().and_then(|rust| thin::halves(rust.as_ref().ok()?));
-        let directions = Rc::new(thin::directions(1));
-        let own_table = true;
-        Rc::new(Setup {
+        Setup {
             mode,
-            dim,
-            bits,
+            dim: 2,
+            bits: 1 + (mode == TurboMode::PolarWithQjl) as u8,
             projections,
             signs,
-            directions,
+            directions: Rc::new(thin::directions(1)),
             matrix,
-            own_table,
-            rust,
-            halves,
-        })
+            own_table: true,
+            rust: None,
+            halves: None,
+        }
+        .with_rust()
+    }
+
+    /// The setup with the Rust's quantizer of the same parts.
+    pub fn with_rust(mut self) -> Rc<Setup> {
+        // In `PolarOnly` the Rust keeps the count and never looks at it.
+        let asked = match self.mode {
+            TurboMode::PolarOnly => self.projections.min(64),
+            TurboMode::PolarWithQjl => self.projections,
+        };
+        let (signs, matrix) = (&self.signs, &self.matrix);
+        self.rust = rust_setup(self.mode, self.dim, self.bits, asked, signs, matrix);
+        if let Some(Ok(turbo)) = &self.rust {
+            self.halves = thin::halves(turbo);
+        }
+        Rc::new(self)
     }
 
     /// Bits of an angle: the total, less 1 in residual mode.
@@ -608,7 +619,7 @@ impl fmt::Display for Answer {
 }
 
 /// The Rust's quantizer for these parts. None where the Rust can't have them.
-pub fn rust_setup(
+fn rust_setup(
     mode: TurboMode,
     dim: usize,
     bits: u8,

@@ -5,7 +5,7 @@ use std::rc::Rc;
 use oracle::thin;
 
 use crate::{
-    case::{rust_setup, Case, Mode, Profile, Setup},
+    case::{Case, Mode, Profile, Setup},
     make::{Maker, Size},
     plain,
     record::{self, Parts},
@@ -99,7 +99,7 @@ impl Maker {
             self.damage(&mut signs, &mut directions, &mut matrix);
             own_table = own_table && Rc::ptr_eq(&before, &directions);
         }
-        with_rust(Setup {
+        Setup {
             mode,
             dim,
             bits,
@@ -110,7 +110,8 @@ impl Maker {
             own_table,
             rust: None,
             halves: None,
-        })
+        }
+        .with_rust()
     }
 
     /// The largest setup, 4,096 × 4,096 at 16 bits, in every call that takes one; records
@@ -270,7 +271,7 @@ impl Maker {
     fn steeper(&mut self, setup: &Setup) -> Rc<Setup> {
         let projections = self.rng.pick(&[1, 1, 1, 2]);
         let count = projections * setup.dim;
-        with_rust(Setup {
+        Setup {
             projections,
             signs: setup.signs.clone(),
             directions: setup.directions.clone(),
@@ -278,7 +279,8 @@ impl Maker {
             rust: None,
             halves: None,
             ..*setup
-        })
+        }
+        .with_rust()
     }
 
     /// A record of the setup whose radii lie below one power of two, or are zero, with its
@@ -504,19 +506,6 @@ impl Maker {
             out,
         }
     }
-}
-
-/// The setup with the Rust's quantizer of the same parts.
-fn with_rust(mut setup: Setup) -> Rc<Setup> {
-    let Setup { mode, dim, bits, projections, .. } = setup;
-    let residual = mode == Mode::PolarWithQjl;
-    // In `PolarOnly` the Rust keeps the count and never looks at it.
-    let asked = if residual { projections } else { projections.min(64) };
-    setup.rust = rust_setup(mode, dim, bits, asked, &setup.signs, &setup.matrix);
-    if let Some(Ok(turbo)) = &setup.rust {
-        setup.halves = thin::halves(turbo);
-    }
-    Rc::new(setup)
 }
 
 /// The exponent of a normal float.
