@@ -21,6 +21,8 @@ use Rattle.qjl_residual.specs.Exact.{exactResidual, residualSize, wholeNorm}
 use Rattle.qjl_residual.specs.Residual.{root, scaleOf, signSumOf, residualOf}
 use Rattle.rotation.specs.Exact.{exactRotated}
 use Rattle.rotation.specs.Rotation.{inverseRoot, scaled, hadamardOf, rotated, unrotated}
+use Rattle.rotation_stored.specs.Exact.{exactStored, storedSizes}
+use Rattle.rotation_stored.specs.Stored.{rowOf, storedRotated, storedUnrotated}
 use Rattle.rounding.specs.Butterfly.{from, entry, stage, stages}
 use Rattle.rounding.specs.Rows.{projected, exactProjected, projectedSizes}
 use Rattle.rounding.specs.Sums.{running, products, exactTotal, exactProducts, turnedEach, sum, absoluteSum, weighted}
@@ -35,7 +37,7 @@ use Rattle.turbo_order.specs.Scores.{scoreFrom, exactBy, sizeBy, perUnit, perSt
 use Rattle.anchors.specs.Anchors.{Anchors}
 
 pub anchors : Anchors
-unfolding ne ones onesIn trailingZeros ofBits add sub mul div lt le ofInt badPadding number digits place badValue ofLeBytes pi rootBits nearestRoot dropped rootPattern squareRoot unit mag chunks boundsOf projectionsOf normOf radiiBytes indicesBytes signsBytes radiiOf indicesOf signsOf exactTerm exactPolar sizeTerm polarSize directionTerm directionSum term polarSumOf laid decodedPairs exactResidual residualSize wholeNorm root scaleOf signSumOf residualOf exactRotated inverseRoot scaled hadamardOf rotated unrotated from entry stage stages projected exactProjected projectedSizes running products exactTotal exactProducts turnedEach sum absoluteSum weighted val badDirection isNan distanceSum cutAtZero distanceBySum l2DistanceEstimateOf formerDistanceOf innerProductEstimateOf innerProductEstimatePreparedOf decodeApproximateOf scoreFrom exactBy sizeBy perUnit perStep perRadius boundBy scoreOf
+unfolding ne ones onesIn trailingZeros ofBits add sub mul div lt le ofInt badPadding number digits place badValue ofLeBytes pi rootBits nearestRoot dropped rootPattern squareRoot unit mag chunks boundsOf projectionsOf normOf radiiBytes indicesBytes signsBytes radiiOf indicesOf signsOf exactTerm exactPolar sizeTerm polarSize directionTerm directionSum term polarSumOf laid decodedPairs exactResidual residualSize wholeNorm root scaleOf signSumOf residualOf exactRotated rowOf storedRotated storedUnrotated exactStored storedSizes inverseRoot scaled hadamardOf rotated unrotated from entry stage stages projected exactProjected projectedSizes running products exactTotal exactProducts turnedEach sum absoluteSum weighted val badDirection isNan distanceSum cutAtZero distanceBySum l2DistanceEstimateOf formerDistanceOf innerProductEstimateOf innerProductEstimatePreparedOf decodeApproximateOf scoreFrom exactBy sizeBy perUnit perStep perRadius boundBy scoreOf
 anchors = record {
   p12-score = refl;
   p12-exact = record { even = refl };
@@ -56,6 +58,18 @@ anchors = record {
   tiny-exact = record { even = refl };
   tiny-bound = refl;
   tiny-outside = refl;
+  stored-score = refl;
+  stored-exact = record { even = refl };
+  stored-bound = refl;
+  stored-distance = refl;
+  stored-decoded = refl;
+  stored-entry = refl;
+  stored-eight = refl;
+  stored-large = refl;
+  faint-score = refl;
+  faint-exact = record { even = refl };
+  faint-bound = refl;
+  faint-outside = refl;
   huge-score = refl;
   huge-sum = refl;
   huge-distance = refl;

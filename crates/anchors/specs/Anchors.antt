@@ -1,15 +1,16 @@
 -- Score, exact score, bound, distance and decoding of document 01's records P12 and P13 stand here as numbers, and beside them each exact form and each size that a
--- bound is made of; then records with a norm, distances near the top of f32, and withdrawn positions. A definition that stands on the generous side of an
--- inequality could grow without any proof failing: these lines pin it. Assumes nothing.
+-- bound is made of; then records with a norm, stored rotations, distances near the top of f32, and withdrawn positions. A definition that stands on the generous side
+-- of an inequality could grow without any proof failing: these lines pin it. Assumes nothing.
 use Prim.Native.Nat.{ℕ, _+_, _-_, _*_, _^_}
 use mathlib.Core.Path.{_≡_}
 use mathlib.Core.Bool.{true, false}
-use mathlib.Core.List.{List, [], _∷_}
+use mathlib.Core.List.{List, [], _∷_, _++_}
 use lib.Dec.{ltb}
 use lib.IntN.{pos, negsuc}
+use lib.ListN.{replicate}
 use lib.Ieee.{Float, nan, inf, fin, binary32, ofBits}
-use Rattle.error.specs.Answer.{value, refused, withdrawn}
-use Rattle.float.specs.Constants.{posZero, one}
+use Rattle.error.specs.Answer.{value, refused, withdrawn, first, accepted}
+use Rattle.float.specs.Constants.{posZero, one, two}
 use Rattle.rounding.specs.Signed.{Diff, Near, Same, Under, signed}
 use Rattle.rounding.specs.Sums.{exactTotal, absoluteSum}
 use Rattle.rounding.specs.Rows.{exactProjected, projectedSizes}
@@ -17,8 +18,10 @@ use Rattle.rotation.specs.Exact.{exactRotated}
 use Rattle.polar.specs.Exact.{exactPolar, polarSize, directionSum}
 use Rattle.setup.specs.declared.Setup.{Setup}
 use Rattle.setup.specs.declared.TurboMode.the-variants.{PolarOnly, PolarWithQjl}
+use Rattle.setup.specs.declared.RotationKind.the-variants.{FastHadamard, Stored}
 use Rattle.setup.specs.Lent.{Lent, lent}
 use Rattle.setup.specs.Setups.{countedProjectionsOf}
+use Rattle.setup_tables.specs.Checks.{setupChecks}
 use Rattle.qjl_residual.specs.Exact.{exactResidual, residualSize}
 use Rattle.qjl_residual.specs.Residual.{scaleOf}
 use Rattle.turbo_order.specs.Scores.{perUnit, perStep, perRadius, accountOf}
@@ -31,11 +34,11 @@ use Rattle.table.specs.Table.{withoutSigns, withSigns}
 
 -- This setup has n 2 and 1 bit, without residual.
 abbrev pub plainSetup : Setup
-plainSetup = record { mode = PolarOnly; dim = 2; bits = 1; projections = 0 }
+plainSetup = record { mode = PolarOnly; dim = 2; bits = 1; projections = 0; rotation = FastHadamard }
 
 -- This setup has a residual: 2 bits in all, of which 1 is polar, and three projections.
 abbrev pub residualSetup : Setup
-residualSetup = record { mode = PolarWithQjl; dim = 2; bits = 2; projections = 3 }
+residualSetup = record { mode = PolarWithQjl; dim = 2; bits = 2; projections = 3; rotation = FastHadamard }
 
 -- The signs are + and +, the directions (−1, 0) and (1, 0).
 abbrev pub signsLent : List Float
@@ -87,7 +90,7 @@ diagonalLent = lent signsLent (one true ∷ posZero ∷ one false ∷ one false 
 
 -- This setup has a residual of one row, (2^100, 0); the query is (7 × 2^25, 0), and the record is P12 with one sign, +.
 abbrev pub rowSetup : Setup
-rowSetup = record { mode = PolarWithQjl; dim = 2; bits = 2; projections = 1 }
+rowSetup = record { mode = PolarWithQjl; dim = 2; bits = 2; projections = 1; rotation = FastHadamard }
 
 abbrev pub rowLent : Lent
 rowLent = lent signsLent directionsLent (fin false 1 (pos 100) ∷ posZero ∷ [])
@@ -114,6 +117,30 @@ tinyQuery = fin false 1 (negsuc 74) ∷ posZero ∷ []
 
 abbrev pub tinyLent : Lent
 tinyLent = lent signsLent directionsLent tinyQuery
+
+-- This setup has a stored rotation. Its matrix is lent column by column, (1, 2) and (3, 4), so that its rows are (1, 3) and (2, 4).
+abbrev pub storedSetup : Setup
+storedSetup = record { mode = PolarOnly; dim = 2; bits = 1; projections = 0; rotation = Stored }
+
+abbrev pub storedLent : Lent
+storedLent = lent (one false ∷ two ∷ fin false 3 (pos 0) ∷ fin false 1 (pos 2) ∷ []) directionsLent []
+
+-- This one has ten dimensions. Every entry of its matrix and of the query is 2^−75, and the direction of index 1 is (1, 1). The record has the radius 2^20 and four
+-- radii of 0.
+abbrev pub faintSetup : Setup
+faintSetup = record { mode = PolarOnly; dim = 10; bits = 1; projections = 0; rotation = Stored }
+
+abbrev pub faint : Float
+faint = fin false 1 (negsuc 74)
+
+abbrev pub faintLent : Lent
+faintLent = lent (replicate 100 faint) (one true ∷ posZero ∷ one false ∷ one false ∷ []) []
+
+abbrev pub faintQuery : List Float
+faintQuery = replicate 10 faint
+
+abbrev pub faintRecord : List ℕ
+faintRecord = 0x00 ∷ 0x0A ∷ 0x00 ∷ 0x00 ∷ 0x00 ∷ 0x01 ∷ 0x00 ∷ 0x00 ∷ 0x80 ∷ 0x49 ∷ replicate 16 0 ++ (0x1F ∷ [])
 
 -- This is n as a whole number with a sign.
 abbrev pub whole : ℕ → Diff
@@ -146,6 +173,24 @@ pub record Anchors : Type 0 where
   pub tiny-exact : Same (exactOf rowSetup tinyLent tinyQuery tiny) (whole (10513561 * 2 ^ 466))
   pub tiny-bound : boundFor rowSetup tinyLent tinyQuery tiny ≡ 19 * 10513561 * 2 ^ 443 + (2 * 2 ^ 20 + 2) * 2 ^ 473
   pub tiny-outside : ltb (19 * 10513561 * 2 ^ 443 + (2 + 2) * 2 ^ 473) (10513561 * 2 ^ 466) ≡ true
+  -- ---- a stored rotation: the query (1, −2) rotated is (−5, −6), and of its first entry the sum of |matrix entry × query entry| is 7
+  pub stored-score : innerProductEstimateOf storedSetup storedLent steep withoutSigns ≡ value (fin true 5 (pos 0))
+  pub stored-exact : Same (exactOf storedSetup storedLent steep withoutSigns) (signed true (5 * 2 ^ 619))
+  -- 2n + m + 16 is 20, and R is multiplied by 2
+  pub stored-bound : boundFor storedSetup storedLent steep withoutSigns ≡ 20 * 7 * 2 ^ 596 + 2 * 2 ^ 473 + 2 * 2 ^ 473
+  -- 5 + 1 − 2 × −5
+  pub stored-distance : l2DistanceEstimateOf storedSetup storedLent steep withoutSigns ≡ value (fin false 1 (pos 4))
+  -- (1, 0) times the columns
+  pub stored-decoded : decodeApproximateOf storedSetup storedLent withoutSigns 2 ≡ value (one false ∷ fin false 3 (pos 0) ∷ [])
+  -- Of the matrix (1, 2, NaN, 4) the third entry that is lent is named: by rows it would be the second. 8 comes before 26, and 26 before 5.
+  pub stored-entry : first (setupChecks storedSetup (lent (one false ∷ two ∷ nan ∷ fin false 1 (pos 2) ∷ []) directionsLent [])) accepted ≡ refused 9 2
+  pub stored-eight : first (setupChecks (record { mode = PolarWithQjl; dim = 514; bits = 2; projections = 0; rotation = Stored }) storedLent) accepted ≡ refused 8 0
+  pub stored-large : first (setupChecks (record { mode = PolarOnly; dim = 514; bits = 1; projections = 0; rotation = Stored }) storedLent) accepted ≡ refused 26 0
+  -- Each product 2^−150 is rounded to 0, ten for either entry. With R not multiplied by 10 in the bound the exact score would lie outside it.
+  pub faint-score : innerProductEstimateOf faintSetup faintLent faintQuery faintRecord ≡ value posZero
+  pub faint-exact : Same (exactOf faintSetup faintLent faintQuery faintRecord) (whole (20 * 2 ^ 489))
+  pub faint-bound : boundFor faintSetup faintLent faintQuery faintRecord ≡ 36 * 20 * 2 ^ 466 + 10 * 2 ^ 493 + 10 * 2 ^ 473
+  pub faint-outside : ltb (36 * 20 * 2 ^ 466 + 2 ^ 493 + 10 * 2 ^ 473) (20 * 2 ^ 489) ≡ true
   -- ---- near the top of f32: the score of the huge record is 11863283 × 2^104, and both norms and twice the score are plus infinity, so the sum is NaN
   pub huge-score : innerProductEstimateOf plainSetup plainLent hugeQuery huge ≡ value (ofBits binary32 0x7F35_04F3)
   pub huge-sum : recordSum plainSetup plainLent hugeQuery huge ≡ nan
@@ -187,7 +232,7 @@ pub record Anchors : Type 0 where
   pub per-step : perStep ≡ 2 ^ (619 - 146)
   pub per-radius : perRadius ≡ 2 ^ (619 - 149 - 146)
   -- ---- 'In `PolarOnly` m counts as 0'
-  pub counted-without : countedProjectionsOf (record { mode = PolarOnly; dim = 2; bits = 1; projections = 3 }) ≡ 0
+  pub counted-without : countedProjectionsOf (record { mode = PolarOnly; dim = 2; bits = 1; projections = 3; rotation = FastHadamard }) ≡ 0
   pub counted-with : countedProjectionsOf residualSetup ≡ 3
   -- ---- what they are made of, each at its own scale
   pub rotated-exact : exactRotated 2 signsLent queryLent ≡ whole (11863283 * 2 ^ 274) ∷ whole (11863283 * 2 ^ 274) ∷ []

@@ -10,6 +10,8 @@ use Rattle.packed.specs.declared.SourceNorm.the-variants.{Absent, Given}
 use Rattle.radius.specs.declared.Range.{Range}
 use Rattle.radius.specs.declared.RadiusCodecProfileV1.{RadiusCodecProfileV1}
 use Rattle.radius.specs.declared.RadiusCodecProfileV1.the-variants.{F32, BlockLinearU16, BlockLogU8}
+use Rattle.setup.specs.declared.RotationKind.{RotationKind}
+use Rattle.setup.specs.declared.RotationKind.the-variants.{FastHadamard, Stored}
 use Rattle.setup.specs.declared.Setup.{Setup}
 use Rattle.setup.specs.declared.TurboMode.{TurboMode}
 use Rattle.setup.specs.declared.TurboMode.the-variants.{PolarOnly, PolarWithQjl}
@@ -22,9 +24,13 @@ modeFrom code = cond (eqb code 0) PolarOnly PolarWithQjl
 unfoldable pub profileFrom : ℕ → RadiusCodecProfileV1
 profileFrom code = cond (eqb code 0) F32 (cond (eqb code 1) BlockLinearU16 BlockLogU8)
 
--- These are the scalars of a setup, with a number for its mode.
-abbrev pub setupFrom : ℕ → ℕ → ℕ → ℕ → Setup
-setupFrom mode dim bits projections = record { mode = modeFrom mode; dim = dim; bits = bits; projections = projections }
+-- The number 0 is `FastHadamard`, and every other number is `Stored`.
+unfoldable pub rotationFrom : ℕ → RotationKind
+rotationFrom code = cond (eqb code 0) FastHadamard Stored
+
+-- These are the scalars of a setup, with numbers for its mode and for which rotation it has.
+abbrev pub setupFrom : ℕ → ℕ → ℕ → ℕ → ℕ → Setup
+setupFrom mode dim bits projections kind = record { mode = modeFrom mode; dim = dim; bits = bits; projections = projections; rotation = rotationFrom kind }
 
 -- The number 0 is `Absent`, and every other number is `Given` with the norm beside it.
 unfoldable pub normFrom : ℕ → Float → SourceNorm

@@ -2,10 +2,11 @@
 use packed::Code;
 use packed::SourceNorm;
 use radius::RadiusCodecProfileV1;
+use setup::RotationKind;
 use setup::Setup;
 use setup::TurboMode;
 ghost use mathlib.Core.Path.{_≡_};
-ghost use Rattle.capi.specs.Codes.{modeFrom, profileFrom, setupFrom, normFrom, codeFrom, modeNumber, profileNumber, normNumber};
+ghost use Rattle.capi.specs.Codes.{modeFrom, profileFrom, rotationFrom, setupFrom, normFrom, codeFrom, modeNumber, profileNumber, normNumber};
 
 // The mode of a number: 0 is `PolarOnly`, every other one `PolarWithQjl`.
 pub fn mode(code: u8) -> TurboMode
@@ -30,16 +31,28 @@ pub fn profile(code: u8) -> RadiusCodecProfileV1
     RadiusCodecProfileV1::BlockLogU8
 }
 
+// The rotation of a number: 0 is `FastHadamard`, every other one `Stored`.
+pub fn rotation_kind(code: u8) -> RotationKind
+    ensures { λ r. ⌜ r ≡ rotationFrom code ⌝ }
+{
+    if code == 0 {
+        return RotationKind::FastHadamard;
+    }
+    RotationKind::Stored
+}
+
 // The scalars of a setup.
-pub fn setup(code: u8, dim: usize, bits: u8, projections: usize) -> Setup
-    ensures { λ r. ⌜ r ≡ setupFrom code dim bits projections ⌝ }
+pub fn setup(code: u8, dim: usize, bits: u8, projections: usize, kind: u8) -> Setup
+    ensures { λ r. ⌜ r ≡ setupFrom code dim bits projections kind ⌝ }
 {
     let chosen = mode(code);
+    let turned = rotation_kind(kind);
     Setup {
         mode: chosen,
         dim,
         bits,
         projections,
+        rotation: turned,
     }
 }
 

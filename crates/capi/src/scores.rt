@@ -1,5 +1,5 @@
 // Scores of a record by a query or by a prepared one, the distance, and the decoding. A setup's scalars are passed one by one; a mode is a number: 0 is
-// PolarOnly, every other one PolarWithQjl.
+// PolarOnly, every other one PolarWithQjl; and so is which rotation it has, its kind: 0 is FastHadamard, every other one Stored.
 use crate::answers::tell;
 use crate::answers::tell_filled;
 use crate::answers::tell_score;
@@ -22,7 +22,8 @@ pub extern "C" fn foldrima_prepare_query(
     dim: usize,
     bits: u8,
     projections: usize,
-    signs: &[f32],
+    kind: u8,
+    rotation: &[f32],
     directions: &[f32],
     matrix: &[f32],
     query: &[f32],
@@ -31,15 +32,15 @@ pub extern "C" fn foldrima_prepare_query(
     number: &mut u32,
     place: &mut usize,
 )
-    ensures answer { λ _. ⌜ said (now (number .exit)) (now (place .exit)) ≡ told (done (prepareRotatedOf (setupFrom mode dim bits projections) (lent (now (signs .entry)) (now (directions .entry)) (now (matrix .entry))) (now (query .entry)) (length (now (rotated .entry))) (length (now (projected .entry))))) ⌝ }
-    ensures rotated { λ _. ⌜ now (rotated .exit) ≡ after (prepareRotatedOf (setupFrom mode dim bits projections) (lent (now (signs .entry)) (now (directions .entry)) (now (matrix .entry))) (now (query .entry)) (length (now (rotated .entry))) (length (now (projected .entry)))) (now (rotated .entry)) ⌝ }
-    ensures projected { λ _. ⌜ now (projected .exit) ≡ after (prepareProjectedOf (setupFrom mode dim bits projections) (lent (now (signs .entry)) (now (directions .entry)) (now (matrix .entry))) (now (query .entry)) (length (now (rotated .entry))) (length (now (projected .entry)))) (now (projected .entry)) ⌝ }
+    ensures answer { λ _. ⌜ said (now (number .exit)) (now (place .exit)) ≡ told (done (prepareRotatedOf (setupFrom mode dim bits projections kind) (lent (now (rotation .entry)) (now (directions .entry)) (now (matrix .entry))) (now (query .entry)) (length (now (rotated .entry))) (length (now (projected .entry))))) ⌝ }
+    ensures rotated { λ _. ⌜ now (rotated .exit) ≡ after (prepareRotatedOf (setupFrom mode dim bits projections kind) (lent (now (rotation .entry)) (now (directions .entry)) (now (matrix .entry))) (now (query .entry)) (length (now (rotated .entry))) (length (now (projected .entry)))) (now (rotated .entry)) ⌝ }
+    ensures projected { λ _. ⌜ now (projected .exit) ≡ after (prepareProjectedOf (setupFrom mode dim bits projections kind) (lent (now (rotation .entry)) (now (directions .entry)) (now (matrix .entry))) (now (query .entry)) (length (now (rotated .entry))) (length (now (projected .entry)))) (now (projected .entry)) ⌝ }
 {
-    let scalars = codes::setup(mode, dim, bits, projections);
+    let scalars = codes::setup(mode, dim, bits, projections, kind);
     tell(
         turbo_query::prepare_query(
             scalars,
-            signs,
+            rotation,
             directions,
             matrix,
             query,
@@ -58,7 +59,8 @@ pub extern "C" fn foldrima_inner_product_estimate(
     dim: usize,
     bits: u8,
     projections: usize,
-    signs: &[f32],
+    kind: u8,
+    rotation: &[f32],
     directions: &[f32],
     matrix: &[f32],
     query: &[f32],
@@ -67,12 +69,12 @@ pub extern "C" fn foldrima_inner_product_estimate(
     place: &mut usize,
     value: &mut f32,
 )
-    ensures answer { λ _. ⌜ said (now (number .exit)) (now (place .exit)) ≡ told (innerProductEstimateOf (setupFrom mode dim bits projections) (lent (now (signs .entry)) (now (directions .entry)) (now (matrix .entry))) (now (query .entry)) (now (bytes .entry))) ⌝ }
-    ensures left { λ _. ⌜ now (value .exit) ≡ after (innerProductEstimateOf (setupFrom mode dim bits projections) (lent (now (signs .entry)) (now (directions .entry)) (now (matrix .entry))) (now (query .entry)) (now (bytes .entry))) (now (value .entry)) ⌝ }
+    ensures answer { λ _. ⌜ said (now (number .exit)) (now (place .exit)) ≡ told (innerProductEstimateOf (setupFrom mode dim bits projections kind) (lent (now (rotation .entry)) (now (directions .entry)) (now (matrix .entry))) (now (query .entry)) (now (bytes .entry))) ⌝ }
+    ensures left { λ _. ⌜ now (value .exit) ≡ after (innerProductEstimateOf (setupFrom mode dim bits projections kind) (lent (now (rotation .entry)) (now (directions .entry)) (now (matrix .entry))) (now (query .entry)) (now (bytes .entry))) (now (value .entry)) ⌝ }
 {
-    let scalars = codes::setup(mode, dim, bits, projections);
+    let scalars = codes::setup(mode, dim, bits, projections, kind);
     tell_score(
-        turbo::inner_product_estimate(scalars, signs, directions, matrix, query, bytes),
+        turbo::inner_product_estimate(scalars, rotation, directions, matrix, query, bytes),
         number,
         place,
         value,
@@ -86,7 +88,8 @@ pub extern "C" fn foldrima_l2_distance_estimate(
     dim: usize,
     bits: u8,
     projections: usize,
-    signs: &[f32],
+    kind: u8,
+    rotation: &[f32],
     directions: &[f32],
     matrix: &[f32],
     query: &[f32],
@@ -95,12 +98,12 @@ pub extern "C" fn foldrima_l2_distance_estimate(
     place: &mut usize,
     value: &mut f32,
 )
-    ensures answer { λ _. ⌜ said (now (number .exit)) (now (place .exit)) ≡ told (l2DistanceEstimateOf (setupFrom mode dim bits projections) (lent (now (signs .entry)) (now (directions .entry)) (now (matrix .entry))) (now (query .entry)) (now (bytes .entry))) ⌝ }
-    ensures left { λ _. ⌜ now (value .exit) ≡ after (l2DistanceEstimateOf (setupFrom mode dim bits projections) (lent (now (signs .entry)) (now (directions .entry)) (now (matrix .entry))) (now (query .entry)) (now (bytes .entry))) (now (value .entry)) ⌝ }
+    ensures answer { λ _. ⌜ said (now (number .exit)) (now (place .exit)) ≡ told (l2DistanceEstimateOf (setupFrom mode dim bits projections kind) (lent (now (rotation .entry)) (now (directions .entry)) (now (matrix .entry))) (now (query .entry)) (now (bytes .entry))) ⌝ }
+    ensures left { λ _. ⌜ now (value .exit) ≡ after (l2DistanceEstimateOf (setupFrom mode dim bits projections kind) (lent (now (rotation .entry)) (now (directions .entry)) (now (matrix .entry))) (now (query .entry)) (now (bytes .entry))) (now (value .entry)) ⌝ }
 {
-    let scalars = codes::setup(mode, dim, bits, projections);
+    let scalars = codes::setup(mode, dim, bits, projections, kind);
     tell_score(
-        turbo::l2_distance_estimate(scalars, signs, directions, matrix, query, bytes),
+        turbo::l2_distance_estimate(scalars, rotation, directions, matrix, query, bytes),
         number,
         place,
         value,
@@ -114,6 +117,7 @@ pub extern "C" fn foldrima_inner_product_estimate_prepared(
     dim: usize,
     bits: u8,
     projections: usize,
+    kind: u8,
     directions: &[f32],
     rotated: &[f32],
     projected: &[f32],
@@ -122,10 +126,10 @@ pub extern "C" fn foldrima_inner_product_estimate_prepared(
     place: &mut usize,
     value: &mut f32,
 )
-    ensures answer { λ _. ⌜ said (now (number .exit)) (now (place .exit)) ≡ told (innerProductEstimatePreparedOf (setupFrom mode dim bits projections) (now (directions .entry)) (now (rotated .entry)) (now (projected .entry)) (now (bytes .entry))) ⌝ }
-    ensures left { λ _. ⌜ now (value .exit) ≡ after (innerProductEstimatePreparedOf (setupFrom mode dim bits projections) (now (directions .entry)) (now (rotated .entry)) (now (projected .entry)) (now (bytes .entry))) (now (value .entry)) ⌝ }
+    ensures answer { λ _. ⌜ said (now (number .exit)) (now (place .exit)) ≡ told (innerProductEstimatePreparedOf (setupFrom mode dim bits projections kind) (now (directions .entry)) (now (rotated .entry)) (now (projected .entry)) (now (bytes .entry))) ⌝ }
+    ensures left { λ _. ⌜ now (value .exit) ≡ after (innerProductEstimatePreparedOf (setupFrom mode dim bits projections kind) (now (directions .entry)) (now (rotated .entry)) (now (projected .entry)) (now (bytes .entry))) (now (value .entry)) ⌝ }
 {
-    let scalars = codes::setup(mode, dim, bits, projections);
+    let scalars = codes::setup(mode, dim, bits, projections, kind);
     tell_score(
         turbo::inner_product_estimate_prepared(scalars, directions, rotated, projected, bytes),
         number,
@@ -141,7 +145,8 @@ pub extern "C" fn foldrima_decode_approximate(
     dim: usize,
     bits: u8,
     projections: usize,
-    signs: &[f32],
+    kind: u8,
+    rotation: &[f32],
     directions: &[f32],
     matrix: &[f32],
     bytes: &[u8],
@@ -149,12 +154,12 @@ pub extern "C" fn foldrima_decode_approximate(
     number: &mut u32,
     place: &mut usize,
 )
-    ensures answer { λ _. ⌜ said (now (number .exit)) (now (place .exit)) ≡ told (done (decodeApproximateOf (setupFrom mode dim bits projections) (lent (now (signs .entry)) (now (directions .entry)) (now (matrix .entry))) (now (bytes .entry)) (length (now (out .entry))))) ⌝ }
-    ensures left { λ _. ⌜ now (out .exit) ≡ after (decodeApproximateOf (setupFrom mode dim bits projections) (lent (now (signs .entry)) (now (directions .entry)) (now (matrix .entry))) (now (bytes .entry)) (length (now (out .entry)))) (now (out .entry)) ⌝ }
+    ensures answer { λ _. ⌜ said (now (number .exit)) (now (place .exit)) ≡ told (done (decodeApproximateOf (setupFrom mode dim bits projections kind) (lent (now (rotation .entry)) (now (directions .entry)) (now (matrix .entry))) (now (bytes .entry)) (length (now (out .entry))))) ⌝ }
+    ensures left { λ _. ⌜ now (out .exit) ≡ after (decodeApproximateOf (setupFrom mode dim bits projections kind) (lent (now (rotation .entry)) (now (directions .entry)) (now (matrix .entry))) (now (bytes .entry)) (length (now (out .entry)))) (now (out .entry)) ⌝ }
 {
-    let scalars = codes::setup(mode, dim, bits, projections);
+    let scalars = codes::setup(mode, dim, bits, projections, kind);
     tell_filled(
-        turbo_decode::decode_approximate(scalars, signs, directions, matrix, bytes, out),
+        turbo_decode::decode_approximate(scalars, rotation, directions, matrix, bytes, out),
         number,
         place,
     );

@@ -1,5 +1,5 @@
-// The rotation, the check of a setup, and the sketch with its score. A setup's scalars are passed one by one; a mode is a number: 0 is PolarOnly, every
-// other one PolarWithQjl.
+// The rotations, the check of a setup, and the sketch with its score. A setup's scalars are passed one by one; a mode is a number: 0 is PolarOnly, every
+// other one PolarWithQjl; and so is which rotation it has, its kind: 0 is FastHadamard, every other one Stored.
 use crate::answers::tell;
 use crate::answers::tell_score;
 use crate::codes;
@@ -7,6 +7,7 @@ ghost use mathlib.Core.Path.{_≡_};
 ghost use lib.ListN.{length};
 ghost use Rattle.error.specs.Answer.{first, accepted, done, after};
 ghost use Rattle.rotation.specs.Rotation.{applyOf, applyInverseOf};
+ghost use Rattle.rotation_stored.specs.Stored.{storedApplyOf, storedApplyInverseOf};
 ghost use Rattle.setup.specs.Lent.{lent};
 ghost use Rattle.setup_tables.specs.Checks.{setupChecks};
 ghost use Rattle.qjl.specs.Sketch.{sketchOf};
@@ -14,7 +15,7 @@ ghost use Rattle.qjl.specs.Score.{sketchScoreOf};
 ghost use Rattle.capi.specs.Told.{said, told};
 ghost use Rattle.capi.specs.Codes.{setupFrom};
 
-// The rotation of the input into the output.
+// The Hadamard rotation of the input into the output.
 #[no_mangle]
 pub extern "C" fn foldrima_apply(
     dim: usize,
@@ -30,7 +31,7 @@ pub extern "C" fn foldrima_apply(
     tell(rotation::apply(dim, signs, input, output), number, place);
 }
 
-// The inverse rotation of the input into the output.
+// The inverse Hadamard rotation of the input into the output.
 #[no_mangle]
 pub extern "C" fn foldrima_apply_inverse(
     dim: usize,
@@ -50,6 +51,46 @@ pub extern "C" fn foldrima_apply_inverse(
     );
 }
 
+// The rotation of the input into the output by a matrix that is lent column by column.
+#[no_mangle]
+pub extern "C" fn foldrima_stored_apply(
+    dim: usize,
+    matrix: &[f32],
+    input: &[f32],
+    output: &mut [f32],
+    number: &mut u32,
+    place: &mut usize,
+)
+    ensures answer { λ _. ⌜ said (now (number .exit)) (now (place .exit)) ≡ told (done (storedApplyOf dim (now (matrix .entry)) (now (input .entry)) (length (now (output .entry))))) ⌝ }
+    ensures left { λ _. ⌜ now (output .exit) ≡ after (storedApplyOf dim (now (matrix .entry)) (now (input .entry)) (length (now (output .entry)))) (now (output .entry)) ⌝ }
+{
+    tell(
+        rotation_stored::apply(dim, matrix, input, output),
+        number,
+        place,
+    );
+}
+
+// The inverse rotation of the input into the output by a matrix that is lent column by column.
+#[no_mangle]
+pub extern "C" fn foldrima_stored_apply_inverse(
+    dim: usize,
+    matrix: &[f32],
+    input: &[f32],
+    output: &mut [f32],
+    number: &mut u32,
+    place: &mut usize,
+)
+    ensures answer { λ _. ⌜ said (now (number .exit)) (now (place .exit)) ≡ told (done (storedApplyInverseOf dim (now (matrix .entry)) (now (input .entry)) (length (now (output .entry))))) ⌝ }
+    ensures left { λ _. ⌜ now (output .exit) ≡ after (storedApplyInverseOf dim (now (matrix .entry)) (now (input .entry)) (length (now (output .entry)))) (now (output .entry)) ⌝ }
+{
+    tell(
+        rotation_stored::apply_inverse(dim, matrix, input, output),
+        number,
+        place,
+    );
+}
+
 // The checks of a setup.
 #[no_mangle]
 pub extern "C" fn foldrima_check_setup(
@@ -57,17 +98,18 @@ pub extern "C" fn foldrima_check_setup(
     dim: usize,
     bits: u8,
     projections: usize,
-    signs: &[f32],
+    kind: u8,
+    rotation: &[f32],
     directions: &[f32],
     matrix: &[f32],
     number: &mut u32,
     place: &mut usize,
 )
-    ensures { λ _. ⌜ said (now (number .exit)) (now (place .exit)) ≡ told (first (setupChecks (setupFrom mode dim bits projections) (lent (now (signs .entry)) (now (directions .entry)) (now (matrix .entry)))) accepted) ⌝ }
+    ensures { λ _. ⌜ said (now (number .exit)) (now (place .exit)) ≡ told (first (setupChecks (setupFrom mode dim bits projections kind) (lent (now (rotation .entry)) (now (directions .entry)) (now (matrix .entry)))) accepted) ⌝ }
 {
-    let scalars = codes::setup(mode, dim, bits, projections);
+    let scalars = codes::setup(mode, dim, bits, projections, kind);
     tell(
-        setup_tables::check_setup(scalars, signs, directions, matrix),
+        setup_tables::check_setup(scalars, rotation, directions, matrix),
         number,
         place,
     );
@@ -80,7 +122,8 @@ pub extern "C" fn foldrima_sketch(
     dim: usize,
     bits: u8,
     projections: usize,
-    signs: &[f32],
+    kind: u8,
+    rotation: &[f32],
     directions: &[f32],
     matrix: &[f32],
     vector: &[f32],
@@ -88,12 +131,12 @@ pub extern "C" fn foldrima_sketch(
     number: &mut u32,
     place: &mut usize,
 )
-    ensures answer { λ _. ⌜ said (now (number .exit)) (now (place .exit)) ≡ told (done (sketchOf (setupFrom mode dim bits projections) (lent (now (signs .entry)) (now (directions .entry)) (now (matrix .entry))) (now (vector .entry)) (length (now (out .entry))))) ⌝ }
-    ensures left { λ _. ⌜ now (out .exit) ≡ after (sketchOf (setupFrom mode dim bits projections) (lent (now (signs .entry)) (now (directions .entry)) (now (matrix .entry))) (now (vector .entry)) (length (now (out .entry)))) (now (out .entry)) ⌝ }
+    ensures answer { λ _. ⌜ said (now (number .exit)) (now (place .exit)) ≡ told (done (sketchOf (setupFrom mode dim bits projections kind) (lent (now (rotation .entry)) (now (directions .entry)) (now (matrix .entry))) (now (vector .entry)) (length (now (out .entry))))) ⌝ }
+    ensures left { λ _. ⌜ now (out .exit) ≡ after (sketchOf (setupFrom mode dim bits projections kind) (lent (now (rotation .entry)) (now (directions .entry)) (now (matrix .entry))) (now (vector .entry)) (length (now (out .entry)))) (now (out .entry)) ⌝ }
 {
-    let scalars = codes::setup(mode, dim, bits, projections);
+    let scalars = codes::setup(mode, dim, bits, projections, kind);
     tell(
-        qjl::sketch(scalars, signs, directions, matrix, vector, out),
+        qjl::sketch(scalars, rotation, directions, matrix, vector, out),
         number,
         place,
     );
@@ -106,7 +149,8 @@ pub extern "C" fn foldrima_sketch_score(
     dim: usize,
     bits: u8,
     projections: usize,
-    signs: &[f32],
+    kind: u8,
+    rotation: &[f32],
     directions: &[f32],
     matrix: &[f32],
     query: &[f32],
@@ -116,12 +160,12 @@ pub extern "C" fn foldrima_sketch_score(
     place: &mut usize,
     value: &mut f32,
 )
-    ensures answer { λ _. ⌜ said (now (number .exit)) (now (place .exit)) ≡ told (sketchScoreOf (setupFrom mode dim bits projections) (lent (now (signs .entry)) (now (directions .entry)) (now (matrix .entry))) (now (query .entry)) (now (sketch .entry)) norm) ⌝ }
-    ensures left { λ _. ⌜ now (value .exit) ≡ after (sketchScoreOf (setupFrom mode dim bits projections) (lent (now (signs .entry)) (now (directions .entry)) (now (matrix .entry))) (now (query .entry)) (now (sketch .entry)) norm) (now (value .entry)) ⌝ }
+    ensures answer { λ _. ⌜ said (now (number .exit)) (now (place .exit)) ≡ told (sketchScoreOf (setupFrom mode dim bits projections kind) (lent (now (rotation .entry)) (now (directions .entry)) (now (matrix .entry))) (now (query .entry)) (now (sketch .entry)) norm) ⌝ }
+    ensures left { λ _. ⌜ now (value .exit) ≡ after (sketchScoreOf (setupFrom mode dim bits projections kind) (lent (now (rotation .entry)) (now (directions .entry)) (now (matrix .entry))) (now (query .entry)) (now (sketch .entry)) norm) (now (value .entry)) ⌝ }
 {
-    let scalars = codes::setup(mode, dim, bits, projections);
+    let scalars = codes::setup(mode, dim, bits, projections, kind);
     tell_score(
-        qjl::sketch_score(scalars, signs, directions, matrix, query, sketch, norm),
+        qjl::sketch_score(scalars, rotation, directions, matrix, query, sketch, norm),
         number,
         place,
         value,

@@ -25,6 +25,10 @@ use Rattle.radius.specs.declared.RadiusCodecProfileV1.the-variants.{F32, BlockL
 use Rattle.rotation.specs.Checks.{rotationChecks}
 use Rattle.rotation.specs.Rotation.{applyOf, applyInverseOf}
 use Rattle.setup.specs.Lent.{Lent}
+use Rattle.rotation_stored.specs.Checks.{storedChecks}
+use Rattle.rotation_stored.specs.Stored.{storedApplyOf, storedApplyInverseOf}
+use Rattle.setup.specs.declared.RotationKind.{RotationKind}
+use Rattle.setup.specs.declared.RotationKind.the-variants.{FastHadamard, Stored}
 use Rattle.setup.specs.declared.Setup.{Setup}
 use Rattle.setup.specs.declared.TurboMode.{TurboMode}
 use Rattle.setup.specs.declared.TurboMode.the-variants.{PolarOnly, PolarWithQjl}
@@ -169,21 +173,43 @@ pub inverse-numbered : (n : ℕ) (signs xs : List Float) (room : ℕ) → Plain 
 unfolding applyInverseOf
 inverse-numbered n signs xs room = chain (rotationChecks n signs (length xs) room) _ refl
 
+pub stored-numbered : (n : ℕ) (matrix xs : List Float) (room : ℕ) → Plain (storedApplyOf n matrix xs room)
+unfolding storedApplyOf
+stored-numbered n matrix xs room = chain (storedChecks n matrix (length xs) room) _ refl
+
+pub stored-inverse-numbered : (n : ℕ) (matrix xs : List Float) (room : ℕ) → Plain (storedApplyInverseOf n matrix xs room)
+unfolding storedApplyInverseOf
+stored-inverse-numbered n matrix xs room = chain (storedChecks n matrix (length xs) room) _ refl
+
+-- the numbers of a list of checks under a setup, from those under either rotation
+rotations : (list : Setup → List Check) (s : Setup)
+    → between (list (record { mode = s .mode; dim = s .dim; bits = s .bits; projections = s .projections; rotation = FastHadamard })) ≡ true
+    → between (list (record { mode = s .mode; dim = s .dim; bits = s .bits; projections = s .projections; rotation = Stored })) ≡ true
+    → between (list s) ≡ true
+rotations list s hadamard stored = either (s .rotation)
+  where
+    either : (k : RotationKind) → between (list (record { mode = s .mode; dim = s .dim; bits = s .bits; projections = s .projections; rotation = k })) ≡ true
+    either FastHadamard = hadamard
+    either Stored = stored
+
 module _ (s : Setup) (l : Lent) where
+  setup-between : between (setupChecks s l) ≡ true
+  setup-between = rotations (λ z. setupChecks z l) s refl refl
+
   pub setup-numbered : Plain (first (setupChecks s l) accepted)
-  setup-numbered = chain (setupChecks s l) _ refl
+  setup-numbered = chain (setupChecks s l) _ setup-between
 
   pub sketch-numbered : (vector : List Float) (room : ℕ) → Plain (sketchOf s l vector room)
   unfolding sketchOf
-  sketch-numbered vector room = chain (vectorChecks s l vector ++ (wrongRoom room (countedProjectionsOf s) ∷ [])) _ refl
+  sketch-numbered vector room = chain (vectorChecks s l vector ++ (wrongRoom room (countedProjectionsOf s) ∷ [])) _ (rotations (λ z. vectorChecks z l vector ++ (wrongRoom room (countedProjectionsOf z) ∷ [])) s refl refl)
 
   pub prepare-numbered : (query : List Float) (room space : ℕ) → Plain (prepareRotatedOf s l query room space)
   unfolding prepareRotatedOf
-  prepare-numbered query room space = chain (prepareChecks s l query room space) _ refl
+  prepare-numbered query room space = chain (prepareChecks s l query room space) _ (rotations (λ z. prepareChecks z l query room space) s refl refl)
 
   pub decode-numbered : (bytes : List ℕ) (room : ℕ) → Numbered (decodeApproximateOf s l bytes room)
   unfolding decodeApproximateOf
-  decode-numbered bytes room = first-numbered (setupChecks s l) _ refl (unless-numbered bytes _ (chain (decodeChecks s bytes room) _ refl .0))
+  decode-numbered bytes room = first-numbered (setupChecks s l) _ setup-between (unless-numbered bytes _ (chain (decodeChecks s bytes room) _ refl .0))
 
 mode-score-numbered : (mode : TurboMode) (n m : ℕ) (matrix query : List Float) (signs : List ℤ) (norm : Float) → Plain (modeScore mode n m matrix query signs norm)
 unfolding modeScore signedScore
@@ -194,7 +220,7 @@ mode-score-numbered PolarWithQjl n m matrix query signs norm =
 pub sketch-score-numbered : (s : Setup) (l : Lent) (query : List Float) (sketch : List ℤ) (norm : Float) → Plain (sketchScoreOf s l query sketch norm)
 unfolding sketchScoreOf
 sketch-score-numbered s l query sketch norm =
-    first-plain (vectorChecks s l query) _ refl (mode-score-numbered (s .mode) (s .dim) (s .projections) (l .matrix) query sketch norm)
+    first-plain (vectorChecks s l query) _ (rotations (λ z. vectorChecks z l query) s refl refl) (mode-score-numbered (s .mode) (s .dim) (s .projections) (l .matrix) query sketch norm)
 
 -- ---- record
 
@@ -232,7 +258,7 @@ read-signs-numbered bytes room = unless-numbered bytes _ (chain (recordChecks by
 
 -- what stands behind all that scoring asks
 scored-numbered : {A : Type 0} (s : Setup) (l : Lent) (query : List Float) (bytes : List ℕ) (a : Answer A) → Numbered a → Numbered (whereScored s l query bytes a)
-scored-numbered s l query bytes a end = first-numbered (queryChecks s l query) _ refl (unless-numbered bytes _ (first-numbered (readingChecks s bytes (estimate s l query bytes)) a refl end))
+scored-numbered s l query bytes a end = first-numbered (queryChecks s l query) _ (rotations (λ z. queryChecks z l query) s refl refl) (unless-numbered bytes _ (first-numbered (readingChecks s bytes (estimate s l query bytes)) a refl end))
 
 module _ (s : Setup) (l : Lent) (query : List Float) (bytes : List ℕ) where
   pub estimate-numbered : Numbered (innerProductEstimateOf s l query bytes)
@@ -248,4 +274,4 @@ module _ (s : Setup) (l : Lent) (query : List Float) (bytes : List ℕ) where
 pub estimate-prepared-numbered : (s : Setup) (directions rotated values : List Float) (bytes : List ℕ) → Numbered (innerProductEstimatePreparedOf s directions rotated values bytes)
 unfolding innerProductEstimatePreparedOf
 estimate-prepared-numbered s directions rotated values bytes =
-    first-numbered (preparedChecks s directions rotated values) _ refl (unless-numbered bytes _ (chain (readingChecks s bytes (recordScore s directions rotated values bytes)) _ refl .0))
+    first-numbered (preparedChecks s directions rotated values) _ (rotations (λ z. preparedChecks z directions rotated values) s refl refl) (unless-numbered bytes _ (chain (readingChecks s bytes (recordScore s directions rotated values bytes)) _ refl .0))

@@ -15,6 +15,7 @@ use Rattle.radius.specs.Codec.{compressRangeOf, decompressOf, encodedBytesOf}
 use Rattle.radius.specs.declared.Range.{Range}
 use Rattle.radius.specs.declared.RadiusCodecProfileV1.{RadiusCodecProfileV1}
 use Rattle.rotation.specs.Rotation.{applyOf, applyInverseOf}
+use Rattle.rotation_stored.specs.Stored.{storedApplyOf, storedApplyInverseOf}
 use Rattle.setup.specs.Lent.{Lent}
 use Rattle.setup.specs.declared.Setup.{Setup}
 use Rattle.setup_tables.specs.Checks.{setupChecks}
@@ -63,6 +64,8 @@ pub record Numbers : Type 1 where
   pub validate-padding-zero : (packed : List ℕ) (used : ℕ) → TwoKinds (validatePaddingZeroOf packed used)
   pub apply : (n : ℕ) (signs xs : List Float) (room : ℕ) → TwoKinds (applyOf n signs xs room)
   pub apply-inverse : (n : ℕ) (signs xs : List Float) (room : ℕ) → TwoKinds (applyInverseOf n signs xs room)
+  pub stored-apply : (n : ℕ) (matrix xs : List Float) (room : ℕ) → TwoKinds (storedApplyOf n matrix xs room)
+  pub stored-apply-inverse : (n : ℕ) (matrix xs : List Float) (room : ℕ) → TwoKinds (storedApplyInverseOf n matrix xs room)
   pub dequantize-angle : (bits index : ℕ) → TwoKinds (dequantizeAngleOf bits index)
   pub sketch : (s : Setup) (l : Lent) (vector : List Float) (room : ℕ) → TwoKinds (sketchOf s l vector room)
   pub sketch-score : (s : Setup) (l : Lent) (query : List Float) (sketch : List ℤ) (norm : Float) → TwoKinds (sketchScoreOf s l query sketch norm)

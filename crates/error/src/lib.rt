@@ -15,7 +15,7 @@ pub const INVALID_BIT_WIDTH: u32 = 1;
 pub const ZERO_DIMENSION: u32 = 2;
 // Odd dimension. Place: the dimension.
 pub const ODD_DIMENSION: u32 = 3;
-// An even dimension that is no power of two, or above 4,096. Place: the dimension.
+// Of a Hadamard rotation, an even dimension that is no power of two, or above 4,096; of a record, one above 4,096. Place: the dimension.
 pub const ROTATION_FAILED: u32 = 4;
 // A lent input's length, or a record's dimension, differs from the setup's. Place: what was found.
 pub const DIMENSION_MISMATCH: u32 = 5;
@@ -51,6 +51,8 @@ pub const LENGTH_OVERFLOW: u32 = 19;
 pub const PROFILE_MISMATCH: u32 = 20;
 // A source norm is not finite or below zero. Place 0.
 pub const MALFORMED_NORM: u32 = 23;
+// A stored rotation's dimension is above 512. Place 0.
+pub const STORED_DIMENSION: u32 = 26;
 
 // What a call answers whose result, if any, stands in lent memory.
 pub enum Outcome {

@@ -5,8 +5,7 @@ use mathlib.Core.Path.{_≡_, refl, sym, _∙_}
 use mathlib.Core.Bool.{Bool, true, false, cond, not, _&&_, true≢false}
 use mathlib.Core.List.{List}
 use native.Mathlib.Omega.{arith}
-use borrow.Author.Tests.{le-ltb, ltb-false, eq-eqb, eqb-true, ne-eqb, eqb-false, not-false}
-use lib.Count.{ones}
+use borrow.Author.Tests.{le-ltb, ltb-false, ne-eqb, eqb-false}
 use lib.Dec.{ltb, eqb}
 use lib.ListN.{length}
 use lib.Ieee.{nan}
@@ -79,7 +78,6 @@ module _ (bytes : List ℕ) {header : Header} (read : readRecordOf bytes ≡ val
   read-accepts =
       let all = first-all (recordChecks bytes) (value (headerOf bytes)) (read-passed bytes read .1) in
       let defined = or-false _ _ (all .1 .0) in
-      let powers = or-false _ _ (all .1 .1 .1 .1 .0) in
       let above = eqb-false (dimOf bytes) 0 (all .1 .1 .0) in
       let even = eqb-false (dimOf bytes % 2) 1 (all .1 .1 .1 .0) in
       let bits = bits-told (hasSigns (mapOf bytes)) (bitsOf bytes) (all .1 .1 .1 .1 .1 .0) in
@@ -89,8 +87,7 @@ module _ (bytes : List ℕ) {header : Header} (read : readRecordOf bytes ≡ val
         norm-beside = beside-told (hasNorm (mapOf bytes)) (hasSigns (mapOf bytes)) (defined .1);
         above = omega (arith, above);
         even = omega (arith, even);
-        one-bit = eqb-true (ones (dimOf bytes)) 1 (not-false _ (powers .0));
-        most = ltb-false 4096 (dimOf bytes) (powers .1);
+        most = ltb-false 4096 (dimOf bytes) (all .1 .1 .1 .1 .0);
         least-bits = bits .0;
         most-bits = bits .1 .0;
         residual-bits = bits .1 .1;
@@ -126,7 +123,7 @@ accepted-reads bytes a =
           (
             ne-eqb (dimOf bytes % 2) 1 (λ z. omega (arith, z, a .even)),
             (
-              rw (eq-eqb (ones (dimOf bytes)) 1 (a .one-bit), le-ltb 4096 (dimOf bytes) (a .most)),
+              le-ltb 4096 (dimOf bytes) (a .most),
               (
                 bits-pass (hasSigns (mapOf bytes)) (bitsOf bytes) (a .least-bits) (a .most-bits) (a .residual-bits),
                 (

@@ -6,8 +6,7 @@ use mathlib.Core.Bool.{Bool, true, false, cond}
 use mathlib.Core.List.{List, [], _∷_}
 use native.Mathlib.Nat.{mul-le-mul}
 use native.Mathlib.Omega.{arith}
-use borrow.Author.Tests.{ltb-false, eqb-true, eqb-false, not-false}
-use lib.Count.{ones}
+use borrow.Author.Tests.{ltb-false, eqb-false}
 use lib.Dec.{ltb, eqb}
 use lib.ListN.{length}
 use Rattle.digits.specs.Digits.{number}
@@ -40,7 +39,6 @@ pub record HeaderUsable (bytes : List ℕ) : Type 0 where
   pub map : badMap (mapOf bytes) ≡ false
   pub above : dimOf bytes ≡ 0 → ⊥
   pub even : dimOf bytes % 2 ≡ 1 → ⊥
-  pub power : ones (dimOf bytes) ≡ 1
   pub most : dimOf bytes ≤ 4096
   pub least-bits : 1 ≤ bitsOf bytes
   pub most-bits : bitsOf bytes ≤ byMode (modeOf (mapOf bytes)) 16 15
@@ -50,15 +48,13 @@ pub record HeaderUsable (bytes : List ℕ) : Type 0 where
 pub header-usable : {A : Type 0} (bytes : List ℕ) (a : Answer A) {x : A} → first (headerChecks bytes) a ≡ value x → HeaderUsable bytes
 header-usable bytes a e =
     let all = first-all (headerChecks bytes) a e in
-    let powers = or-false _ _ (all .1 .1 .1 .1 .0) in
     let bits = or-false _ _ (all .1 .1 .1 .1 .1 .0) in
     record {
       long = ltb-false (length bytes) 6 (all .0);
       map = all .1 .0;
       above = eqb-false (dimOf bytes) 0 (all .1 .1 .0);
       even = eqb-false (dimOf bytes % 2) 1 (all .1 .1 .1 .0);
-      power = eqb-true (ones (dimOf bytes)) 1 (not-false _ (powers .0));
-      most = ltb-false 4096 (dimOf bytes) (powers .1);
+      most = ltb-false 4096 (dimOf bytes) (all .1 .1 .1 .1 .0);
       least-bits = ltb-false (bitsOf bytes) 1 (bits .0);
       most-bits = ltb-false (byMode (modeOf (mapOf bytes)) 16 15) (bitsOf bytes) (bits .1);
       header = ltb-false (length bytes) (headerLength (mapOf bytes)) (all .1 .1 .1 .1 .1 .1 .0);
@@ -101,13 +97,13 @@ pub record HeaderPassed (bytes : List ℕ) : Type 0 where
   pub map : badMap (mapOf bytes) ≡ false
   pub above : eqb (dimOf bytes) 0 ≡ false
   pub even : eqb (dimOf bytes % 2) 1 ≡ false
-  pub power : badRecordDimension (dimOf bytes) ≡ false
+  pub most : badRecordDimension (dimOf bytes) ≡ false
   pub bits : badPolarBits (modeOf (mapOf bytes)) (bitsOf bytes) ≡ false
   pub header : ltb (length bytes) (headerLength (mapOf bytes)) ≡ false
 
 module _ {A : Type 0} (bytes : List ℕ) (a : Answer A) (p : HeaderPassed bytes) where
   pub header-wrong : badProjections (modeOf (mapOf bytes)) (projectionsOf bytes) ≡ true → first (headerChecks bytes) a ≡ refused 8 (projectionsOf bytes)
-  header-wrong e = rw (p .long, p .map, p .above, p .even, p .power, p .bits, p .header, e)
+  header-wrong e = rw (p .long, p .map, p .above, p .even, p .most, p .bits, p .header, e)
 
   pub header-right : badProjections (modeOf (mapOf bytes)) (projectionsOf bytes) ≡ false → first (headerChecks bytes) a ≡ a
-  header-right e = first-accepts (headerChecks bytes) a (p .long, (p .map, (p .above, (p .even, (p .power, (p .bits, (p .header, (e, tt))))))))
+  header-right e = first-accepts (headerChecks bytes) a (p .long, (p .map, (p .above, (p .even, (p .most, (p .bits, (p .header, (e, tt))))))))

@@ -4,7 +4,6 @@ use Prim.Native.Nat.{ℕ, _%_, _≤_, _<_}
 use mathlib.Core.Path.{_≡_}
 use mathlib.Core.Bool.{true, false}
 use mathlib.Core.List.{List}
-use lib.Count.{ones}
 use lib.ListN.{length, getD}
 use lib.Ieee.{nan}
 use Rattle.bitpack.specs.Padding.{badPadding}
@@ -24,8 +23,7 @@ pub record Accepted (bytes : List ℕ) : Type 0 where
   pub above : 0 < dimOf bytes
   -- '3: odd dimension'.
   pub even : dimOf bytes % 2 ≡ 0
-  -- '4: even dimension that is no power of two, or above 4,096'.
-  pub one-bit : ones (dimOf bytes) ≡ 1
+  -- Document 02, request h): '4 is left .. to records above 4,096'; no other even dimension is refused.
   pub most : dimOf bytes ≤ 4096
   -- '1: bits outside 1..16', '16 is refused beside bit 1'.
   pub least-bits : 1 ≤ bitsOf bytes

@@ -1,11 +1,10 @@
 -- This is the reader: its checks in document 01's order, its answer, and the values that an accepted record holds. 'Reading checks, in order: under six bytes 13;
 -- 18; 2; 3; 4; 1 (16 is refused beside bit 1); header cut short 13; 8; total length 13; 17 ..; 16; 14 for indices; 14 for signs.' Before them stands document 02's
 -- request b): 'A record of no bytes now means a withdrawn position. Reading it answers withdrawn'. Its request c) adds '23 when the norm is not finite or below zero,
--- checked after 17'. Assumes nothing.
+-- checked after 17', and its request h) leaves 4 'to records above 4,096'. Assumes nothing.
 use Prim.Native.Nat.{ℕ}
 use mathlib.Core.Bool.{Bool, cond, not, _||_, _&&_}
 use mathlib.Core.List.{List, [], _∷_, _++_, map}
-use lib.Count.{ones}
 use lib.Dec.{ltb, eqb}
 use lib.IntN.{ℤ}
 use lib.ListN.{length}
@@ -75,9 +74,10 @@ wrongMap bytes = check (badMap (mapOf bytes)) 18 (mapOf bytes)
 abbrev pub badPolarBits : TurboMode → ℕ → Bool
 badPolarBits mode bits = ltb bits 1 || ltb (byMode mode 16 15) bits
 
--- 'even dimension that is no power of two, or above 4,096': this is the record's own rule, in reading and in writing.
+-- Document 02, request h): 'A record may now have any even dimension to 4,096; 4 is left .. to records above 4,096.' This is the record's own rule, in reading and in
+-- writing.
 abbrev pub badRecordDimension : ℕ → Bool
-badRecordDimension dim = not (eqb (ones dim) 1) || ltb 4096 dim
+badRecordDimension dim = ltb 4096 dim
 
 -- '4: .. Place: the dimension.'
 abbrev pub wrongRecordDimension : ℕ → Check

@@ -335,11 +335,11 @@ fn norm_of(bytes: &[u8]) -> f32
     1.0
 }
 
-// Whether an even dimension is one that no record may have.
+// Whether a dimension is above those that a record may have.
 fn outside_dimension(dim: usize) -> bool
     ensures { λ r. ⌜ r ≡ badRecordDimension dim ⌝ }
 {
-    rotation::outside_powers(dim)
+    4096 < dim
 }
 
 // Whether polar bits are outside 1..16, or 16 beside signs.

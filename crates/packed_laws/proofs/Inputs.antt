@@ -1,18 +1,17 @@
 -- What inputs have that the writer takes: each of its checks passes, and the bytes are those of `recordOf`. Assumes nothing.
 use Prim.Native.Nat.{ℕ, _/_, _%_, _≤_, _<_}
 use mathlib.Core.Path.{_≡_, sym}
-use mathlib.Core.Bool.{false, not}
+use mathlib.Core.Bool.{false}
 use mathlib.Core.List.{List, [], _∷_, _++_}
 use native.Mathlib.Omega.{arith}
-use borrow.Author.Tests.{ltb-false, eqb-true, eqb-false, not-false}
-use lib.Count.{ones}
-use lib.Dec.{ltb, eqb}
+use borrow.Author.Tests.{ltb-false, eqb-false}
+use lib.Dec.{ltb}
 use lib.IntN.{ℤ}
 use lib.ListN.{length, getD}
 use lib.Ieee.{Float, nan}
 use Rattle.error.specs.Answer.{value, place}
 use Rattle.error.specs.Checks.{wrongRoom, badIndex}
-use Rattle.error.proofs.Chains.{first-all, first-value, or-false}
+use Rattle.error.proofs.Chains.{first-all, first-value}
 use Rattle.error.proofs.Places.{each-clear}
 use Rattle.bitpack.specs.Signs.{badSketchSign}
 use Rattle.error.proofs.Differs.{differs-same}
@@ -32,7 +31,6 @@ pub record WrittenRecord (code : Code) (radii : List Float) (indices : List ℕ)
   pub beside : badNormAlone (code .mode) (code .norm) ≡ false
   pub above : 0 < code .dim
   pub even : code .dim % 2 ≡ 0
-  pub one-bit : ones (code .dim) ≡ 1
   pub most : code .dim ≤ 4096
   pub bits-inside : badPolarBits (code .mode) (code .bits) ≡ false
   pub projections-inside : badProjections (code .mode) (code .projections) ≡ false
@@ -55,7 +53,6 @@ written code radii indices signs room told =
     let all = first-all checks (value record-bytes) told in
     let lengths = all .1 .1 .1 .1 .1 .1 .1 in
     let values = lengths .1 .1 .1 in
-    let powers = or-false (not (eqb (ones (code .dim)) 1)) (ltb 4096 (code .dim)) (all .1 .1 .1 .1 .0) in
     let above = eqb-false (code .dim) 0 (all .1 .1 .0) in
     let even = eqb-false (code .dim % 2) 1 (all .1 .1 .1 .0) in
     record {
@@ -64,8 +61,7 @@ written code radii indices signs room told =
       beside = all .1 .0;
       above = omega (arith, above);
       even = omega (arith, even);
-      one-bit = eqb-true (ones (code .dim)) 1 (not-false (eqb (ones (code .dim)) 1) (powers .0));
-      most = ltb-false 4096 (code .dim) (powers .1);
+      most = ltb-false 4096 (code .dim) (all .1 .1 .1 .1 .0);
       bits-inside = all .1 .1 .1 .1 .1 .0;
       projections-inside = all .1 .1 .1 .1 .1 .1 .0;
       radii-long = differs-same (length radii) (code .dim / 2) (lengths .0);

@@ -17,3 +17,4 @@ pub mod Withdrawn
 pub mod Promised
 pub mod Examples
 pub mod WithoutNorm
+pub mod OtherDimensions

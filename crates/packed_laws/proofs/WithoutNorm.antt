@@ -1,4 +1,4 @@
--- Without a norm a record is read and written by document 01's own list of checks, and has its bytes. Assumes nothing.
+-- Without a norm a record is read and written by document 01's list of checks, in which 4 is request h)'s, and has its bytes. Assumes nothing.
 use Prim.Native.Nat.{ℕ}
 use mathlib.Core.Path.{_≡_, refl, ap, _∙_}
 use mathlib.Core.Bool.{Bool, true, false, cond, _||_}

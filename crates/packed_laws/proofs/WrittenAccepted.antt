@@ -75,7 +75,6 @@ module _ {code : Code} {radii : List Float} {indices : List â„•} {signs : List â
         norm-beside = rw (map-written w) (norm-signs (code .profile) (code .mode) (code .norm) (w .beside));
         above = rw (dim-written w) (w .above);
         even = rw (dim-written w) (w .even);
-        one-bit = rw (dim-written w) (w .one-bit);
         most = rw (dim-written w) (w .most);
         least-bits = rw (bits-written w) (b .0);
         most-bits = rw (bits-written w) (b .1);

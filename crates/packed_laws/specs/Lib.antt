@@ -3,3 +3,4 @@ pub mod Infinite
 pub mod EmptyParts
 pub mod Withdrawn
 pub mod WithoutNorm
+pub mod OtherDimensions

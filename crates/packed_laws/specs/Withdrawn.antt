@@ -1,5 +1,5 @@
 -- Request b) of document 02 moves what is answered of a record without bytes, and nothing else: 'A record of no bytes now means a withdrawn position. Reading it answers
--- withdrawn'. 'Lengths 1 to 5 still answer 13.' Assumes nothing.
+-- withdrawn'. 'Lengths 1 to 5 still answer 13.' The checks of a record that has bytes are those of now, with what requests c) and h) moved. Assumes nothing.
 use Prim.Native.Nat.{ℕ, _≤_}
 use mathlib.Core.Path.{_≡_}
 use mathlib.Core.List.{List, [], _∷_, _++_}

@@ -1,5 +1,6 @@
 -- Request c) of document 02 moves what is answered of records with a norm, and nothing else. The checks, the header's length and the bytes stand here as document 01
--- has them, behind b)'s withdrawn, and a record whose map byte has no bit 2, and one that is written without a norm, are answered by these. Assumes nothing.
+-- has them, with what requests b) and h) moved: b)'s withdrawn stands before them, and 4 is h)'s. A record whose map byte has no bit 2, and one that is written without
+-- a norm, are answered by these. Assumes nothing.
 use Prim.Native.Nat.{ℕ, _+_, _*_, _/_}
 use mathlib.Core.Path.{_≡_}
 use mathlib.Core.Bool.{false}
@@ -94,12 +95,12 @@ formerRecordOf code radii indices signs =
 -- ---- the claim
 
 pub record WithoutNorm : Type 1 where
-  -- Where bit 2 does not stand, the checks are document 01's, whatever is answered behind them, the payloads start behind document 01's header, and the norm is 1.0.
+  -- Where bit 2 does not stand, the checks are these, whatever is answered behind them, the payloads start behind document 01's header, and the norm is 1.0.
   pub read-kept : (bytes : List ℕ) → hasNorm (mapOf bytes) ≡ false → readRecordOf bytes ≡ unlessWithdrawn bytes (first (formerRecordChecks bytes) (value (headerOf bytes)))
   pub checks-kept : {A : Type 0} (bytes : List ℕ) (a : Answer A) → hasNorm (mapOf bytes) ≡ false → first (recordChecks bytes) a ≡ first (formerRecordChecks bytes) a
   pub start-kept : (bytes : List ℕ) → hasNorm (mapOf bytes) ≡ false → radiiStart bytes ≡ formerHeaderLength (mapOf bytes)
   pub norm-one : (bytes : List ℕ) → hasNorm (mapOf bytes) ≡ false → normOf bytes ≡ one false
-  -- Where no norm is given, a record has document 01's length, checks and bytes.
+  -- Where no norm is given, a record has document 01's length and bytes, and these checks.
   pub size-kept : (code : Code) → code .norm ≡ Absent → recordSizeOf code ≡ first (formerCodeChecks code) (value (formerNeededFor code))
   pub write-kept : (code : Code) (radii : List Float) (indices : List ℕ) (signs : List ℤ) (room : ℕ) → code .norm ≡ Absent
       → writeRecordOf code radii indices signs room ≡ first (formerWriteChecks code radii indices signs room) (value (formerRecordOf code radii indices signs))

@@ -1,11 +1,10 @@
 -- What the scalars of a record tell, and the checks of them one by one. Assumes nothing.
 use Prim.Native.Nat.{ℕ, _≤_}
 use mathlib.Core.Path.{_≡_, _∙_}
-use mathlib.Core.Bool.{true, false, not}
+use mathlib.Core.Bool.{true, false}
 use mathlib.Core.List.{[], _∷_}
 use native.Mathlib.Omega.{arith}
 use borrow.Author.Tests.{ltb-false}
-use lib.Count.{ones}
 use lib.Dec.{ltb, eqb}
 use Rattle.error.specs.Answer.{refused, check, first, accepted}
 use Rattle.error.proofs.Chains.{first-all, append-refused, append-passed, or-false}
@@ -61,7 +60,7 @@ code-small code pass =
     let b = bits-inside (code .mode) (code .bits) (all .1 .1 .1 .1 .1 .0) in
     record {
       known = all .0;
-      dim-most = ltb-false 4096 (code .dim) (or-false (not (eqb (ones (code .dim)) 1)) (ltb 4096 (code .dim)) (all .1 .1 .1 .1 .0) .1);
+      dim-most = ltb-false 4096 (code .dim) (all .1 .1 .1 .1 .0);
       bits-least = b .0;
       bits-most = b .1;
       signs-most = counted-most (code .mode) (code .projections) (all .1 .1 .1 .1 .1 .1 .0);

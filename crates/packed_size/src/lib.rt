@@ -7,7 +7,6 @@ use error::ZERO_PROJECTION_COUNT;
 use packed::Code;
 use packed::SourceNorm;
 use radius::RadiusCodecProfileV1;
-use setup::Setup;
 use setup::TurboMode;
 ghost use Prim.Native.Nat.{_≤_};
 ghost use mathlib.Core.Path.{_≡_};
@@ -28,13 +27,7 @@ pub fn record_size(code: Code) -> Length
     let mode = code.mode;
     let dim = code.dim;
     let bits = code.bits;
-    let projections = code.projections;
-    let signs = setup::counted_projections(Setup {
-        mode,
-        dim,
-        bits,
-        projections,
-    });
+    let signs = setup::counted_in(mode, code.projections);
     let norm = code.norm;
     let head = packed::header_length(map_for(profile, mode, norm));
     let body = radius::width_of(profile) * (dim / 2);

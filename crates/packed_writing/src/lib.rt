@@ -13,7 +13,6 @@ use packed::SourceNorm;
 use radius::RadiusCodecProfileV1;
 use radius::Range;
 use radius_writing::Compressed;
-use setup::Setup;
 use setup::TurboMode;
 ghost use Prim.Native.Nat.{_+_, _-_, _≤_};
 ghost use mathlib.Core.Path.{_≡_};
@@ -92,12 +91,7 @@ fn check_fields(code: Code, radii: usize, indices: usize, signs: usize) -> Lengt
     }
     let mode = code.mode;
     let dim = code.dim;
-    let needed = setup::counted_projections(Setup {
-        mode,
-        dim,
-        bits: code.bits,
-        projections: code.projections,
-    });
+    let needed = setup::counted_in(mode, code.projections);
     let lengths = check_lengths(dim / 2, needed, radii, indices, signs);
     if let Outcome::Refused { number, place } = lengths {
         return Length::Refused { number, place };

@@ -26,34 +26,34 @@ ghost use Rattle.qjl.specs.Score.{signedScore, sketchScoreOf};
 // The sketch of a vector, into the output: the sign of each projection. In `PolarOnly` it has no signs.
 pub fn sketch(
     setup: Setup,
-    signs: &[f32],
+    rotation: &[f32],
     directions: &[f32],
     matrix: &[f32],
     vector: &[f32],
     out: &mut [i8],
 ) -> Outcome
-    ensures { λ r. ⌜ says r ≡ done (sketchOf setup (lent (now (signs .entry)) (now (directions .entry)) (now (matrix .entry))) (now (vector .entry)) (length (now (out .entry)))) ⌝ }
-    ensures { λ _. ⌜ now (out .exit) ≡ after (sketchOf setup (lent (now (signs .entry)) (now (directions .entry)) (now (matrix .entry))) (now (vector .entry)) (length (now (out .entry)))) (now (out .entry)) ⌝ }
+    ensures { λ r. ⌜ says r ≡ done (sketchOf setup (lent (now (rotation .entry)) (now (directions .entry)) (now (matrix .entry))) (now (vector .entry)) (length (now (out .entry)))) ⌝ }
+    ensures { λ _. ⌜ now (out .exit) ≡ after (sketchOf setup (lent (now (rotation .entry)) (now (directions .entry)) (now (matrix .entry))) (now (vector .entry)) (length (now (out .entry)))) (now (out .entry)) ⌝ }
 {
-    if sketch_at_once(setup, signs, directions, matrix, vector, out) {
+    if sketch_at_once(setup, rotation, directions, matrix, vector, out) {
         return Outcome::Done;
     }
-    sketch_checked(setup, signs, directions, matrix, vector, out)
+    sketch_checked(setup, rotation, directions, matrix, vector, out)
 }
 
 // The score of a sketch for a query: the residual with the sketch's source norm, and 0 in `PolarOnly`.
 pub fn sketch_score(
     setup: Setup,
-    signs: &[f32],
+    rotation: &[f32],
     directions: &[f32],
     matrix: &[f32],
     query: &[f32],
     sketch: &[i8],
     norm: f32,
 ) -> Scored
-    ensures { λ r. ⌜ saysScore r ≡ sketchScoreOf setup (lent (now (signs .entry)) (now (directions .entry)) (now (matrix .entry))) (now (query .entry)) (now (sketch .entry)) norm ⌝ }
+    ensures { λ r. ⌜ saysScore r ≡ sketchScoreOf setup (lent (now (rotation .entry)) (now (directions .entry)) (now (matrix .entry))) (now (query .entry)) (now (sketch .entry)) norm ⌝ }
 {
-    let checked = check_vector(setup, signs, directions, matrix, query);
+    let checked = check_vector(setup, rotation, directions, matrix, query);
     if let Outcome::Refused { number, place } = checked {
         return Scored::Refused { number, place };
     }
@@ -88,14 +88,14 @@ pub fn sketch_score(
 // The checks of a vector or a query under a setup.
 pub fn check_vector(
     setup: Setup,
-    signs: &[f32],
+    rotation: &[f32],
     directions: &[f32],
     matrix: &[f32],
     vector: &[f32],
 ) -> Outcome
-    ensures { λ r. ⌜ says r ≡ first (vectorChecks setup (lent (now (signs .entry)) (now (directions .entry)) (now (matrix .entry))) (now (vector .entry))) accepted ⌝ }
+    ensures { λ r. ⌜ says r ≡ first (vectorChecks setup (lent (now (rotation .entry)) (now (directions .entry)) (now (matrix .entry))) (now (vector .entry))) accepted ⌝ }
 {
-    let checked = setup_tables::check_setup(setup, signs, directions, matrix);
+    let checked = setup_tables::check_setup(setup, rotation, directions, matrix);
     if let Outcome::Refused { number, place } = checked {
         return Outcome::Refused { number, place };
     }
@@ -120,15 +120,15 @@ pub fn check_vector(
 // the matrix and the vector need no pass of their own.
 fn sketch_at_once(
     setup: Setup,
-    signs: &[f32],
+    rotation: &[f32],
     directions: &[f32],
     matrix: &[f32],
     vector: &[f32],
     out: &mut [i8],
 ) -> bool
-    ensures { λ r. ⌜ AtOnce (sketchOf setup (lent (now (signs .entry)) (now (directions .entry)) (now (matrix .entry))) (now (vector .entry)) (length (now (out .entry)))) (now (out .entry)) r (now (out .exit)) ⌝ }
+    ensures { λ r. ⌜ AtOnce (sketchOf setup (lent (now (rotation .entry)) (now (directions .entry)) (now (matrix .entry))) (now (vector .entry)) (length (now (out .entry)))) (now (out .entry)) r (now (out .exit)) ⌝ }
 {
-    let checked = setup_tables::check_but_entries(setup, signs, directions, matrix);
+    let checked = setup_tables::check_but_entries(setup, rotation, directions, matrix);
     if let Outcome::Refused { number, place } = checked {
         return false;
     }
@@ -149,16 +149,16 @@ fn sketch_at_once(
 // The sketch, check by check.
 fn sketch_checked(
     setup: Setup,
-    signs: &[f32],
+    rotation: &[f32],
     directions: &[f32],
     matrix: &[f32],
     vector: &[f32],
     out: &mut [i8],
 ) -> Outcome
-    ensures { λ r. ⌜ says r ≡ done (sketchOf setup (lent (now (signs .entry)) (now (directions .entry)) (now (matrix .entry))) (now (vector .entry)) (length (now (out .entry)))) ⌝ }
-    ensures { λ _. ⌜ now (out .exit) ≡ after (sketchOf setup (lent (now (signs .entry)) (now (directions .entry)) (now (matrix .entry))) (now (vector .entry)) (length (now (out .entry)))) (now (out .entry)) ⌝ }
+    ensures { λ r. ⌜ says r ≡ done (sketchOf setup (lent (now (rotation .entry)) (now (directions .entry)) (now (matrix .entry))) (now (vector .entry)) (length (now (out .entry)))) ⌝ }
+    ensures { λ _. ⌜ now (out .exit) ≡ after (sketchOf setup (lent (now (rotation .entry)) (now (directions .entry)) (now (matrix .entry))) (now (vector .entry)) (length (now (out .entry)))) (now (out .entry)) ⌝ }
 {
-    let checked = check_vector(setup, signs, directions, matrix, vector);
+    let checked = check_vector(setup, rotation, directions, matrix, vector);
     if let Outcome::Refused { number, place } = checked {
         return Outcome::Refused { number, place };
     }

@@ -3,12 +3,14 @@
 //
 // A case is 96 bytes of fields and then its lists. Numbers are little-endian:
 //    0 the number of the refusal, 0, or 255 for a withdrawn position      1 mode      2 profile      3 bits
-//    4 the place      12, 20, 28 three numbers      36, 40, 44 three floats      48, 52 the floats of the answer
+//    4 the place      12, 20, 28 three numbers, the third of a setup its rotation's kind      36, 40, 44 three floats
+//   48, 52 the floats of the answer
 //   56 ten lists: where it starts, counted in its elements, in two bytes, and how many it has, in two
 
 use packed::SourceNorm;
 use radius::RadiusCodecProfileV1;
 use radius::Range;
+use setup::RotationKind;
 use setup::Setup;
 use setup::TurboMode;
 ghost use Prim.Native.Nat.{_<_, _≤_, _+_};
@@ -39,7 +41,7 @@ pub const ANSWER: usize = 48;
 pub const SECOND_ANSWER: usize = 52;
 
 // The lists of a case, by their places among the ten. A list that a call writes is as it must be afterwards.
-pub const SIGNS: usize = 0;
+pub const ROTATION: usize = 0;
 
 pub const DIRECTIONS: usize = 1;
 
@@ -97,6 +99,14 @@ pub(crate) fn projections(case: &[u8; 512]) -> usize {
     long(case, SECOND) as usize
 }
 
+// The rotation that a setup has: stored where the third number is not 0.
+pub(crate) fn kind(case: &[u8; 512]) -> RotationKind {
+    if long(case, THIRD) == 0 {
+        return RotationKind::FastHadamard;
+    }
+    RotationKind::Stored
+}
+
 // The norm that a record is written with: given where the third number is not 0.
 pub(crate) fn norm(case: &[u8; 512]) -> SourceNorm {
     if long(case, THIRD) == 0 {
@@ -115,11 +125,13 @@ pub(crate) fn range(case: &[u8; 512]) -> Range {
 // The scalars of a setup.
 pub(crate) fn setup(case: &[u8; 512]) -> Setup {
     let mode = mode(case);
+    let rotation = kind(case);
     Setup {
         mode,
         dim: count(case),
         bits: bits(case),
         projections: projections(case),
+        rotation,
     }
 }
 

@@ -10,7 +10,7 @@ use std::num::wrapping_add_u64;
 ghost use Prim.Native.Nat.{_<_};
 
 // How many calls the list has.
-const CALLS: u8 = 34;
+const CALLS: u8 = 36;
 
 // How many cases were replayed, and how many of them differ.
 struct Tally {

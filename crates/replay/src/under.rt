@@ -1,5 +1,5 @@
-// The calls under a setup, or a part of one. The lists of a case that they take are made once: the setup's signs, directions and matrix, the vector or
-// query, the floats that an output must hold afterwards, and projected values.
+// The calls under a setup, or a part of one. The lists of a case that they take are made once: the setup's rotation, directions and matrix, the vector
+// or query, the floats that an output must hold afterwards, and projected values.
 
 use super::frame;
 use super::outputs;
@@ -12,55 +12,63 @@ ghost use lib.ListN.{length};
 
 pub(crate) fn answered(call: u8, case: &[u8; 512]) -> bool {
     let view = frame::float_view(case);
-    let signs = frame::floats(case, &view, frame::SIGNS);
+    let entries = frame::floats(case, &view, frame::ROTATION);
     let vector = frame::floats(case, &view, frame::VECTOR);
     match call {
-        24 | 25 => rotation(
+        24 | 25 | 26 | 27 => rotation(
             call,
             case,
-            signs,
+            entries,
             vector,
             frame::floats(case, &view, frame::FLOATS),
         ),
-        26 => prepared_score(case, &view, vector),
-        _ => lent(call, case, &view, signs, vector),
+        28 => prepared_score(case, &view, vector),
+        _ => lent(call, case, &view, entries, vector),
     }
 }
 
-fn lent(call: u8, case: &[u8; 512], view: &[f32; 128], signs: &[f32], vector: &[f32]) -> bool {
+fn lent(call: u8, case: &[u8; 512], view: &[f32; 128], entries: &[f32], vector: &[f32]) -> bool {
     let directions = frame::floats(case, view, frame::DIRECTIONS);
     let matrix = frame::floats(case, view, frame::MATRIX);
     let setup = frame::setup(case);
     match call {
-        27 => same::outcome(
+        29 => same::outcome(
             case,
-            setup_tables::check_setup(setup, signs, directions, matrix),
+            setup_tables::check_setup(setup, entries, directions, matrix),
         ),
-        28 => sketch(case, setup, signs, directions, matrix, vector),
-        29 => prepare_query(case, view, setup, signs, directions, matrix, vector),
-        30 => decode(case, view, setup, signs, directions, matrix),
+        30 => sketch(case, setup, entries, directions, matrix, vector),
+        31 => prepare_query(case, view, setup, entries, directions, matrix, vector),
+        32 => decode(case, view, setup, entries, directions, matrix),
         _ => same::score(
             case,
-            score(call, case, setup, signs, directions, matrix, vector),
+            score(call, case, setup, entries, directions, matrix, vector),
         ),
     }
 }
 
-// Rotates the vector, one way or the other.
-fn rotation(call: u8, case: &[u8; 512], signs: &[f32], vector: &[f32], wanted: &[f32]) -> bool
+// Rotates the vector by signs or by a matrix, one way or the other.
+fn rotation(call: u8, case: &[u8; 512], entries: &[f32], vector: &[f32], wanted: &[f32]) -> bool
     requires { ⌜ length (now wanted) ≤ 64 ⌝ }
 {
     let count = wanted.len();
     let mut out = outputs::marked_floats();
-    let given = rotated(call, frame::count(case), signs, vector, &mut out[0..count]);
+    let given = rotated(
+        call,
+        frame::count(case),
+        entries,
+        vector,
+        &mut out[0..count],
+    );
     same::outcome(case, given) && same::floats(&out, wanted)
 }
 
-fn rotated(call: u8, dim: usize, signs: &[f32], vector: &[f32], out: &mut [f32]) -> Outcome {
-    if call == 24 {
-        return rotation::apply(dim, signs, vector, out);
+fn rotated(call: u8, dim: usize, entries: &[f32], vector: &[f32], out: &mut [f32]) -> Outcome {
+    match call {
+        24 => rotation::apply(dim, entries, vector, out),
+        25 => rotation::apply_inverse(dim, entries, vector, out),
+        26 => rotation_stored::apply(dim, entries, vector, out),
+        _ => rotation_stored::apply_inverse(dim, entries, vector, out),
     }
-    rotation::apply_inverse(dim, signs, vector, out)
 }
 
 fn prepared_score(case: &[u8; 512], view: &[f32; 128], rotated: &[f32]) -> bool {
@@ -81,7 +89,7 @@ fn prepared_score(case: &[u8; 512], view: &[f32; 128], rotated: &[f32]) -> bool 
 fn sketch(
     case: &[u8; 512],
     setup: Setup,
-    signs: &[f32],
+    entries: &[f32],
     directions: &[f32],
     matrix: &[f32],
     vector: &[f32],
@@ -90,7 +98,14 @@ fn sketch(
     let wanted = frame::signs(case, &view);
     let count = wanted.len();
     let mut out = outputs::marked_signs();
-    let given = qjl::sketch(setup, signs, directions, matrix, vector, &mut out[0..count]);
+    let given = qjl::sketch(
+        setup,
+        entries,
+        directions,
+        matrix,
+        vector,
+        &mut out[0..count],
+    );
     same::outcome(case, given) && same::signs(&out, wanted)
 }
 
@@ -98,7 +113,7 @@ fn prepare_query(
     case: &[u8; 512],
     view: &[f32; 128],
     setup: Setup,
-    signs: &[f32],
+    entries: &[f32],
     directions: &[f32],
     matrix: &[f32],
     query: &[f32],
@@ -111,7 +126,7 @@ fn prepare_query(
     let mut second = outputs::marked_floats();
     let given = turbo_query::prepare_query(
         setup,
-        signs,
+        entries,
         directions,
         matrix,
         query,
@@ -125,7 +140,7 @@ fn decode(
     case: &[u8; 512],
     view: &[f32; 128],
     setup: Setup,
-    signs: &[f32],
+    entries: &[f32],
     directions: &[f32],
     matrix: &[f32],
 ) -> bool {
@@ -135,7 +150,7 @@ fn decode(
     let mut out = outputs::marked_floats();
     let given = turbo_decode::decode_approximate(
         setup,
-        signs,
+        entries,
         directions,
         matrix,
         record,
@@ -148,20 +163,20 @@ fn score(
     call: u8,
     case: &[u8; 512],
     setup: Setup,
-    signs: &[f32],
+    entries: &[f32],
     directions: &[f32],
     matrix: &[f32],
     query: &[f32],
 ) -> Scored {
-    if call == 31 {
+    if call == 33 {
         let view = frame::sign_view(case);
         let sketch = frame::signs(case, &view);
         let norm = frame::float_at(case, frame::VALUE);
-        return qjl::sketch_score(setup, signs, directions, matrix, query, sketch, norm);
+        return qjl::sketch_score(setup, entries, directions, matrix, query, sketch, norm);
     }
     let record = frame::bytes(case, frame::BYTES);
-    if call == 32 {
-        return turbo::inner_product_estimate(setup, signs, directions, matrix, query, record);
+    if call == 34 {
+        return turbo::inner_product_estimate(setup, entries, directions, matrix, query, record);
     }
-    turbo::l2_distance_estimate(setup, signs, directions, matrix, query, record)
+    turbo::l2_distance_estimate(setup, entries, directions, matrix, query, record)
 }

@@ -61,7 +61,7 @@ take-most (suc n) [] = zero-le
 take-most (suc n) (v ∷ vs) = suc-le-suc (take-most n vs)
 
 -- one row
-close-row : (n : ℕ) (row query : List Float) → length row ≤ n → AllFit row → AllFit query → n + 1 ≤ 2 ^ 23
+pub close-row : (n : ℕ) (row query : List Float) → length row ≤ n → AllFit row → AllFit query → n + 1 ≤ 2 ^ 23
     → Close unit (n + 1) (n * unit) (sum (weighted query (map mag row))) (dot row query) (exactDot (map val row) (map val query))
 close-row n row query l f g L = close-weaken (omega arith) (mul-le-mul-right unit l) (le-refl _) (close-dot-self row query f g (omega arith))
 

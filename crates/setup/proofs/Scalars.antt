@@ -1,21 +1,21 @@
 -- What the checks of a setup's scalars say where none offends. Assumes nothing.
-use Prim.Native.Nat.{ℕ, _-_, _%_, _^_, _≤_, _<_}
+use Prim.Native.Nat.{ℕ, _-_, _%_, _≤_, _<_}
 use mathlib.Core.Path.{_≡_, refl}
 use mathlib.Core.Bool.{Bool, true, false, not, _||_}
 use native.Mathlib.Omega.{arith}
-use native.Mathlib.Decide.{decLe}
 use borrow.Author.Tests.{ltb-false, eqb-true, eqb-false, not-false}
-use lib.Count.{ones, trailingZeros}
+use lib.Count.{ones}
 use lib.Dec.{ltb, eqb}
-use lib.Pow.{pow-mono}
 use Rattle.error.specs.Answer.{first, accepted}
 use Rattle.error.proofs.Chains.{first-passes}
-use Rattle.rotation.proofs.Powers.{one-bit}
+use Rattle.rotation.proofs.Accepted.{Power}
 use Rattle.setup.specs.declared.Setup.{Setup}
 use Rattle.setup.specs.declared.TurboMode.{TurboMode}
 use Rattle.setup.specs.declared.TurboMode.the-variants.{PolarOnly, PolarWithQjl}
+use Rattle.setup.specs.declared.RotationKind.{RotationKind}
+use Rattle.setup.specs.declared.RotationKind.the-variants.{FastHadamard, Stored}
 use Rattle.setup.specs.Setups.{byMode}
-use Rattle.setup.specs.Checks.{scalarChecks}
+use Rattle.setup.specs.Checks.{badRotationDimension, scalarChecks}
 use Rattle.setup.proofs.Usable.{Usable}
 
 -- ---- tests
@@ -50,14 +50,23 @@ projections-residual : (m : TurboMode) (p : ℕ) → byMode m false (eqb p 0 || 
 projections-residual PolarOnly p e r = let z : _≡_ {A = ℕ} 0 1 = cc in omega (arith, z)
 projections-residual PolarWithQjl p e r = let l = eqb-false p 0 (neither-first (eqb p 0) (ltb 4096 p) e) in omega (arith, l)
 
--- ---- the dimension
+-- ---- the dimension, by rotation
 
-steps-most : (n k : ℕ) → n ≡ 2 ^ k → n ≤ 4096 → k ≤ 12
-steps-most n k e h = split (decLe k 12)
-  where
-    split : Dec (k ≤ 12) → k ≤ 12
-    split (yes l) = l
-    split (no l) = let above : 13 ≤ k = omega (arith, l) in let p = pow-mono above in omega (arith, p, e, h)
+dimension-most : (k : RotationKind) (n : ℕ) → badRotationDimension k n ≡ false → n ≤ 4096
+dimension-most FastHadamard n e = ltb-false 4096 n (neither-second (not (eqb (ones n) 1)) (ltb 4096 n) e)
+dimension-most Stored n e = let l = ltb-false 512 n e in omega (arith, l)
+
+dimension-power : (k : RotationKind) (n : ℕ) → badRotationDimension k n ≡ false → k ≡ FastHadamard → Power n
+dimension-power FastHadamard n e is =
+    record {
+      bit = eqb-true (ones n) 1 (not-false _ (neither-first (not (eqb (ones n) 1)) (ltb 4096 n) e));
+      small = dimension-most FastHadamard n e;
+    }
+dimension-power Stored n e is = absurd (let z : _≡_ {A = ℕ} 0 1 = cc in omega (arith, z))
+
+dimension-stored : (k : RotationKind) (n : ℕ) → badRotationDimension k n ≡ false → k ≡ Stored → n ≤ 512
+dimension-stored FastHadamard n e is = let z : _≡_ {A = ℕ} 0 1 = cc in omega (arith, z)
+dimension-stored Stored n e is = ltb-false 512 n e
 
 -- ---- all of them
 
@@ -68,17 +77,13 @@ scalars-usable s e =
     let even = eqb-false (s .dim % 2) 1 (k .1 .0) in
     let bits = k .1 .1 .0 in
     let projections = k .1 .1 .1 .0 in
-    let powers = k .1 .1 .1 .1 .0 in
-    let single = eqb-true (ones (s .dim)) 1 (not-false _ (neither-first (not (eqb (ones (s .dim)) 1)) (ltb 4096 (s .dim)) powers)) in
-    let most = ltb-false 4096 (s .dim) (neither-second (not (eqb (ones (s .dim)) 1)) (ltb 4096 (s .dim)) powers) in
-    let power = one-bit 64 (s .dim) (omega (arith, most)) single in
+    let dimension = k .1 .1 .1 .1 .0 in
     record {
       above = omega (arith, nonzero);
-      most = most;
+      most = dimension-most (s .rotation) (s .dim) dimension;
       even = omega (arith, even);
-      one-bit = single;
-      power = power;
-      steps = steps-most (s .dim) (trailingZeros 64 (s .dim)) power most;
+      hadamard = dimension-power (s .rotation) (s .dim) dimension;
+      stored = dimension-stored (s .rotation) (s .dim) dimension;
       least-bits = bits-least (s .mode) (s .bits) (neither-first (ltb (s .bits) (byMode (s .mode) 1 2)) (ltb 16 (s .bits)) bits);
       most-bits = bits-most (s .mode) (s .bits) (neither-second (ltb (s .bits) (byMode (s .mode) 1 2)) (ltb 16 (s .bits)) bits);
       most-projections = projections-most (s .mode) (s .projections) projections;

@@ -1,8 +1,9 @@
 -- What a setup has whose scalars' checks all pass. Proofs alone speak of it. Assumes nothing.
-use Prim.Native.Nat.{_%_, _^_, _≤_, _<_}
+use Prim.Native.Nat.{_%_, _≤_, _<_}
 use mathlib.Core.Path.{_≡_}
-use lib.Count.{ones, trailingZeros}
+use Rattle.rotation.proofs.Accepted.{Power}
 use Rattle.setup.specs.declared.Setup.{Setup}
+use Rattle.setup.specs.declared.RotationKind.the-variants.{FastHadamard, Stored}
 use Rattle.setup.specs.declared.TurboMode.the-variants.{PolarWithQjl}
 use Rattle.setup.specs.Setups.{polarBitsOf, countedProjectionsOf}
 
@@ -10,9 +11,8 @@ pub record Usable (s : Setup) : Type 0 where
   pub above : 0 < s .dim
   pub most : s .dim ≤ 4096
   pub even : s .dim % 2 ≡ 0
-  pub one-bit : ones (s .dim) ≡ 1
-  pub power : s .dim ≡ 2 ^ trailingZeros 64 (s .dim)
-  pub steps : trailingZeros 64 (s .dim) ≤ 12
+  pub hadamard : s .rotation ≡ FastHadamard → Power (s .dim)
+  pub stored : s .rotation ≡ Stored → s .dim ≤ 512
   pub least-bits : 1 ≤ polarBitsOf s
   pub most-bits : polarBitsOf s ≤ 16
   pub most-projections : countedProjectionsOf s ≤ 4096

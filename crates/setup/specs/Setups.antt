@@ -3,11 +3,18 @@ use Prim.Native.Nat.{ℕ, _-_, _*_, _^_}
 use Rattle.setup.specs.declared.Setup.{Setup}
 use Rattle.setup.specs.declared.TurboMode.{TurboMode}
 use Rattle.setup.specs.declared.TurboMode.the-variants.{PolarOnly, PolarWithQjl}
+use Rattle.setup.specs.declared.RotationKind.{RotationKind}
+use Rattle.setup.specs.declared.RotationKind.the-variants.{FastHadamard, Stored}
 
 -- This is the first value without residual, the second with it.
 abbrev pub byMode : {A : Type 0} → TurboMode → A → A → A
 byMode PolarOnly alone residual = alone
 byMode PolarWithQjl alone residual = residual
+
+-- This is the first value where the rotation is the Hadamard rotation, the second where it is a stored one.
+abbrev pub byRotation : {A : Type 0} → RotationKind → A → A → A
+byRotation FastHadamard hadamard stored = hadamard
+byRotation Stored hadamard stored = stored
 
 -- 'Polar bits are total bits, less 1 in residual mode.' Of 0 bits there are 0.
 abbrev pub polarBitsOf : Setup → ℕ
@@ -19,6 +26,10 @@ counted mode m = byMode mode 0 m
 
 abbrev pub countedProjectionsOf : Setup → ℕ
 countedProjectionsOf s = counted (s .mode) (s .projections)
+
+-- The rotation is lent 'n signs' (document 01), or a stored one's n × n matrix entries (document 02).
+abbrev pub rotationNeeded : Setup → ℕ
+rotationNeeded s = byRotation (s .rotation) (s .dim) (s .dim * s .dim)
 
 -- 'the table has 2 × 2^polar bits entries'
 abbrev pub directionsNeeded : Setup → ℕ

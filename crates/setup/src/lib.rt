@@ -5,13 +5,15 @@ use error::INVALID_BIT_WIDTH;
 use error::ODD_DIMENSION;
 use error::Outcome;
 use error::ROTATION_FAILED;
+use error::STORED_DIMENSION;
 use error::ZERO_DIMENSION;
 use error::ZERO_PROJECTION_COUNT;
 ghost use mathlib.Core.Path.{_≡_};
+ghost use mathlib.Core.List.{[], _∷_};
 ghost use Rattle.error.specs.Answer.{first, accepted};
 ghost use Rattle.error.specs.Outcomes.{says};
-ghost use Rattle.setup.specs.Setups.{polarBitsOf, countedProjectionsOf};
-ghost use Rattle.setup.specs.Checks.{badTotalBits, badProjections, scalarChecks};
+ghost use Rattle.setup.specs.Setups.{polarBitsOf, counted, countedProjectionsOf};
+ghost use Rattle.setup.specs.Checks.{badTotalBits, badProjections, wrongRotationDimension, scalarChecks};
 ghost use Rattle.setup.specs.Seeds.{hadamardSeedOf, matrixSeedOf};
 
 // Whether a residual sketch stands beside the polar code.
@@ -22,12 +24,21 @@ pub enum TurboMode {
     PolarWithQjl,
 }
 
-// The scalars of a setup: the mode, the dimension, the total bits and the projections.
+// Which rotation a setup has, and so what is lent for it.
+pub enum RotationKind {
+    // Signs and the Hadamard transform: a sign for each dimension is lent.
+    FastHadamard,
+    // A matrix: its entries are lent, column by column.
+    Stored,
+}
+
+// The scalars of a setup: the mode, the dimension, the total bits, the projections and which rotation it has.
 pub struct Setup {
     pub mode: TurboMode,
     pub dim: usize,
     pub bits: u8,
     pub projections: usize,
+    pub rotation: RotationKind,
 }
 
 // The polar bits: the total, less 1 in residual mode, and 0 where that has none left.
@@ -42,14 +53,21 @@ pub fn polar_bits(setup: Setup) -> u8
     }
 }
 
-// The projections that count: none without residual.
+// The projections that count of a setup.
 pub fn counted_projections(setup: Setup) -> usize
     ensures { λ r. ⌜ r ≡ countedProjectionsOf setup ⌝ }
 {
     let mode = setup.mode;
+    counted_in(mode, setup.projections)
+}
+
+// The projections that count, of a setup and of a record: none without residual.
+pub fn counted_in(mode: TurboMode, projections: usize) -> usize
+    ensures { λ r. ⌜ r ≡ counted mode projections ⌝ }
+{
     match mode {
         TurboMode::PolarOnly => 0,
-        TurboMode::PolarWithQjl => setup.projections,
+        TurboMode::PolarWithQjl => projections,
     }
 }
 
@@ -98,13 +116,34 @@ pub fn check_scalars(setup: Setup) -> Outcome
             place: setup.projections,
         };
     }
-    if rotation::outside_powers(dim) {
-        return Outcome::Refused {
-            number: ROTATION_FAILED,
-            place: dim,
-        };
+    let kind = setup.rotation;
+    check_rotation_dimension(kind, dim)
+}
+
+// The check of a dimension by the rotation that it is for.
+fn check_rotation_dimension(kind: RotationKind, dim: usize) -> Outcome
+    ensures { λ r. ⌜ says r ≡ first (wrongRotationDimension kind dim ∷ []) accepted ⌝ }
+{
+    match kind {
+        RotationKind::FastHadamard => {
+            if rotation::outside_powers(dim) {
+                return Outcome::Refused {
+                    number: ROTATION_FAILED,
+                    place: dim,
+                };
+            }
+            Outcome::Done
+        }
+        RotationKind::Stored => {
+            if rotation_stored::outside_stored(dim) {
+                return Outcome::Refused {
+                    number: STORED_DIMENSION,
+                    place: 0,
+                };
+            }
+            Outcome::Done
+        }
     }
-    Outcome::Done
 }
 
 // The seed of the host's generator of rotation signs.

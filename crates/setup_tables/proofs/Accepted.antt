@@ -12,14 +12,13 @@ use Rattle.error.specs.Checks.{badValue}
 use Rattle.error.proofs.Chains.{first-passes, first-accepts, append-left, append-right, append-passed}
 use Rattle.error.proofs.Places.{each-clear}
 use Rattle.error.proofs.Finite.{passes-finite}
-use Rattle.rotation.specs.Checks.{badSign}
 use Rattle.setup.specs.declared.Setup.{Setup}
 use Rattle.setup.specs.Lent.{Lent}
-use Rattle.setup.specs.Setups.{directionsNeeded, matrixNeeded}
+use Rattle.setup.specs.Setups.{rotationNeeded, directionsNeeded, matrixNeeded}
 use Rattle.setup.specs.Checks.{scalarChecks}
 use Rattle.setup.proofs.Usable.{Usable}
 use Rattle.setup.proofs.Scalars.{scalars-usable}
-use Rattle.setup_tables.specs.Checks.{badDirection, tableChecks, tableChecksButEntries, entryChecks, setupChecks, setupChecksButEntries, directionChecks}
+use Rattle.setup_tables.specs.Checks.{badDirection, badRotationEntry, tableChecks, tableChecksButEntries, entryChecks, setupChecks, setupChecksButEntries, directionChecks}
 
 -- the table of directions
 pub record Directions (s : Setup) (directions : List Float) : Type 0 where
@@ -29,8 +28,8 @@ pub record Directions (s : Setup) (directions : List Float) : Type 0 where
 -- the scalars and the three tables
 pub record AcceptedSetup (s : Setup) (l : Lent) : Type 0 where
   pub usable : Usable s
-  pub signs-long : length (l .signs) ≡ s .dim
-  pub signs-good : (i : ℕ) → i < length (l .signs) → badSign (getD (l .signs) i nan) ≡ false
+  pub rotation-long : length (l .rotation) ≡ rotationNeeded s
+  pub rotation-good : (i : ℕ) → i < length (l .rotation) → badRotationEntry (s .rotation) (getD (l .rotation) i nan) ≡ false
   pub table : Directions s (l .directions)
   pub matrix-long : length (l .matrix) ≡ matrixNeeded s
   pub matrix-finite : (i : ℕ) → i < length (l .matrix) → finite (getD (l .matrix) i nan) ≡ true
@@ -43,8 +42,8 @@ module _ (s : Setup) (l : Lent) where
       let k = first-passes (tableChecks s l) tt e in
       record {
         usable = usable;
-        signs-long = eqb-true (length (l .signs)) (s .dim) (not-false _ (k .0));
-        signs-good = each-clear badSign (l .signs) nan (k .1 .1 .1 .0);
+        rotation-long = eqb-true (length (l .rotation)) (rotationNeeded s) (not-false _ (k .0));
+        rotation-good = each-clear (badRotationEntry (s .rotation)) (l .rotation) nan (k .1 .1 .1 .0);
         table = record {
           long = eqb-true (length (l .directions)) (directionsNeeded s) (not-false _ (k .1 .0));
           good = each-clear badDirection (l .directions) nan (k .1 .1 .1 .1 .0);

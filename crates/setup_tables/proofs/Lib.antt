@@ -1,4 +1,5 @@
 mod Directions
 mod Rows
 mod Lengths
+mod Rotations
 pub mod Accepted

@@ -1,4 +1,4 @@
-// The checks of the tables that the host lends beside a setup's scalars: signs, directions and matrix.
+// The checks of the tables that the host lends beside a setup's scalars: what the rotation needs, directions and matrix.
 // Ported from turbo-quant/src/turbo.rs and changed: the tables are lent and checked, and an error is a number and a place.
 
 use error::DIMENSION_MISMATCH;
@@ -6,16 +6,19 @@ use error::INVALID_DIRECTION;
 use error::MALFORMED_SIGN;
 use error::NON_FINITE_MATRIX;
 use error::Outcome;
+use setup::RotationKind;
 use setup::Setup;
 ghost use mathlib.Core.Path.{_≡_};
+ghost use mathlib.Core.List.{[], _∷_};
 ghost use Prim.Native.Nat.{_*_, _^_, _≤_};
 ghost use lib.ListN.{length};
 ghost use Rattle.error.specs.Answer.{first, accepted, clear};
 ghost use Rattle.error.specs.Checks.{firstNonFiniteOf};
 ghost use Rattle.error.specs.Outcomes.{says};
 ghost use Rattle.setup.specs.Lent.{lent};
+ghost use Rattle.setup.specs.Setups.{rotationNeeded};
 ghost use Rattle.setup.specs.Checks.{scalarChecks};
-ghost use Rattle.setup_tables.specs.Checks.{badDirection, firstBadDirectionOf, tableLengthChecks, tableChecksButEntries, entryChecks, setupChecks, setupChecksButEntries, directionChecks};
+ghost use Rattle.setup_tables.specs.Checks.{badDirection, firstBadDirectionOf, wrongRotationEntry, tableLengthChecks, tableChecksButEntries, entryChecks, setupChecks, setupChecksButEntries, directionChecks};
 
 // The checks of a table of directions under a setup's polar bits.
 pub fn check_directions(setup: Setup, directions: &[f32]) -> Outcome
@@ -46,10 +49,10 @@ pub fn check_directions(setup: Setup, directions: &[f32]) -> Outcome
 }
 
 // The checks of a whole setup.
-pub fn check_setup(setup: Setup, signs: &[f32], directions: &[f32], matrix: &[f32]) -> Outcome
-    ensures { λ r. ⌜ says r ≡ first (setupChecks setup (lent (now (signs .entry)) (now (directions .entry)) (now (matrix .entry)))) accepted ⌝ }
+pub fn check_setup(setup: Setup, rotation: &[f32], directions: &[f32], matrix: &[f32]) -> Outcome
+    ensures { λ r. ⌜ says r ≡ first (setupChecks setup (lent (now (rotation .entry)) (now (directions .entry)) (now (matrix .entry)))) accepted ⌝ }
 {
-    let checked = check_but_entries(setup, signs, directions, matrix);
+    let checked = check_but_entries(setup, rotation, directions, matrix);
     match checked {
         Outcome::Refused { number, place } => Outcome::Refused { number, place },
         Outcome::Done => check_entries(matrix, setup::counted_projections(setup), setup.dim),
@@ -57,13 +60,18 @@ pub fn check_setup(setup: Setup, signs: &[f32], directions: &[f32], matrix: &[f3
 }
 
 // The checks of a whole setup but for the matrix's entries, which come last.
-pub fn check_but_entries(setup: Setup, signs: &[f32], directions: &[f32], matrix: &[f32]) -> Outcome
-    ensures { λ r. ⌜ says r ≡ first (setupChecksButEntries setup (lent (now (signs .entry)) (now (directions .entry)) (now (matrix .entry)))) accepted ⌝ }
+pub fn check_but_entries(
+    setup: Setup,
+    rotation: &[f32],
+    directions: &[f32],
+    matrix: &[f32],
+) -> Outcome
+    ensures { λ r. ⌜ says r ≡ first (setupChecksButEntries setup (lent (now (rotation .entry)) (now (directions .entry)) (now (matrix .entry)))) accepted ⌝ }
 {
     let scalars = setup::check_scalars(setup);
     match scalars {
         Outcome::Refused { number, place } => Outcome::Refused { number, place },
-        Outcome::Done => check_tables(setup, signs, directions, matrix),
+        Outcome::Done => check_tables(setup, rotation, directions, matrix),
     }
 }
 
@@ -86,20 +94,17 @@ fn direction_entries(bits: u8) -> usize
 }
 
 // The checks of the lent tables but for the matrix's entries, under scalars that pass.
-fn check_tables(setup: Setup, signs: &[f32], directions: &[f32], matrix: &[f32]) -> Outcome
+fn check_tables(setup: Setup, rotation: &[f32], directions: &[f32], matrix: &[f32]) -> Outcome
     requires { ⌜ first (scalarChecks setup) accepted ≡ accepted ⌝ }
-    ensures { λ r. ⌜ says r ≡ first (tableChecksButEntries setup (lent (now (signs .entry)) (now (directions .entry)) (now (matrix .entry)))) accepted ⌝ }
+    ensures { λ r. ⌜ says r ≡ first (tableChecksButEntries setup (lent (now (rotation .entry)) (now (directions .entry)) (now (matrix .entry)))) accepted ⌝ }
 {
-    let held = check_lengths(setup, signs, directions, matrix);
+    let held = check_lengths(setup, rotation, directions, matrix);
     if let Outcome::Refused { number, place } = held {
         return Outcome::Refused { number, place };
     }
-    let sign = rotation::first_bad_sign(signs);
-    if sign < signs.len() {
-        return Outcome::Refused {
-            number: MALFORMED_SIGN,
-            place: sign,
-        };
+    let turned = check_rotation(setup, rotation);
+    if let Outcome::Refused { number, place } = turned {
+        return Outcome::Refused { number, place };
     }
     let direction = first_bad_direction(directions);
     if direction < directions.len() {
@@ -111,17 +116,59 @@ fn check_tables(setup: Setup, signs: &[f32], directions: &[f32], matrix: &[f32])
     Outcome::Done
 }
 
+// The check of what is lent for the rotation: signs, or the entries of a matrix.
+fn check_rotation(setup: Setup, entries: &[f32]) -> Outcome
+    ensures { λ r. ⌜ says r ≡ first (wrongRotationEntry (setup .rotation) (now (entries .entry)) ∷ []) accepted ⌝ }
+{
+    let kind = setup.rotation;
+    match kind {
+        RotationKind::FastHadamard => {
+            let sign = rotation::first_bad_sign(entries);
+            if sign < entries.len() {
+                return Outcome::Refused {
+                    number: MALFORMED_SIGN,
+                    place: sign,
+                };
+            }
+            Outcome::Done
+        }
+        RotationKind::Stored => {
+            let entry = error::first_non_finite(entries);
+            if entry < entries.len() {
+                return Outcome::Refused {
+                    number: NON_FINITE_MATRIX,
+                    place: entry,
+                };
+            }
+            Outcome::Done
+        }
+    }
+}
+
+// How many entries are lent for the rotation, under scalars that pass.
+fn rotation_entries(setup: Setup) -> usize
+    requires { ⌜ setup .dim ≤ 4096 ⌝ }
+    ensures { λ r. ⌜ r ≡ rotationNeeded setup ⌝ }
+{
+    let kind = setup.rotation;
+    let dim = setup.dim;
+    match kind {
+        RotationKind::FastHadamard => dim,
+        RotationKind::Stored => dim * dim,
+    }
+}
+
 // The checks of the lengths of the lent tables, under scalars that pass.
-fn check_lengths(setup: Setup, signs: &[f32], directions: &[f32], matrix: &[f32]) -> Outcome
+fn check_lengths(setup: Setup, rotation: &[f32], directions: &[f32], matrix: &[f32]) -> Outcome
     requires { ⌜ first (scalarChecks setup) accepted ≡ accepted ⌝ }
-    ensures { λ r. ⌜ says r ≡ first (tableLengthChecks setup (lent (now (signs .entry)) (now (directions .entry)) (now (matrix .entry)))) accepted ⌝ }
+    ensures { λ r. ⌜ says r ≡ first (tableLengthChecks setup (lent (now (rotation .entry)) (now (directions .entry)) (now (matrix .entry)))) accepted ⌝ }
 {
     let dim = setup.dim;
     let rows = setup::counted_projections(setup);
-    if signs.len() != dim {
+    if rotation.len() != rotation_entries(setup) {
         return Outcome::Refused {
             number: DIMENSION_MISMATCH,
-            place: signs.len(),
+            place: rotation.len(),
         };
     }
     if directions.len() != direction_entries(setup::polar_bits(setup)) {

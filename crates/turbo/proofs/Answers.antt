@@ -12,10 +12,14 @@ use Rattle.error.proofs.Chains.{refused-not-withdrawn, first-passed, first-refu
 use Rattle.error.proofs.Places.{each-offends, each-passes}
 use Rattle.rounding.specs.Rows.{projected as projectedOn}
 use Rattle.setup.specs.Lent.{Lent}
+use Rattle.rotation.specs.Rotation.{rotated}
+use Rattle.rotation_stored.specs.Stored.{storedRotated}
 use Rattle.setup.specs.declared.Setup.{Setup}
+use Rattle.setup.specs.declared.RotationKind.{RotationKind}
+use Rattle.setup.specs.declared.RotationKind.the-variants.{FastHadamard, Stored}
 use Rattle.setup.specs.declared.TurboMode.{TurboMode}
 use Rattle.setup.specs.declared.TurboMode.the-variants.{PolarOnly, PolarWithQjl}
-use Rattle.setup.specs.Setups.{byMode, countedProjectionsOf}
+use Rattle.setup.specs.Setups.{byMode, byRotation, countedProjectionsOf}
 use Rattle.setup.specs.Checks.{scalarChecks}
 use Rattle.setup_tables.specs.Checks.{tableChecks, setupChecks, directionChecks}
 use Rattle.qjl_residual.specs.Residual.{residualOf}
@@ -23,6 +27,7 @@ use Rattle.qjl.specs.Sketch.{vectorChecks}
 use Rattle.packed.specs.Fields.{normOf}
 use Rattle.packed.specs.Reading.{unlessWithdrawn, radiiOf, signsOf}
 use Rattle.packed.proofs.Withdrawn.{unless-none, unless-some, unless-value, unless-refused, unless-withdrawn}
+use Rattle.turbo_order.specs.Account.{hadamardAccount, storedAccount}
 use Rattle.turbo_order.specs.Scores.{accountOf, scoreFrom, scoreOf}
 use Rattle.turbo_order.proofs.Within.{polarPart}
 use Rattle.turbo_query.specs.Query.{rotatedQuery, projectedQuery, finiteChecks, queryChecks, prepareChecks, prepareRotatedOf, prepareProjectedOf}
@@ -48,6 +53,14 @@ joined-first (check false n p ∷ cs) a = joined-first cs a
 -- ---- by a query
 
 module _ (s : Setup) (l : Lent) (query : List Float) (bytes : List ℕ) where
+  -- the account's entries are the query rotated
+  entries-at : (k : RotationKind) → byRotation k (hadamardAccount (s .dim) (l .rotation) query) (storedAccount (s .dim) (l .rotation) query) .entries ≡ byRotation k (rotated (s .dim) (l .rotation) query) (storedRotated (s .dim) (l .rotation) query)
+  entries-at FastHadamard = refl
+  entries-at Stored = refl
+
+  pub account-entries : accountOf s l query .entries ≡ rotatedQuery s l query
+  account-entries = entries-at (s .rotation)
+
   -- the score is the one of the query rotated and projected
   pub estimate-record : estimate s l query bytes ≡ recordScore s (l .directions) (rotatedQuery s l query) (projectedQuery s l query) bytes
   unfolding scoreOf scoreFrom
@@ -55,6 +68,7 @@ module _ (s : Setup) (l : Lent) (query : List Float) (bytes : List ℕ) where
       either-rows (s .mode) (polarPart (accountOf s l query) l (contentOf bytes))
       (λ k. add binary32 (polarPart (accountOf s l query) l (contentOf bytes)) (residualOf (s .projections) (normOf bytes) (projectedOn (s .dim) k (l .matrix) query) (signsOf bytes)))
       (s .projections)
+      ∙ ap (λ (entries : List Float). recordScore s (l .directions) entries (projectedQuery s l query) bytes) account-entries
 
   pub phased-refused : {n p : ℕ} → first (queryChecks s l query) accepted ≡ refused n p → innerProductEstimatePhasedOf s l query bytes ≡ refused n p
   unfolding innerProductEstimatePhasedOf

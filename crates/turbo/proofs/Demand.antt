@@ -28,7 +28,7 @@ use Rattle.packed.proofs.Radii.{radii-fit, length-signsOf, signs-good, norm-fit
 use Rattle.turbo_order.proofs.Sound.{Sound}
 use Rattle.turbo_order.specs.Scores.{accountOf, scoreOf}
 use Rattle.turbo_order.proofs.Within.{Scorable, score-within, scores-ordered}
-use Rattle.turbo_order.proofs.Hadamard.{hadamard-sound}
+use Rattle.turbo_order.proofs.Rotations.{account-sound}
 use Rattle.turbo_query.specs.Query.{finiteChecks, queryChecks}
 use Rattle.turbo_opening.specs.Opening.{contentOf, openChecks}
 use Rattle.turbo_opening.specs.Inner.{openedOf}
@@ -75,11 +75,11 @@ module _ (s : Setup) (l : Lent) (query : List Float) (bytes : List ℕ) {x : Flo
       let known = not-false (finite (estimate s l query bytes)) (first-passes (wrongScore (estimate s l query bytes) ∷ []) (estimate s l query bytes) last .0) in
       rw known tt
 
-  module _ (signs-fit : AllFit (l .signs)) (directions-fit : AllFit (l .directions)) (matrix-fit : AllFit (l .matrix)) (query-fit : AllFit query) where
+  module _ (rotation-fit : AllFit (l .rotation)) (directions-fit : AllFit (l .directions)) (matrix-fit : AllFit (l .matrix)) (query-fit : AllFit query) where
     scored-sound : Sound (s .dim) (accountOf s l query)
     scored-sound =
-        hadamard-sound s l query (vector-setup s l query scored-vector)
-        (vector-rowed s l query scored-vector .query-long) signs-fit query-fit
+        account-sound s l query (vector-setup s l query scored-vector)
+        (vector-rowed s l query scored-vector .query-long) rotation-fit query-fit
 
     scored-scorable : Scorable s l query (contentOf bytes)
     scored-scorable =
@@ -99,19 +99,19 @@ module _ (s : Setup) (l : Lent) (query : List Float) (bytes : List ℕ) {x : Flo
 
 -- ---- demand 3
 
-module _ (s : Setup) (l : Lent) (query : List Float) (signs-fit : AllFit (l .signs)) (directions-fit : AllFit (l .directions)) (matrix-fit : AllFit (l .matrix)) (query-fit : AllFit query) where
+module _ (s : Setup) (l : Lent) (query : List Float) (rotation-fit : AllFit (l .rotation)) (directions-fit : AllFit (l .directions)) (matrix-fit : AllFit (l .matrix)) (query-fit : AllFit query) where
   demand-within : (bytes : List ℕ) (x : Float) → IsScored s l query bytes x → Near (atScale x) (exactOf s l query bytes) (boundFor s l query bytes)
   unfolding scoreOf
   demand-within bytes x scored =
       subst (λ (y : Float). Near (atScale y) (exactOf s l query bytes) (boundFor s l query bytes)) (scored-estimate s l query bytes scored)
-      (score-within (accountOf s l query) s l query (contentOf bytes) (scored-sound s l query bytes scored signs-fit directions-fit matrix-fit query-fit)
-      (scored-scorable s l query bytes scored signs-fit directions-fit matrix-fit query-fit) (scored-finite s l query bytes scored))
+      (score-within (accountOf s l query) s l query (contentOf bytes) (scored-sound s l query bytes scored rotation-fit directions-fit matrix-fit query-fit)
+      (scored-scorable s l query bytes scored rotation-fit directions-fit matrix-fit query-fit) (scored-finite s l query bytes scored))
 
   demand-ordered : (low high : List ℕ) (x y : Float) → IsScored s l query low x → IsScored s l query high y → Under (boundFor s l query low + boundFor s l query high) (atScale x) (atScale y) → Under 0 (exactOf s l query low) (exactOf s l query high)
   unfolding scoreOf
   demand-ordered low high x y below above apart =
-      scores-ordered (accountOf s l query) s l query (contentOf low) (contentOf high) (scored-sound s l query low below signs-fit directions-fit matrix-fit query-fit)
-      (scored-scorable s l query low below signs-fit directions-fit matrix-fit query-fit) (scored-scorable s l query high above signs-fit directions-fit matrix-fit query-fit) (scored-finite s l query low below) (scored-finite s l query high above)
+      scores-ordered (accountOf s l query) s l query (contentOf low) (contentOf high) (scored-sound s l query low below rotation-fit directions-fit matrix-fit query-fit)
+      (scored-scorable s l query low below rotation-fit directions-fit matrix-fit query-fit) (scored-scorable s l query high above rotation-fit directions-fit matrix-fit query-fit) (scored-finite s l query low below) (scored-finite s l query high above)
       (rw (scored-estimate s l query low below, scored-estimate s l query high above) apart)
 
   pub demand : Demand s l query

@@ -3,25 +3,19 @@
 use Prim.Native.Nat.{ℕ}
 use mathlib.Core.Path.{_≡_, sym, ap, _∙_}
 use mathlib.Core.List.{List, [], _∷_}
-use lib.Count.{trailingZeros}
-use lib.ListN.{length, length-map}
-use lib.Ieee.{Float, nan, binary32, add, sub, mul}
+use lib.ListN.{length}
+use lib.Ieee.{Float, nan}
 use Rattle.error.specs.Answer.{value, first, each, accepted}
 use Rattle.error.specs.Checks.{wrongInput, wrongRoom, badValue}
 use Rattle.error.proofs.Chains.{first-passes, first-accepts, first-clear, first-value, append-left, append-right}
 use Rattle.error.proofs.Differs.{differs-not}
-use Rattle.rounding.specs.Sums.{products}
-use Rattle.rounding.specs.Butterfly.{stages}
-use Rattle.float.specs.Constants.{posZero}
 use Rattle.rounding.proofs.Folds.{all-fit-from}
-use Rattle.rounding.proofs.Lists.{length-products}
-use Rattle.rounding.proofs.Butterflies.{length-stages}
-use Rattle.rotation.specs.Rotation.{inverseRoot, scaled, hadamardOf, rotated}
 use Rattle.setup.specs.Lent.{Lent, lent}
 use Rattle.setup.specs.declared.Setup.{Setup}
 use Rattle.setup.specs.Setups.{countedProjectionsOf}
 use Rattle.setup_tables.specs.Checks.{setupChecks}
 use Rattle.setup_tables.proofs.Accepted.{setup-scalars, setup-directions}
+use Rattle.setup_rotation.proofs.Rotations.{length-rotated-by}
 use Rattle.qjl.specs.Sketch.{vectorChecks}
 use Rattle.qjl.proofs.Answers.{vector-setup, vector-rowed}
 use Rattle.turbo_query.specs.Query.{rotatedQuery, projectedQuery, finiteChecks, queryChecks, prepareChecks, prepareRotatedOf, prepareProjectedOf}
@@ -32,14 +26,6 @@ use Rattle.turbo.proofs.Demand.{demand}
 use Rattle.turbo.proofs.Answers.{estimate-passed, ready-rest, prepared-passed}
 use Rattle.rounding.proofs.Rows.{length-projected}
 
--- a rotation keeps the length
-length-rotated : (n : ℕ) (signs xs : List Float) → length signs ≡ length xs → length (rotated n signs xs) ≡ length xs
-unfolding rotated hadamardOf scaled
-length-rotated n signs xs e =
-    length-map (stages (add binary32) (sub binary32) posZero (trailingZeros 64 n) 1 (products xs signs)) (λ x. mul binary32 x (inverseRoot n))
-    ∙ length-stages (add binary32) (sub binary32) posZero (trailingZeros 64 n) 1 (products xs signs)
-    ∙ length-products xs signs e
-
 module _ (s : Setup) (l : Lent) (query : List Float) (passed : first (queryChecks s l query) accepted ≡ accepted) where
   vector-clear : first (vectorChecks s l query) accepted ≡ accepted
   vector-clear = append-left (vectorChecks s l query) (finiteChecks s l query) accepted passed
@@ -48,9 +34,7 @@ module _ (s : Setup) (l : Lent) (query : List Float) (passed : first (queryCheck
   setup-clear = append-left (setupChecks s l) (wrongInput (length query) (s .dim) ∷ each badValue 11 query ∷ []) accepted vector-clear
 
   rotated-long : length (rotatedQuery s l query) ≡ s .dim
-  rotated-long =
-      let long = vector-rowed s l query vector-clear .query-long in
-      length-rotated (s .dim) (l .signs) query (vector-setup s l query vector-clear .signs-long ∙ sym long) ∙ long
+  rotated-long = length-rotated-by s (l .rotation) query (vector-rowed s l query vector-clear .query-long) (vector-setup s l query vector-clear .rotation-long)
 
   -- a query that passes its checks passes them prepared
   pub passed-ready : first (preparedChecks s (l .directions) (rotatedQuery s l query) (projectedQuery s l query)) accepted ≡ accepted
@@ -93,7 +77,7 @@ module _ (s : Setup) (l : Lent) (query : List Float) {xs ys : List Float} (prepa
 pub prepared-stands : (s : Setup) (directions rotated projected : List Float) → AreFloats directions → Prepared s directions rotated projected
 prepared-stands s directions rotated projected fit =
     record {
-      same = λ signs matrix query prepared bytes. estimate-equal-left s (lent signs directions matrix) query prepared bytes;
-      demanded = λ signs matrix query prepared signs-fit matrix-fit query-fit.
-          demand s (lent signs directions matrix) query (all-fit-from signs nan signs-fit) (all-fit-from directions nan fit) (all-fit-from matrix nan matrix-fit) (all-fit-from query nan query-fit);
+      same = λ rotation matrix query prepared bytes. estimate-equal-left s (lent rotation directions matrix) query prepared bytes;
+      demanded = λ rotation matrix query prepared rotation-fit matrix-fit query-fit.
+          demand s (lent rotation directions matrix) query (all-fit-from rotation nan rotation-fit) (all-fit-from directions nan fit) (all-fit-from matrix nan matrix-fit) (all-fit-from query nan query-fit);
     }

@@ -44,7 +44,7 @@ saysPhased Withdrawn = value withdrawn
 unfoldable pub innerProductEstimatePhasedOf : Setup → Lent → List Float → List ℕ → Answer (Answer Float)
 innerProductEstimatePhasedOf s l query bytes = first (queryChecks s l query) (value (sinceReading s bytes (estimate s l query bytes) (value (estimate s l query bytes))))
 
--- ---- by a prepared query, which needs neither signs nor matrix
+-- ---- by a prepared query, which needs neither what the rotation is lent nor the matrix
 
 -- The two lengths are checked, 5, then the values of either list, 11.
 abbrev pub lengthsAndValues : Setup → List Float → List Float → List Check

@@ -19,11 +19,11 @@ pub record IsPrepared (s : Setup) (l : Lent) (query rotated projected : List Flo
   pub rotated-is : prepareRotatedOf s l query room space ≡ value rotated
   pub projected-is : prepareProjectedOf s l query room space ≡ value projected
 
--- The signs, the matrix and the query of the preparation are not lent to a call that scores by a prepared query. So it speaks of all of them, with the
+-- What the rotation is lent, the matrix and the query of the preparation are not lent to a call that scores by a prepared query. So it speaks of all of them, with the
 -- directions that are lent to it; that they are f32 is asked where demand 3 needs it. Demand 3 is stated of the answers by the query, which `same` says are
 -- the answers by the prepared one.
 pub record Prepared (s : Setup) (directions rotated projected : List Float) : Type 0 where
-  pub same : (signs matrix query : List Float) → IsPrepared s (lent signs directions matrix) query rotated projected
-      → (bytes : List ℕ) → innerProductEstimatePreparedOf s directions rotated projected bytes ≡ innerProductEstimateOf s (lent signs directions matrix) query bytes
-  pub demanded : (signs matrix query : List Float) → IsPrepared s (lent signs directions matrix) query rotated projected
-      → AreFloats signs → AreFloats matrix → AreFloats query → Demand s (lent signs directions matrix) query
+  pub same : (rotation matrix query : List Float) → IsPrepared s (lent rotation directions matrix) query rotated projected
+      → (bytes : List ℕ) → innerProductEstimatePreparedOf s directions rotated projected bytes ≡ innerProductEstimateOf s (lent rotation directions matrix) query bytes
+  pub demanded : (rotation matrix query : List Float) → IsPrepared s (lent rotation directions matrix) query rotated projected
+      → AreFloats rotation → AreFloats matrix → AreFloats query → Demand s (lent rotation directions matrix) query

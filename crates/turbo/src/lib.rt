@@ -43,34 +43,42 @@ pub enum Phased {
 // checks.
 pub fn inner_product_estimate(
     setup: Setup,
-    signs: &[f32],
+    rotation: &[f32],
     directions: &[f32],
     matrix: &[f32],
     query: &[f32],
     bytes: &[u8],
 ) -> Scored
-    ensures said { λ r. ⌜ saysScore r ≡ innerProductEstimateOf setup (lent (now (signs .entry)) (now (directions .entry)) (now (matrix .entry))) (now (query .entry)) (now (bytes .entry)) ⌝ }
-    ensures ordered { λ r. ⌜ Demand setup (lent (now (signs .entry)) (now (directions .entry)) (now (matrix .entry))) (now (query .entry)) ⌝ }
+    ensures said { λ r. ⌜ saysScore r ≡ innerProductEstimateOf setup (lent (now (rotation .entry)) (now (directions .entry)) (now (matrix .entry))) (now (query .entry)) (now (bytes .entry)) ⌝ }
+    ensures ordered { λ r. ⌜ Demand setup (lent (now (rotation .entry)) (now (directions .entry)) (now (matrix .entry))) (now (query .entry)) ⌝ }
 {
-    without_phase(inner_product_estimate_phased(setup, signs, directions, matrix, query, bytes))
+    without_phase(inner_product_estimate_phased(setup, rotation, directions, matrix, query, bytes))
 }
 
 // The answer of `inner_product_estimate`, with a refusal that tells whether it came before the record was read; a withdrawn position never does.
 pub fn inner_product_estimate_phased(
     setup: Setup,
-    signs: &[f32],
+    rotation: &[f32],
     directions: &[f32],
     matrix: &[f32],
     query: &[f32],
     bytes: &[u8],
 ) -> Phased
-    ensures { λ r. ⌜ saysPhased r ≡ innerProductEstimatePhasedOf setup (lent (now (signs .entry)) (now (directions .entry)) (now (matrix .entry))) (now (query .entry)) (now (bytes .entry)) ⌝ }
+    ensures { λ r. ⌜ saysPhased r ≡ innerProductEstimatePhasedOf setup (lent (now (rotation .entry)) (now (directions .entry)) (now (matrix .entry))) (now (query .entry)) (now (bytes .entry)) ⌝ }
 {
     let mut radii = no_radii();
-    measure(setup, signs, directions, matrix, query, bytes, &mut radii)
+    measure(
+        setup,
+        rotation,
+        directions,
+        matrix,
+        query,
+        bytes,
+        &mut radii,
+    )
 }
 
-// The estimated inner product by a query that is prepared, which needs neither signs nor matrix. A withdrawn position is told behind the checks of what
+// The estimated inner product by a query that is prepared, which needs neither what the rotation is lent nor the matrix. A withdrawn position is told behind the checks of what
 // is prepared.
 pub fn inner_product_estimate_prepared(
     setup: Setup,
@@ -93,17 +101,25 @@ pub fn inner_product_estimate_prepared(
 // The estimated squared distance of a query from the vector that a record stands for; of a withdrawn position that it is withdrawn, where scoring says so.
 pub fn l2_distance_estimate(
     setup: Setup,
-    signs: &[f32],
+    rotation: &[f32],
     directions: &[f32],
     matrix: &[f32],
     query: &[f32],
     bytes: &[u8],
 ) -> Scored
-    ensures { λ r. ⌜ saysScore r ≡ l2DistanceEstimateOf setup (lent (now (signs .entry)) (now (directions .entry)) (now (matrix .entry))) (now (query .entry)) (now (bytes .entry)) ⌝ }
+    ensures { λ r. ⌜ saysScore r ≡ l2DistanceEstimateOf setup (lent (now (rotation .entry)) (now (directions .entry)) (now (matrix .entry))) (now (query .entry)) (now (bytes .entry)) ⌝ }
 {
     let pairs = setup.dim / 2;
     let mut radii = no_radii();
-    match without_phase(measure(setup, signs, directions, matrix, query, bytes, &mut radii)) {
+    match without_phase(measure(
+        setup,
+        rotation,
+        directions,
+        matrix,
+        query,
+        bytes,
+        &mut radii,
+    )) {
         Scored::Score(score) => {
             turbo_distance::distance_from_score(query, &radii[0..pairs], score)
         }
@@ -115,7 +131,7 @@ pub fn l2_distance_estimate(
 // The score by a query; beside a score, the radii of the record are left in front of the room that is lent for them.
 fn measure(
     setup: Setup,
-    signs: &[f32],
+    rotation: &[f32],
     directions: &[f32],
     matrix: &[f32],
     query: &[f32],
@@ -123,11 +139,11 @@ fn measure(
     radii: &mut [f32],
 ) -> Phased
     requires { ⌜ length (now radii) ≡ 2048 ⌝ }
-    ensures said { λ r. ⌜ saysPhased r ≡ innerProductEstimatePhasedOf setup (lent (now (signs .entry)) (now (directions .entry)) (now (matrix .entry))) (now (query .entry)) (now (bytes .entry)) ⌝ }
+    ensures said { λ r. ⌜ saysPhased r ≡ innerProductEstimatePhasedOf setup (lent (now (rotation .entry)) (now (directions .entry)) (now (matrix .entry))) (now (query .entry)) (now (bytes .entry)) ⌝ }
     ensures left { λ r. ⌜ RadiiLeft r (now (bytes .entry)) (now (radii .exit)) ⌝ }
 {
     match setup::check_scalars(setup) {
-        Outcome::Done => measure_query(setup, signs, directions, matrix, query, bytes, radii),
+        Outcome::Done => measure_query(setup, rotation, directions, matrix, query, bytes, radii),
         Outcome::Refused { number, place } => Phased::BeforeReading { number, place },
     }
 }
@@ -135,7 +151,7 @@ fn measure(
 // What `measure` answers and leaves, under a setup whose scalars have passed.
 fn measure_query(
     setup: Setup,
-    signs: &[f32],
+    rotation: &[f32],
     directions: &[f32],
     matrix: &[f32],
     query: &[f32],
@@ -143,7 +159,7 @@ fn measure_query(
     radii: &mut [f32],
 ) -> Phased
     requires { ⌜ (first (scalarChecks setup) accepted ≡ accepted) × (length (now radii) ≡ 2048) ⌝ }
-    ensures said { λ r. ⌜ saysPhased r ≡ innerProductEstimatePhasedOf setup (lent (now (signs .entry)) (now (directions .entry)) (now (matrix .entry))) (now (query .entry)) (now (bytes .entry)) ⌝ }
+    ensures said { λ r. ⌜ saysPhased r ≡ innerProductEstimatePhasedOf setup (lent (now (rotation .entry)) (now (directions .entry)) (now (matrix .entry))) (now (query .entry)) (now (bytes .entry)) ⌝ }
     ensures left { λ r. ⌜ RadiiLeft r (now (bytes .entry)) (now (radii .exit)) ⌝ }
 {
     let dim = setup.dim;
@@ -152,7 +168,7 @@ fn measure_query(
     let mut projected = zeros();
     let prepared = turbo_query::prepare_query(
         setup,
-        signs,
+        rotation,
         directions,
         matrix,
         query,

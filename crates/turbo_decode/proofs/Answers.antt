@@ -1,7 +1,6 @@
 -- The answers of a call that decodes, case by case, from what its checks find; and what a record has that passes them. Assumes nothing.
 use Prim.Native.Nat.{ℕ, _*_}
-use mathlib.Core.Path.{_≡_, refl, sym, ap, _∙_}
-use mathlib.Core.Bool.{not}
+use mathlib.Core.Path.{_≡_, sym, ap, _∙_}
 use mathlib.Core.List.{List, [], _∷_}
 use native.Mathlib.Omega.{arith}
 use borrow.Author.Tests.{eq-eqb, ne-eqb}
@@ -9,15 +8,15 @@ use lib.ListN.{length}
 use lib.Ieee.{Float}
 use Rattle.error.specs.Answer.{value, refused, withdrawn, first, accepted, after}
 use Rattle.error.specs.Checks.{wrongRoom}
-use Rattle.error.proofs.Chains.{first-passes, first-accepts, first-passed, first-refused, append-passed, append-refused}
+use Rattle.error.proofs.Chains.{first-passed, first-refused, append-passed, append-refused, append-left}
 use Rattle.error.proofs.Answers.{after-value}
-use Rattle.rotation.specs.Checks.{rotationChecks}
-use Rattle.rotation.specs.Rotation.{unrotated, applyInverseOf}
-use Rattle.rotation.proofs.Applied.{inverse-value}
 use Rattle.setup.specs.Lent.{Lent}
 use Rattle.setup.specs.declared.Setup.{Setup}
-use Rattle.setup_tables.specs.Checks.{setupChecks}
+use Rattle.setup_tables.specs.Checks.{entryChecks, setupChecks, setupChecksButEntries}
 use Rattle.setup_tables.proofs.Accepted.{setup-accepted}
+use Rattle.setup_rotation.specs.Rotations.{unrotatedBy, turnChecks, rotateBackOf}
+use Rattle.setup_rotation.proofs.Rotations.{rotate-back-value}
+use Rattle.setup_rotation.proofs.Turnable.{setup-turnable}
 use Rattle.polar.specs.Polar.{decodedPairs, polarPairsOf}
 use Rattle.polar.proofs.Answers.{pairs-value}
 use Rattle.packed.specs.declared.Header.{Header}
@@ -32,15 +31,6 @@ use Rattle.turbo_opening.specs.Inner.{openedOf}
 use Rattle.turbo_opening.proofs.Answers.{opened-passed, opened-refused, opened-withdrawn, opened-as-read, opened-accepted, opened-dim}
 use Rattle.turbo_decode.specs.Decode.{decoded, decodeChecks, decodeApproximateOf}
 use Rattle.turbo_decode.specs.Inner.{Paired, Decodable}
-
--- a setup that has passed its checks can rotate
-pub setup-turnable : (s : Setup) (l : Lent) → first (setupChecks s l) accepted ≡ accepted
-    → first (rotationChecks (s .dim) (l .signs) (s .dim) (s .dim)) accepted ≡ accepted
-setup-turnable s l passed =
-    let k = first-passes (setupChecks s l) tt passed in
-    let same = ap not (eq-eqb (s .dim) (s .dim) refl) in
-    first-accepts (rotationChecks (s .dim) (l .signs) (s .dim) (s .dim)) accepted
-    (k .0, (k .1 .0, (k .1 .1 .1 .1 .0, (k .1 .1 .1 .1 .1 .0, (k .1 .1 .1 .1 .1 .1 .1 .1 .0, (same, (same, tt)))))))
 
 module _ (s : Setup) (l : Lent) (bytes : List ℕ) (room : ℕ) where
   -- ---- the answers
@@ -68,10 +58,8 @@ module _ (s : Setup) (l : Lent) (bytes : List ℕ) (room : ℕ) where
       pub decode-room : (room ≡ s .dim → ⊥) → decodeApproximateOf s l bytes room ≡ refused 6 (s .dim)
       decode-room h = decode-last ∙ simp (ne-eqb room (s .dim) h)
 
-      pub decode-value : room ≡ s .dim → decodeApproximateOf s l bytes room ≡ value (unrotated room (l .signs) (decodedPairs (l .directions) (indicesOf bytes) (radiiOf bytes)))
-      decode-value h =
-          decode-last
-          ∙ simp (eq-eqb room (s .dim) h) (ap (λ (n : ℕ). value (unrotated n (l .signs) (decodedPairs (l .directions) (indicesOf bytes) (radiiOf bytes)))) (sym h))
+      pub decode-value : room ≡ s .dim → decodeApproximateOf s l bytes room ≡ value (decoded s l bytes)
+      decode-value h = decode-last ∙ simp (eq-eqb room (s .dim) h)
 
       -- ---- what the record then has
 
@@ -81,10 +69,10 @@ module _ (s : Setup) (l : Lent) (bytes : List ℕ) (room : ℕ) where
           let even = opened-accepted s bytes opened .even in
           record { read = read; double = omega (arith, h, opened-dim s bytes opened, even, header-pairs bytes (read-header bytes read)) }
 
-      pub decode-ready : room ≡ s .dim → Decodable (l .signs) bytes header room
+      pub decode-ready : room ≡ s .dim → Decodable s (l .rotation) bytes header room
       decode-ready h =
           let most = setup-accepted s l passed .usable .most in
-          record { paired = decode-paired h; small = omega (arith, h, most); turnable = rw h (setup-turnable s l passed) }
+          record { paired = decode-paired h; small = omega (arith, h, most); turnable = rw h (setup-turnable s l (append-left (setupChecksButEntries s l) (entryChecks (l .matrix)) accepted passed)) }
 
   -- the setup is refused
   pub decode-setup : {number place : ℕ} → first (setupChecks s l) accepted ≡ refused number place → decodeApproximateOf s l bytes room ≡ refused number place
@@ -102,8 +90,8 @@ paired-values directions values bytes header indices radii p e f =
     ∙ after-value _ values (pairs-value directions (indicesOf bytes) (radiiOf bytes) (length values) (p .double ∙ ap (λ (k : ℕ). 2 * k) (header-pairs bytes (read-header bytes (p .read)) ∙ sym (length-radiiOf bytes))))
 
 -- the values rotated back
-pub values-back : (signs xs ys out : List Float) → first (rotationChecks (length out) signs (length out) (length out)) accepted ≡ accepted → length xs ≡ length out → xs ≡ ys
-    → after (applyInverseOf (length out) signs xs (length out)) out ≡ unrotated (length out) signs ys
-values-back signs xs ys out e l f =
-    after-value _ out (inverse-value (length out) signs xs (length out) (ap (λ (k : ℕ). first (rotationChecks (length out) signs k (length out)) accepted) l ∙ e))
-    ∙ ap (unrotated (length out) signs) f
+pub values-back : (s : Setup) (entries xs ys out : List Float) → first (turnChecks s entries (length out) (length out)) accepted ≡ accepted → length xs ≡ length out → xs ≡ ys
+    → after (rotateBackOf s entries xs (length out)) out ≡ unrotatedBy s entries ys
+values-back s entries xs ys out e l f =
+    after-value _ out (rotate-back-value s entries xs (length out) (ap (λ (k : ℕ). first (turnChecks s entries k (length out)) accepted) l ∙ e))
+    ∙ ap (unrotatedBy s entries) f

@@ -5,17 +5,17 @@ use mathlib.Core.List.{List, [], _∷_, _++_}
 use lib.Ieee.{Float}
 use Rattle.error.specs.Answer.{Answer, value, Check, first}
 use Rattle.error.specs.Checks.{wrongRoom}
-use Rattle.rotation.specs.Rotation.{unrotated}
 use Rattle.setup.specs.Lent.{Lent}
 use Rattle.setup.specs.declared.Setup.{Setup}
 use Rattle.setup_tables.specs.Checks.{setupChecks}
+use Rattle.setup_rotation.specs.Rotations.{unrotatedBy}
 use Rattle.polar.specs.Polar.{decodedPairs}
 use Rattle.packed.specs.Reading.{unlessWithdrawn, radiiOf, indicesOf}
 use Rattle.turbo_opening.specs.Opening.{openChecks}
 
--- These are (r × c, r × s) of each pair, rotated back.
+-- These are (r × c, r × s) of each pair, rotated back by the rotation that the setup has.
 abbrev pub decoded : Setup → Lent → List ℕ → List Float
-decoded s l bytes = unrotated (s .dim) (l .signs) (decodedPairs (l .directions) (indicesOf bytes) (radiiOf bytes))
+decoded s l bytes = unrotatedBy s (l .rotation) (decodedPairs (l .directions) (indicesOf bytes) (radiiOf bytes))
 
 -- These come behind the setup's checks: 'record reading, 5, 20'; 'In every call 6 comes after all input checks.' `room` is the output's length.
 abbrev pub decodeChecks : Setup → List ℕ → ℕ → List Check

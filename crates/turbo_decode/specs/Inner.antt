@@ -4,7 +4,8 @@ use mathlib.Core.Path.{_≡_}
 use mathlib.Core.List.{List}
 use lib.Ieee.{Float}
 use Rattle.error.specs.Answer.{value, first, accepted}
-use Rattle.rotation.specs.Checks.{rotationChecks}
+use Rattle.setup.specs.declared.Setup.{Setup}
+use Rattle.setup_rotation.specs.Rotations.{turnChecks}
 use Rattle.packed.specs.declared.Header.{Header}
 use Rattle.packed.specs.Reading.{readRecordOf}
 
@@ -13,8 +14,8 @@ pub record Paired (bytes : List ℕ) (header : Header) (n : ℕ) : Type 0 where
   pub read : readRecordOf bytes ≡ value header
   pub double : n ≡ 2 * (header .dim / 2)
 
--- Beside that, the values can be rotated back by the signs.
-pub record Decodable (signs : List Float) (bytes : List ℕ) (header : Header) (n : ℕ) : Type 0 where
+-- Beside that, the values can be rotated back by the setup, for which `entries` are lent.
+pub record Decodable (s : Setup) (entries : List Float) (bytes : List ℕ) (header : Header) (n : ℕ) : Type 0 where
   pub paired : Paired bytes header n
   pub small : n ≤ 4096
-  pub turnable : first (rotationChecks n signs n n) accepted ≡ accepted
+  pub turnable : first (turnChecks s entries n n) accepted ≡ accepted

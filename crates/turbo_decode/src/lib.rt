@@ -13,7 +13,7 @@ ghost use lib.ListN.{length};
 ghost use Rattle.error.specs.Answer.{done, after};
 ghost use Rattle.error.specs.Outcomes.{saysFilled};
 ghost use Rattle.setup.specs.Lent.{lent};
-ghost use Rattle.rotation.specs.Rotation.{unrotated};
+ghost use Rattle.setup_rotation.specs.Rotations.{unrotatedBy};
 ghost use Rattle.polar.specs.Polar.{decodedPairs};
 ghost use Rattle.packed.specs.Reading.{radiiOf, indicesOf};
 ghost use Rattle.turbo_decode.specs.Decode.{decodeApproximateOf};
@@ -22,16 +22,16 @@ ghost use Rattle.turbo_decode.specs.Inner.{Paired, Decodable};
 // Decodes a record into the output. Infinities in the output pass. For a withdrawn position nothing is written.
 pub fn decode_approximate(
     setup: Setup,
-    signs: &[f32],
+    rotation: &[f32],
     directions: &[f32],
     matrix: &[f32],
     bytes: &[u8],
     out: &mut [f32],
 ) -> Filled
-    ensures said { λ r. ⌜ saysFilled r ≡ done (decodeApproximateOf setup (lent (now (signs .entry)) (now (directions .entry)) (now (matrix .entry))) (now (bytes .entry)) (length (now (out .entry)))) ⌝ }
-    ensures left { λ _. ⌜ now (out .exit) ≡ after (decodeApproximateOf setup (lent (now (signs .entry)) (now (directions .entry)) (now (matrix .entry))) (now (bytes .entry)) (length (now (out .entry)))) (now (out .entry)) ⌝ }
+    ensures said { λ r. ⌜ saysFilled r ≡ done (decodeApproximateOf setup (lent (now (rotation .entry)) (now (directions .entry)) (now (matrix .entry))) (now (bytes .entry)) (length (now (out .entry)))) ⌝ }
+    ensures left { λ _. ⌜ now (out .exit) ≡ after (decodeApproximateOf setup (lent (now (rotation .entry)) (now (directions .entry)) (now (matrix .entry))) (now (bytes .entry)) (length (now (out .entry)))) (now (out .entry)) ⌝ }
 {
-    let checked = setup_tables::check_setup(setup, signs, directions, matrix);
+    let checked = setup_tables::check_setup(setup, rotation, directions, matrix);
     if let Outcome::Refused { number, place } = checked {
         return Filled::Refused { number, place };
     }
@@ -44,7 +44,7 @@ pub fn decode_approximate(
                     place: dim,
                 };
             }
-            decode(signs, directions, bytes, header, out);
+            decode(setup, rotation, directions, bytes, header, out);
             Filled::Done
         }
         Reading::Refused { number, place } => Filled::Refused { number, place },
@@ -53,14 +53,21 @@ pub fn decode_approximate(
 }
 
 // The pairs of an opened record, by the header that was read from it, rotated back into an output of its dimension.
-fn decode(signs: &[f32], directions: &[f32], bytes: &[u8], header: Header, out: &mut [f32])
-    requires { ⌜ Decodable (now signs) (now bytes) header (length (now out)) ⌝ }
-    ensures { λ _. ⌜ now (out .exit) ≡ unrotated (length (now (out .entry))) (now (signs .entry)) (decodedPairs (now (directions .entry)) (indicesOf (now (bytes .entry))) (radiiOf (now (bytes .entry)))) ⌝ }
+fn decode(
+    setup: Setup,
+    rotation: &[f32],
+    directions: &[f32],
+    bytes: &[u8],
+    header: Header,
+    out: &mut [f32],
+)
+    requires { ⌜ Decodable setup (now rotation) (now bytes) header (length (now out)) ⌝ }
+    ensures { λ _. ⌜ now (out .exit) ≡ unrotatedBy setup (now (rotation .entry)) (decodedPairs (now (directions .entry)) (indicesOf (now (bytes .entry))) (radiiOf (now (bytes .entry)))) ⌝ }
 {
     let dim = out.len();
     let mut values = no_values();
     read_pairs(directions, bytes, header, &mut values[0..dim]);
-    rotation::apply_inverse(dim, signs, &values[0..dim], out);
+    setup_rotation::rotate_back(setup, rotation, &values[0..dim], out);
 }
 
 // The pairs of an opened record, by the header that was read from it, into values of its dimension.

@@ -1,3 +1,4 @@
 pub mod Amended
 pub mod Withdrawn
 pub mod WithoutNorm
+pub mod OtherDimensions

@@ -3,7 +3,7 @@ use Prim.Native.Nat.{ℕ}
 use mathlib.Core.Path.{_≡_, sym, ap, _∙_}
 use mathlib.Core.Bool.{false}
 use mathlib.Core.List.{List, [], _∷_, _++_}
-use native.Mathlib.Nat.{one-mul, mul-one}
+use native.Mathlib.Nat.{mul-one}
 use lib.IntN.{ℤ}
 use lib.ListN.{length}
 use lib.Ieee.{Float}
@@ -38,6 +38,7 @@ use Rattle.setup_tables.specs.Checks.{setupChecks}
 use Rattle.turbo_decode.specs.Decode.{decoded, decodeApproximateOf}
 use Rattle.turbo.specs.Estimates.{estimate, innerProductEstimateOf, innerProductEstimatePhasedOf, preparedChecks, innerProductEstimatePreparedOf}
 use Rattle.turbo.specs.Distance.{l2DistanceEstimateOf}
+use Rattle.turbo.proofs.Answers.{account-entries}
 use Rattle.turbo.specs.Order.{exactOf, boundFor}
 use Rattle.turbo_laws.specs.WithoutNorm.{formerResidual, formerScore, formerEstimate, formerExact, formerBound, formerReading, formerSketchScore, ScoresWithoutNorm}
 
@@ -85,7 +86,9 @@ module _ (s : Setup) (bytes : List ℕ) (none : hasNorm (mapOf bytes) ≡ false)
   module _ (l : Lent) (query : List Float) where
     estimate-same : estimate s l query bytes ≡ formerEstimate s l query bytes
     unfolding scoreOf
-    estimate-same = score-same (l .directions) _ _
+    estimate-same =
+        score-same (l .directions) _ _
+        ∙ ap (λ (entries : List Float). formerScore s (l .directions) entries (projected (s .dim) (s .projections) (l .matrix) query) bytes) (account-entries s l query bytes)
 
     -- from record reading on
     since-same : sinceReading s bytes (estimate s l query bytes) (value (estimate s l query bytes)) ≡ formerReading s bytes (formerEstimate s l query bytes) (value (formerEstimate s l query bytes))
@@ -114,7 +117,7 @@ module _ (s : Setup) (bytes : List ℕ) (none : hasNorm (mapOf bytes) ≡ false)
 
     bound-same : boundFor s l query bytes ≡ formerBound s l query bytes
     unfolding boundBy sizeBy
-    bound-same = rw (norm-absent bytes none, whole-of-one, one-mul, mul-one)
+    bound-same = rw (norm-absent bytes none, whole-of-one, mul-one)
 
 -- ---- a sketch score
 

@@ -1,5 +1,5 @@
 -- Request c) of document 02 moves the scores of records with a norm, and no other. Score, exact score, bound and the answers stand here as document 01 has them,
--- with what requests b) and e) moved, and with 'the scale K is root(PI / 2) × 1.0 / m'. A record whose map byte has no bit 2, and a sketch score with the norm 1.0,
+-- with what requests b), e) and h) moved, and with 'the scale K is root(PI / 2) × 1.0 / m'. A record whose map byte has no bit 2, and a sketch score with the norm 1.0,
 -- are answered by these. Assumes nothing.
 use Prim.Native.Nat.{ℕ, _+_, _*_, _^_}
 use mathlib.Core.Path.{_≡_}
@@ -16,7 +16,6 @@ use Rattle.rounding.specs.Signed.{Diff, _⊞_, _⊙_}
 use Rattle.rounding.specs.Sums.{absoluteSum}
 use Rattle.rounding.specs.Rows.{projected}
 use Rattle.bitpack.specs.Signs.{badSketchSign}
-use Rattle.rotation.specs.Rotation.{rotated}
 use Rattle.polar.specs.Polar.{polarSumOf}
 use Rattle.qjl_residual.specs.Residual.{scaleOf, residualOf}
 use Rattle.qjl_residual.specs.Exact.{exactResidual, residualSize}
@@ -29,7 +28,7 @@ use Rattle.packed.specs.Fields.{mapOf, hasNorm}
 use Rattle.packed.specs.Reading.{unlessWithdrawn, radiiOf, indicesOf, signsOf}
 use Rattle.packed_laws.specs.WithoutNorm.{formerRecordChecks}
 use Rattle.turbo_order.specs.Scores.{accountOf, exactPolarPart, polarPartSize, perStep, perRadius}
-use Rattle.turbo_query.specs.Query.{queryChecks}
+use Rattle.turbo_query.specs.Query.{rotatedQuery, queryChecks}
 use Rattle.setup.specs.Checks.{scalarChecks}
 use Rattle.packed.specs.Layout.{headerOf}
 use Rattle.turbo_opening.specs.Opening.{contentOf, matchChecks, openRecordOf}
@@ -54,7 +53,7 @@ formerScore s directions turned values bytes =
     (add binary32 (polarSumOf turned directions (indicesOf bytes) (radiiOf bytes)) (formerResidual (s .projections) values (signsOf bytes)))
 
 abbrev pub formerEstimate : Setup → Lent → List Float → List ℕ → Float
-formerEstimate s l query bytes = formerScore s (l .directions) (rotated (s .dim) (l .signs) query) (projected (s .dim) (s .projections) (l .matrix) query) bytes
+formerEstimate s l query bytes = formerScore s (l .directions) (rotatedQuery s l query) (projected (s .dim) (s .projections) (l .matrix) query) bytes
 
 -- ---- its exact score and its bound, at the scale 2 ^ -619
 
@@ -73,11 +72,11 @@ formerSize s l query bytes =
     (polarPartSize (accountOf s l query) l (contentOf bytes)
     + unit * residualSize (scaleOf (s .projections) (one false)) (s .dim) (s .projections) (l .matrix) query)
 
--- 'bound = (n + m + 16) × A / 2^23 + (R + n×m + n) / 2^146'.
+-- 'bound = (n + m + 16) × A / 2^23 + (R + n×m + n) / 2^146', with the first n and the factor of R by the account of the setup's rotation.
 abbrev pub formerBound : Setup → Lent → List Float → List ℕ → ℕ
 formerBound s l query bytes =
-    (s .dim + countedProjectionsOf s + 16) * formerSize s l query bytes
-    + (perRadius * absoluteSum (radiiOf bytes) + perStep * (s .dim * countedProjectionsOf s + s .dim))
+    (accountOf s l query .count + countedProjectionsOf s + 16) * formerSize s l query bytes
+    + (perRadius * (accountOf s l query .factor * absoluteSum (radiiOf bytes)) + perStep * (s .dim * countedProjectionsOf s + s .dim))
 
 -- ---- the answers
 

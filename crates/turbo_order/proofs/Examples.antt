@@ -11,6 +11,7 @@ use Rattle.rounding.specs.Butterfly.{from}
 use Rattle.rounding.specs.Sums.{sum, absoluteSum}
 use Rattle.setup.specs.Lent.{Lent}
 use Rattle.setup.specs.declared.Setup.{Setup}
+use Rattle.setup.specs.declared.RotationKind.the-variants.{FastHadamard}
 use Rattle.setup.specs.declared.TurboMode.the-variants.{PolarOnly, PolarWithQjl}
 use Rattle.polar.specs.Exact.{sizeTerm, polarSize}
 use Rattle.qjl_residual.specs.Residual.{scaleOf}
@@ -22,11 +23,11 @@ abbrev account : Account
 account = record { entries = []; exact = []; sizes = 3 ∷ 5 ∷ []; count = 4; factor = 7 }
 
 abbrev setup : Setup
-setup = record { mode = PolarOnly; dim = 2; bits = 1; projections = 0 }
+setup = record { mode = PolarOnly; dim = 2; bits = 1; projections = 0; rotation = FastHadamard }
 
 -- the direction (1.0, -1.0)
 abbrev lent : Lent
-lent = record { signs = []; directions = one false ∷ one true ∷ []; matrix = [] }
+lent = record { rotation = []; directions = one false ∷ one true ∷ []; matrix = [] }
 
 -- one radius, 1.0
 abbrev content : Content
@@ -44,10 +45,10 @@ bound-of-pair = refl
 
 -- ---- with a residual of one row, (1.0, -1.0), the query (1.0, 1.0) and the norm 1.5
 abbrev oneRowSetup : Setup
-oneRowSetup = record { mode = PolarWithQjl; dim = 2; bits = 2; projections = 1 }
+oneRowSetup = record { mode = PolarWithQjl; dim = 2; bits = 2; projections = 1; rotation = FastHadamard }
 
 abbrev oneRowLent : Lent
-oneRowLent = record { signs = []; directions = one false ∷ one true ∷ []; matrix = one false ∷ one true ∷ [] }
+oneRowLent = record { rotation = []; directions = one false ∷ one true ∷ []; matrix = one false ∷ one true ∷ [] }
 
 abbrev oneRowContent : Content
 oneRowContent = record { radii = one false ∷ []; indices = 0 ∷ []; signs = pos 1 ∷ []; norm = fin false 3 (negsuc 0) }

@@ -9,6 +9,8 @@ use Rattle.float.specs.Units.{mag}
 use Rattle.rounding.specs.Sums.{absoluteSum}
 use Rattle.rotation.specs.Rotation.{inverseRoot, rotated}
 use Rattle.rotation.specs.Exact.{exactRotated}
+use Rattle.rotation_stored.specs.Stored.{storedRotated}
+use Rattle.rotation_stored.specs.Exact.{exactStored, storedSizes}
 
 pub record Account : Type 0 where
   -- These are the query's entries rotated, each step rounded.
@@ -31,4 +33,16 @@ hadamardAccount n signs query =
       sizes = replicate n (mag (inverseRoot n) * absoluteSum query);
       count = n;
       factor = 1;
+    }
+
+-- This is a stored rotation's, as document 02 has it: 'with n + m + 16 read as 2n + m + 16, R multiplied by n, and in A, for each |c| and |s|, its rotated entry's sum of
+-- |matrix entry × query entry| in place of (1/sqrt(n)) × X.'
+abbrev pub storedAccount : ℕ → List Float → List Float → Account
+storedAccount n matrix query =
+    record {
+      entries = storedRotated n matrix query;
+      exact = exactStored n matrix query;
+      sizes = storedSizes n matrix query;
+      count = 2 * n;
+      factor = n;
     }

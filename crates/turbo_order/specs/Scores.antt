@@ -10,14 +10,14 @@ use Rattle.rounding.specs.Signed.{Diff, _⊞_, _⊙_}
 use Rattle.float.specs.Units.{unit}
 use Rattle.setup.specs.Lent.{Lent}
 use Rattle.setup.specs.declared.Setup.{Setup}
-use Rattle.setup.specs.Setups.{byMode, countedProjectionsOf}
+use Rattle.setup.specs.Setups.{byMode, byRotation, countedProjectionsOf}
 use Rattle.polar.specs.Polar.{polarSumOf}
 use Rattle.polar.specs.Exact.{exactPolar, polarSize}
 use Rattle.rounding.specs.Sums.{absoluteSum}
 use Rattle.rounding.specs.Rows.{projected}
 use Rattle.qjl_residual.specs.Residual.{scaleOf, residualOf}
 use Rattle.qjl_residual.specs.Exact.{exactResidual, residualSize, wholeNorm}
-use Rattle.turbo_order.specs.Account.{Account, hadamardAccount}
+use Rattle.turbo_order.specs.Account.{Account, hadamardAccount, storedAccount}
 
 -- A record holds this, as read from it: a radius and an index for each pair, its signs, and its own norm; 'without it the norm is 1.0' (document 02).
 pub record Content : Type 0 where
@@ -53,7 +53,7 @@ exactBy a s l query c = byMode (s .mode) (exactPolarPart a l c) (exactPolarPart 
 -- ---- 'A = (1/sqrt(n)) × X × sum of r(|c| + |s|), plus K × the sum of all |matrix entry × query entry|', in units of 2 ^ -596;
 -- 'Without residual the K part is 0.'
 -- This is the sum of r(|c| × a + |s| × b), where a and b are the sums that bound the pair's two entries. Each is (1/sqrt(n)) × X for the Hadamard rotation, and
--- `AsWritten` has the product that document 01 writes.
+-- `AsWritten` has the product that document 01 writes; for a stored one it is 'its rotated entry's sum of |matrix entry × query entry|' (document 02).
 abbrev pub polarPartSize : Account → Lent → Content → ℕ
 polarPartSize a l c = polarSize (a .sizes) (l .directions) (c .indices) (c .radii)
 
@@ -85,7 +85,7 @@ boundBy a s l query c =
 
 -- ---- under the rotation of the setup
 abbrev pub accountOf : Setup → Lent → List Float → Account
-accountOf s l query = hadamardAccount (s .dim) (l .signs) query
+accountOf s l query = byRotation (s .rotation) (hadamardAccount (s .dim) (l .rotation) query) (storedAccount (s .dim) (l .rotation) query)
 
 unfoldable pub scoreOf : Setup → Lent → List Float → Content → Float
 scoreOf s l query c = scoreBy (accountOf s l query) s l query c

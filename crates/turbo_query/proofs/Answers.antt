@@ -1,23 +1,24 @@
 -- The answers of the calls, case by case, from what their checks find. Assumes nothing.
 use Prim.Native.Nat.{ℕ, _≤_, _<_}
 use mathlib.Core.Path.{_≡_, refl, sym, ap, _∙_, subst}
-use mathlib.Core.Bool.{true, false, not}
+use mathlib.Core.Bool.{true, false}
 use mathlib.Core.List.{List, [], _∷_, _++_}
 use borrow.Author.Tests.{eqb-true, not-true, not-false, eq-eqb, ne-eqb, ltb-false}
 use lib.ListN.{length}
 use lib.Ieee.{Float}
 use Rattle.error.specs.Answer.{Answer, value, refused, first, each, place, accepted, done, after, clear}
-use Rattle.error.proofs.Chains.{first-passed, first-refused, first-passes, first-accepts, first-done, append-passed, append-refused, append-left}
+use Rattle.error.proofs.Chains.{first-passed, first-refused, first-passes, first-done, append-passed, append-refused, append-left}
 use Rattle.error.proofs.Answers.{done-refused, after-refused, after-value}
 use Rattle.error.proofs.Places.{each-offends, each-passes}
 use Rattle.float.specs.Copying.{copyIntoOf}
 use Rattle.float.proofs.Copying.{copy-into-same}
-use Rattle.rotation.specs.Checks.{rotationChecks}
 use Rattle.setup.specs.Lent.{Lent}
 use Rattle.setup.specs.declared.Setup.{Setup}
 use Rattle.setup.specs.Setups.{countedProjectionsOf}
 use Rattle.setup_tables.specs.Checks.{entryChecks, setupChecks, setupChecksButEntries}
 use Rattle.setup_tables.proofs.Accepted.{but-entries-usable, but-entries-long, but-entries-rest}
+use Rattle.setup_rotation.specs.Rotations.{turnChecks}
+use Rattle.setup_rotation.proofs.Turnable.{setup-turnable}
 use Rattle.error.specs.Checks.{wrongInput, badValue}
 use Rattle.qjl_rows.specs.Inner.{Rowed}
 use Rattle.qjl_rows.proofs.FiniteSums.{matrix-finite}
@@ -95,20 +96,18 @@ module _ (s : Setup) (l : Lent) (query : List Float) (passed : first (setupCheck
   shaped-rowed : Rowed (s .dim) (l .matrix) query (countedProjectionsOf s)
   shaped-rowed = record { query-long = long; matrix-long = but-entries-long s l passed }
 
-  shaped-queryable : Queryable (s .dim) (countedProjectionsOf s) (l .signs) (l .matrix) query
+  shaped-queryable : Queryable s (countedProjectionsOf s) (l .rotation) (l .matrix) query
   shaped-queryable =
-      let k = first-passes (setupChecksButEntries s l) tt passed in
       record {
         small = but-entries-usable s l passed .most;
         few = but-entries-usable s l passed .most-projections;
-        turnable = first-accepts (rotationChecks (s .dim) (l .signs) (length query) (s .dim)) accepted
-            (k .0, (k .1 .0, (k .1 .1 .1 .1 .0, (k .1 .1 .1 .1 .1 .0, (k .1 .1 .1 .1 .1 .1 .1 .1 .0, (ap not (eq-eqb (length query) (s .dim) long), (ap not (eq-eqb (s .dim) (s .dim) refl), tt)))))));
+        turnable = subst (λ (k : ℕ). first (turnChecks s (l .rotation) k (s .dim)) accepted ≡ accepted) (sym long) (setup-turnable s l passed);
         rowed = shaped-rowed;
       }
 
   -- an equal number of rows
-  pub shaped-rows : {rows : ℕ} → rows ≡ countedProjectionsOf s → Queryable (s .dim) rows (l .signs) (l .matrix) query
-  shaped-rows e = subst (λ (m : ℕ). Queryable (s .dim) m (l .signs) (l .matrix) query) (sym e) shaped-queryable
+  pub shaped-rows : {rows : ℕ} → rows ≡ countedProjectionsOf s → Queryable s rows (l .rotation) (l .matrix) query
+  shaped-rows e = subst (λ (m : ℕ). Queryable s m (l .rotation) (l .matrix) query) (sym e) shaped-queryable
 
   -- where what is handed over passes too, every projection is finite, and so is every entry of the matrix
   shaped-passed : (room space : ℕ) → clear badValue query ≡ true
@@ -122,7 +121,7 @@ module _ (s : Setup) (l : Lent) (query : List Float) (passed : first (setupCheck
 -- ---- a query that has passed its checks
 
 module _ (s : Setup) (l : Lent) (query : List Float) (passed : first (vectorChecks s l query) accepted ≡ accepted) where
-  pub vector-rows : {rows : ℕ} → rows ≡ countedProjectionsOf s → Queryable (s .dim) rows (l .signs) (l .matrix) query
+  pub vector-rows : {rows : ℕ} → rows ≡ countedProjectionsOf s → Queryable s rows (l .rotation) (l .matrix) query
   vector-rows =
       shaped-rows s l query
       (append-left (setupChecksButEntries s l) (entryChecks (l .matrix) ++ (wrongInput (length query) (s .dim) ∷ each badValue 11 query ∷ [])) accepted passed)

@@ -7,7 +7,8 @@ use lib.ListN.{length}
 use lib.Ieee.{Float}
 use Rattle.error.specs.Answer.{Answer, value, Check, first, each, accepted, after}
 use Rattle.error.specs.Checks.{wrongRoom, badValue}
-use Rattle.rotation.specs.Checks.{rotationChecks}
+use Rattle.setup.specs.declared.Setup.{Setup}
+use Rattle.setup_rotation.specs.Rotations.{turnChecks}
 use Rattle.qjl_rows.specs.Inner.{Rowed}
 
 -- 'rotated 11, projected 11', then 6 for either output: n values are needed in the first, whose length is `room`, and m in the second, whose length is `space`.
@@ -25,9 +26,9 @@ pub record Handed (n m : ℕ) (rotated projected out other : List Float) (said :
   pub rotated-after : out′ ≡ after (first (handedChecks n m rotated projected (length out) (length other)) (value rotated)) out
   pub projected-after : other′ ≡ after (first (handedChecks n m rotated projected (length out) (length other)) (value projected)) other
 
--- A rotation of n values and a projection on m rows refuse nothing.
-pub record Queryable (n m : ℕ) (signs matrix query : List Float) : Type 0 where
-  pub small : n ≤ 4096
+-- A rotation by the setup, for which `entries` are lent, and a projection on m rows refuse nothing.
+pub record Queryable (s : Setup) (m : ℕ) (entries matrix query : List Float) : Type 0 where
+  pub small : s .dim ≤ 4096
   pub few : m ≤ 4096
-  pub turnable : first (rotationChecks n signs (length query) n) accepted ≡ accepted
-  pub rowed : Rowed n matrix query m
+  pub turnable : first (turnChecks s entries (length query) (s .dim)) accepted ≡ accepted
+  pub rowed : Rowed (s .dim) matrix query m

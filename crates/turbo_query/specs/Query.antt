@@ -6,16 +6,16 @@ use mathlib.Core.List.{List, [], _∷_, _++_}
 use lib.Ieee.{Float}
 use Rattle.error.specs.Answer.{Answer, value, Check, first, each}
 use Rattle.error.specs.Checks.{wrongRoom, badValue}
-use Rattle.rotation.specs.Rotation.{rotated}
 use Rattle.setup.specs.Lent.{Lent}
 use Rattle.setup.specs.declared.Setup.{Setup}
 use Rattle.setup.specs.Setups.{countedProjectionsOf}
+use Rattle.setup_rotation.specs.Rotations.{rotatedBy}
 use Rattle.qjl.specs.Sketch.{vectorChecks}
 use Rattle.rounding.specs.Rows.{projected}
 
--- This is the query rotated.
+-- This is the query rotated, by the rotation that the setup has.
 abbrev pub rotatedQuery : Setup → Lent → List Float → List Float
-rotatedQuery s l query = rotated (s .dim) (l .signs) query
+rotatedQuery s l query = rotatedBy s (l .rotation) query
 
 -- This is the query projected; 'In `PolarOnly` m counts as 0', so then there is no row.
 abbrev pub projectedQuery : Setup → Lent → List Float → List Float

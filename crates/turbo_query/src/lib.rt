@@ -9,8 +9,7 @@ ghost use mathlib.Core.Path.{_≡_};
 ghost use lib.ListN.{length};
 ghost use Rattle.error.specs.Answer.{first, accepted, done, after};
 ghost use Rattle.error.specs.Outcomes.{says};
-ghost use Rattle.rotation.specs.Checks.{rotationChecks};
-ghost use Rattle.rotation.specs.Rotation.{rotated as rotatedBy};
+ghost use Rattle.setup_rotation.specs.Rotations.{rotatedBy, turnChecks};
 ghost use Rattle.setup.specs.Lent.{lent};
 ghost use Rattle.qjl_rows.specs.Inner.{Rowed};
 ghost use Rattle.qjl.specs.Inner.{AtOnce};
@@ -21,38 +20,54 @@ ghost use Rattle.turbo_query.specs.Inner.{handedChecks, Handed, Queryabl
 // Prepares a query: rotated into one output, projected into the other. Neither is written unless both fit.
 pub fn prepare_query(
     setup: Setup,
-    signs: &[f32],
+    rotation: &[f32],
     directions: &[f32],
     matrix: &[f32],
     query: &[f32],
     rotated: &mut [f32],
     projected: &mut [f32],
 ) -> Outcome
-    ensures said { λ r. ⌜ says r ≡ done (prepareRotatedOf setup (lent (now (signs .entry)) (now (directions .entry)) (now (matrix .entry))) (now (query .entry)) (length (now (rotated .entry))) (length (now (projected .entry)))) ⌝ }
-    ensures rotated { λ _. ⌜ now (rotated .exit) ≡ after (prepareRotatedOf setup (lent (now (signs .entry)) (now (directions .entry)) (now (matrix .entry))) (now (query .entry)) (length (now (rotated .entry))) (length (now (projected .entry)))) (now (rotated .entry)) ⌝ }
-    ensures projected { λ _. ⌜ now (projected .exit) ≡ after (prepareProjectedOf setup (lent (now (signs .entry)) (now (directions .entry)) (now (matrix .entry))) (now (query .entry)) (length (now (rotated .entry))) (length (now (projected .entry)))) (now (projected .entry)) ⌝ }
+    ensures said { λ r. ⌜ says r ≡ done (prepareRotatedOf setup (lent (now (rotation .entry)) (now (directions .entry)) (now (matrix .entry))) (now (query .entry)) (length (now (rotated .entry))) (length (now (projected .entry)))) ⌝ }
+    ensures rotated { λ _. ⌜ now (rotated .exit) ≡ after (prepareRotatedOf setup (lent (now (rotation .entry)) (now (directions .entry)) (now (matrix .entry))) (now (query .entry)) (length (now (rotated .entry))) (length (now (projected .entry)))) (now (rotated .entry)) ⌝ }
+    ensures projected { λ _. ⌜ now (projected .exit) ≡ after (prepareProjectedOf setup (lent (now (rotation .entry)) (now (directions .entry)) (now (matrix .entry))) (now (query .entry)) (length (now (rotated .entry))) (length (now (projected .entry)))) (now (projected .entry)) ⌝ }
 {
-    if prepare_at_once(setup, signs, directions, matrix, query, rotated, projected) {
+    if prepare_at_once(
+        setup,
+        rotation,
+        directions,
+        matrix,
+        query,
+        rotated,
+        projected,
+    ) {
         return Outcome::Done;
     }
-    prepare_checked(setup, signs, directions, matrix, query, rotated, projected)
+    prepare_checked(
+        setup,
+        rotation,
+        directions,
+        matrix,
+        query,
+        rotated,
+        projected,
+    )
 }
 
 // Writes both outputs where nothing offends, and else answers false with neither written. A finite projection has finite terms only, so the matrix needs no pass of
 // its own.
 fn prepare_at_once(
     setup: Setup,
-    signs: &[f32],
+    rotation: &[f32],
     directions: &[f32],
     matrix: &[f32],
     query: &[f32],
     rotated: &mut [f32],
     projected: &mut [f32],
 ) -> bool
-    ensures rotated { λ r. ⌜ AtOnce (prepareRotatedOf setup (lent (now (signs .entry)) (now (directions .entry)) (now (matrix .entry))) (now (query .entry)) (length (now (rotated .entry))) (length (now (projected .entry)))) (now (rotated .entry)) r (now (rotated .exit)) ⌝ }
-    ensures projected { λ r. ⌜ AtOnce (prepareProjectedOf setup (lent (now (signs .entry)) (now (directions .entry)) (now (matrix .entry))) (now (query .entry)) (length (now (rotated .entry))) (length (now (projected .entry)))) (now (projected .entry)) r (now (projected .exit)) ⌝ }
+    ensures rotated { λ r. ⌜ AtOnce (prepareRotatedOf setup (lent (now (rotation .entry)) (now (directions .entry)) (now (matrix .entry))) (now (query .entry)) (length (now (rotated .entry))) (length (now (projected .entry)))) (now (rotated .entry)) r (now (rotated .exit)) ⌝ }
+    ensures projected { λ r. ⌜ AtOnce (prepareProjectedOf setup (lent (now (rotation .entry)) (now (directions .entry)) (now (matrix .entry))) (now (query .entry)) (length (now (rotated .entry))) (length (now (projected .entry)))) (now (projected .entry)) r (now (projected .exit)) ⌝ }
 {
-    let checked = setup_tables::check_but_entries(setup, signs, directions, matrix);
+    let checked = setup_tables::check_but_entries(setup, rotation, directions, matrix);
     if let Outcome::Refused { number, place } = checked {
         return false;
     }
@@ -64,7 +79,7 @@ fn prepare_at_once(
     if !error::all_finite(query) {
         return false;
     }
-    let handed = prepare(dim, rows, signs, matrix, query, rotated, projected);
+    let handed = prepare(setup, rows, rotation, matrix, query, rotated, projected);
     if let Outcome::Refused { number, place } = handed {
         return false;
     }
@@ -74,44 +89,44 @@ fn prepare_at_once(
 // Writes both outputs, or refuses, check by check: the checks of the matrix's entries come before those of the query.
 fn prepare_checked(
     setup: Setup,
-    signs: &[f32],
+    rotation: &[f32],
     directions: &[f32],
     matrix: &[f32],
     query: &[f32],
     rotated: &mut [f32],
     projected: &mut [f32],
 ) -> Outcome
-    ensures said { λ r. ⌜ says r ≡ done (prepareRotatedOf setup (lent (now (signs .entry)) (now (directions .entry)) (now (matrix .entry))) (now (query .entry)) (length (now (rotated .entry))) (length (now (projected .entry)))) ⌝ }
-    ensures rotated { λ _. ⌜ now (rotated .exit) ≡ after (prepareRotatedOf setup (lent (now (signs .entry)) (now (directions .entry)) (now (matrix .entry))) (now (query .entry)) (length (now (rotated .entry))) (length (now (projected .entry)))) (now (rotated .entry)) ⌝ }
-    ensures projected { λ _. ⌜ now (projected .exit) ≡ after (prepareProjectedOf setup (lent (now (signs .entry)) (now (directions .entry)) (now (matrix .entry))) (now (query .entry)) (length (now (rotated .entry))) (length (now (projected .entry)))) (now (projected .entry)) ⌝ }
+    ensures said { λ r. ⌜ says r ≡ done (prepareRotatedOf setup (lent (now (rotation .entry)) (now (directions .entry)) (now (matrix .entry))) (now (query .entry)) (length (now (rotated .entry))) (length (now (projected .entry)))) ⌝ }
+    ensures rotated { λ _. ⌜ now (rotated .exit) ≡ after (prepareRotatedOf setup (lent (now (rotation .entry)) (now (directions .entry)) (now (matrix .entry))) (now (query .entry)) (length (now (rotated .entry))) (length (now (projected .entry)))) (now (rotated .entry)) ⌝ }
+    ensures projected { λ _. ⌜ now (projected .exit) ≡ after (prepareProjectedOf setup (lent (now (rotation .entry)) (now (directions .entry)) (now (matrix .entry))) (now (query .entry)) (length (now (rotated .entry))) (length (now (projected .entry)))) (now (projected .entry)) ⌝ }
 {
-    let checked = qjl::check_vector(setup, signs, directions, matrix, query);
+    let checked = qjl::check_vector(setup, rotation, directions, matrix, query);
     if let Outcome::Refused { number, place } = checked {
         return Outcome::Refused { number, place };
     }
-    let dim = setup.dim;
     let rows = setup::counted_projections(setup);
-    prepare(dim, rows, signs, matrix, query, rotated, projected)
+    prepare(setup, rows, rotation, matrix, query, rotated, projected)
 }
 
 // Prepares a query of the right length under tables of the right lengths: it is rotated and projected in memory of its own, then handed over.
 fn prepare(
-    dim: usize,
+    setup: Setup,
     rows: usize,
-    signs: &[f32],
+    rotation: &[f32],
     matrix: &[f32],
     query: &[f32],
     out: &mut [f32],
     other: &mut [f32],
 ) -> Outcome
-    requires { ⌜ Queryable dim rows (now signs) (now matrix) (now query) ⌝ }
-    ensures { λ r. ⌜ Handed dim rows (rotatedBy dim (now (signs .entry)) (now (query .entry))) (projectedOn dim rows (now (matrix .entry)) (now (query .entry))) (now (out .entry)) (now (other .entry)) (says r) (now (out .exit)) (now (other .exit)) ⌝ }
+    requires { ⌜ Queryable setup rows (now rotation) (now matrix) (now query) ⌝ }
+    ensures { λ r. ⌜ Handed (setup .dim) rows (rotatedBy setup (now (rotation .entry)) (now (query .entry))) (projectedOn (setup .dim) rows (now (matrix .entry)) (now (query .entry))) (now (out .entry)) (now (other .entry)) (says r) (now (out .exit)) (now (other .exit)) ⌝ }
 {
+    let dim = setup.dim;
     let mut rotated = zeros();
     let mut projected = zeros();
     fill_query(
-        dim,
-        signs,
+        setup,
+        rotation,
         matrix,
         query,
         &mut rotated[0..dim],
@@ -122,19 +137,19 @@ fn prepare(
 
 // Writes the query rotated, and the query projected, each into an output of just its length.
 fn fill_query(
-    dim: usize,
-    signs: &[f32],
+    setup: Setup,
+    rotation: &[f32],
     matrix: &[f32],
     query: &[f32],
     rotated: &mut [f32],
     projected: &mut [f32],
 )
-    requires { ⌜ (first (rotationChecks dim (now signs) (length (now query)) (length (now rotated))) accepted ≡ accepted) × Rowed dim (now matrix) (now query) (length (now projected)) ⌝ }
-    ensures { λ _. ⌜ now (rotated .exit) ≡ rotatedBy dim (now (signs .entry)) (now (query .entry)) ⌝ }
-    ensures { λ _. ⌜ now (projected .exit) ≡ projectedOn dim (length (now (projected .entry))) (now (matrix .entry)) (now (query .entry)) ⌝ }
+    requires { ⌜ (first (turnChecks setup (now rotation) (length (now query)) (length (now rotated))) accepted ≡ accepted) × Rowed (setup .dim) (now matrix) (now query) (length (now projected)) ⌝ }
+    ensures { λ _. ⌜ now (rotated .exit) ≡ rotatedBy setup (now (rotation .entry)) (now (query .entry)) ⌝ }
+    ensures { λ _. ⌜ now (projected .exit) ≡ projectedOn (setup .dim) (length (now (projected .entry))) (now (matrix .entry)) (now (query .entry)) ⌝ }
 {
-    rotation::apply(dim, signs, query, rotated);
-    qjl_rows::project(dim, matrix, query, projected);
+    setup_rotation::rotate(setup, rotation, query, rotated);
+    qjl_rows::project(setup.dim, matrix, query, projected);
 }
 
 // Copies the rotated query to the one output and the projected query to the other, unless a value or a length is refused.

@@ -4,6 +4,7 @@ use error::Outcome;
 use packed::Code;
 use packed::SourceNorm;
 use radius::RadiusCodecProfileV1;
+use setup::RotationKind;
 use setup::Setup;
 use setup::TurboMode;
 
@@ -171,6 +172,7 @@ fn setup_of(rows: usize) -> Setup {
         dim: 4,
         bits: if rows == 0 { 2 } else { 3 },
         projections: rows,
+        rotation: RotationKind::FastHadamard,
     }
 }
 

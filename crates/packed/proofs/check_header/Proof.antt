@@ -53,7 +53,7 @@ passed c =
       map = known (c .before .before .before .before);
       above = all .0;
       even = all .1 .0;
-      power = all .1 .1 .0;
+      most = all .1 .1 .0;
       bits = all .1 .1 .1 .0;
       header = ap (ltb (length bytes)) (sym (c .before .header-length .ensures)) ∙ le-ltb _ _ (c .if3 .left);
     }

@@ -31,7 +31,7 @@ record Sizes (head width pairs bits signs : ℕ) : Type 0 where
   indices-most : pairs * bits ≤ 32768
   signs-most : signs ≤ 4096
 
-sizes : (c : tie.After-width-of) → let code = c .before .before .before .before .before .before .before .args .code in Sizes (c .before .header-length .result) (c .width-of .result) (code .dim / 2) (code .bits) (c .before .before .before .counted-projections .result)
+sizes : (c : tie.After-width-of) → let code = c .before .before .before .before .before .before .before .args .code in Sizes (c .before .header-length .result) (c .width-of .result) (code .dim / 2) (code .bits) (c .before .before .before .counted-in .result)
 sizes c =
     let code = c .before .before .before .before .before .before .before .args .code in
     let z = code-small code (passed (c .before .before .before .before)) in
@@ -40,7 +40,7 @@ sizes c =
       head-most = omega (arith, c .before .header-length .ensures);
       radii-most = product-most (c .width-of .result) (code .dim / 2) 4 2048 (omega (arith, w, c .width-of .ensures)) (omega (arith, z .dim-most));
       indices-most = product-most (code .dim / 2) (code .bits) 2048 16 (omega (arith, z .dim-most)) (z .bits-most);
-      signs-most = omega (arith, z .signs-most, c .before .before .before .counted-projections .ensures);
+      signs-most = omega (arith, z .signs-most, c .before .before .before .counted-in .ensures);
     }
 
 check-code-requires : tie.Need-check-code-requires
@@ -56,8 +56,8 @@ returns c = sym (first-refused (codeChecks (c .before .before .before .before .a
 enum-told : tie.Need-enum-told
 enum-told c = search needs
 
-counted-projections-requires : tie.Need-counted-projections-requires
-counted-projections-requires c κs = search needs
+counted-in-requires : tie.Need-counted-in-requires
+counted-in-requires c κs = search needs
 
 map-for-requires : tie.Need-map-for-requires
 map-for-requires c κs = search needs
@@ -99,9 +99,9 @@ returns-2 c =
     let codes = bytesFor (code .dim / 2 * code .bits) in
     let pairs = code .dim / 2 in
     ap value
-    (ap (λ (n : ℕ). n + c .width-of .result * pairs + codes + bytesFor (c .before .before .before .counted-projections .result)) (c .before .header-length .ensures ∙ ap headerLength (c .before .before .map-for .ensures))
-    ∙ ap (λ (w : ℕ). headerLength (mapFor (code .profile) (code .mode) (code .norm)) + w * pairs + codes + bytesFor (c .before .before .before .counted-projections .result)) (c .width-of .ensures)
-    ∙ ap (λ (m : ℕ). neededWith code m) (c .before .before .before .counted-projections .ensures))
+    (ap (λ (n : ℕ). n + c .width-of .result * pairs + codes + bytesFor (c .before .before .before .counted-in .result)) (c .before .header-length .ensures ∙ ap headerLength (c .before .before .map-for .ensures))
+    ∙ ap (λ (w : ℕ). headerLength (mapFor (code .profile) (code .mode) (code .norm)) + w * pairs + codes + bytesFor (c .before .before .before .counted-in .result)) (c .width-of .ensures)
+    ∙ ap (λ (m : ℕ). neededWith code m) (c .before .before .before .counted-in .ensures))
     ∙ sym (first-passed (codeChecks code) (value (neededFor code)) (passed (c .before .before .before .before)))
 
 pub record-size-spec : {M : Type 1} → statement M
@@ -112,7 +112,7 @@ record-size-spec =
     enum-known-number
     returns
     enum-told
-    counted-projections-requires
+    counted-in-requires
     map-for-requires
     header-length-requires
     width-of-requires

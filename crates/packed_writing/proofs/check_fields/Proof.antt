@@ -27,8 +27,8 @@ returns c =
 enum-told : tie.Need-enum-told
 enum-told c = search needs
 
-counted-projections-requires : tie.Need-counted-projections-requires
-counted-projections-requires c κs = search needs
+counted-in-requires : tie.Need-counted-in-requires
+counted-in-requires c κs = search needs
 
 check-lengths-requires : tie.Need-check-lengths-requires
 check-lengths-requires c κs = search needs
@@ -42,17 +42,17 @@ unfolding recordSizeOf
 passed c = sym (c .before .before .record-size .ensures) ∙ ap saysLength (c .enum-told .given .1)
 
 -- what is left are the lengths
-lengths-left : (c : tie.After-check-lengths) → let a = c .before .before .before .before .before .args in first (fieldChecks (a .code) (a .radii) (a .indices) (a .signs)) (value (neededFor (a .code))) ≡ first (lengthChecks (a .code .dim / 2) (c .before .counted-projections .result) (a .radii) (a .indices) (a .signs)) (value (neededFor (a .code)))
+lengths-left : (c : tie.After-check-lengths) → let a = c .before .before .before .before .before .args in first (fieldChecks (a .code) (a .radii) (a .indices) (a .signs)) (value (neededFor (a .code))) ≡ first (lengthChecks (a .code .dim / 2) (c .before .counted-in .result) (a .radii) (a .indices) (a .signs)) (value (neededFor (a .code)))
 lengths-left c =
     let a = c .before .before .before .before .before .args in
     fields-rest (a .code) (a .radii) (a .indices) (a .signs) (neededFor (a .code)) (value (neededFor (a .code))) (passed (c .before .before))
-    ∙ ap (λ (n : ℕ). first (lengthChecks (a .code .dim / 2) n (a .radii) (a .indices) (a .signs)) (value (neededFor (a .code)))) (sym (c .before .counted-projections .ensures))
+    ∙ ap (λ (n : ℕ). first (lengthChecks (a .code .dim / 2) n (a .radii) (a .indices) (a .signs)) (value (neededFor (a .code)))) (sym (c .before .counted-in .ensures))
 
 returns-2 : tie.Need-returns-2
 returns-2 c =
     let k = c .before .before .before in
     let a = k .before .before .before .before .before .args in
-    sym (lengths-left k ∙ first-refused (lengthChecks (a .code .dim / 2) (k .before .counted-projections .result) (a .radii) (a .indices) (a .signs)) (value (neededFor (a .code))) (sym (k .check-lengths .ensures) ∙ ap says (c .before .lengths .given .1)))
+    sym (lengths-left k ∙ first-refused (lengthChecks (a .code .dim / 2) (k .before .counted-in .result) (a .radii) (a .indices) (a .signs)) (value (neededFor (a .code))) (sym (k .check-lengths .ensures) ∙ ap says (c .before .lengths .given .1)))
 
 enum-told-2 : tie.Need-enum-told-2
 enum-told-2 c = search needs
@@ -66,7 +66,7 @@ returns-3 c =
     k .before .before .before .before .record-size .ensures
     ∙ told
     ∙ ap value (sym (first-value (codeChecks (a .code)) (neededFor (a .code)) told))
-    ∙ sym (lengths-left k ∙ first-passed (lengthChecks (a .code .dim / 2) (k .before .counted-projections .result) (a .radii) (a .indices) (a .signs)) (value (neededFor (a .code))) (sym (k .check-lengths .ensures) ∙ ap says (c .enum-told2 .given .1)))
+    ∙ sym (lengths-left k ∙ first-passed (lengthChecks (a .code .dim / 2) (k .before .counted-in .result) (a .radii) (a .indices) (a .signs)) (value (neededFor (a .code))) (sym (k .check-lengths .ensures) ∙ ap says (c .enum-told2 .given .1)))
 
 pub check-fields-spec : {M : Type 1} → statement M
 check-fields-spec =
@@ -76,7 +76,7 @@ check-fields-spec =
     enum-known-size
     returns
     enum-told
-    counted-projections-requires
+    counted-in-requires
     check-lengths-requires
     enum-known-lengths
     returns-2

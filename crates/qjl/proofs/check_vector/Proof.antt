@@ -15,25 +15,25 @@ enum-known-checked c = search needs
 
 returns : tie.Need-returns
 returns c = let a = c .before .before .before .before .before .before .before .before .args in
-    sym (vector-refused (a .setup) (lent (a .signs .now) (a .directions .now) (a .matrix .now)) (a .vector .now) (sym (c .before .before .before .check-setup .ensures) ∙ ap says (c .before .checked .given .1)))
+    sym (vector-refused (a .setup) (lent (a .rotation .now) (a .directions .now) (a .matrix .now)) (a .vector .now) (sym (c .before .before .before .check-setup .ensures) ∙ ap says (c .before .checked .given .1)))
 
 enum-told : tie.Need-enum-told
 enum-told c = search needs
 
 returns-2 : tie.Need-returns-2
 returns-2 c = let a = c .before .before .before .before .before .before .before .before .args in
-    sym (vector-length (a .setup) (lent (a .signs .now) (a .directions .now) (a .matrix .now)) (a .vector .now) (sym (c .before .before .before .check-setup .ensures) ∙ ap says (c .before .enum-told .given .1)) (c .if1 .taken))
+    sym (vector-length (a .setup) (lent (a .rotation .now) (a .directions .now) (a .matrix .now)) (a .vector .now) (sym (c .before .before .before .check-setup .ensures) ∙ ap says (c .before .enum-told .given .1)) (c .if1 .taken))
 
 first-non-finite-requires : tie.Need-first-non-finite-requires
 first-non-finite-requires c κs = search needs
 
 returns-3 : tie.Need-returns-3
 returns-3 c = let a = c .before .before .before .before .before .before .before .before .before .before .args in
-    sym (vector-entry (a .setup) (lent (a .signs .now) (a .directions .now) (a .matrix .now)) (a .vector .now) (sym (c .before .before .before .before .before .check-setup .ensures) ∙ ap says (c .before .before .before .enum-told .given .1)) (c .before .before .if1 .left) (c .before .first-non-finite .ensures) (c .if2 .taken))
+    sym (vector-entry (a .setup) (lent (a .rotation .now) (a .directions .now) (a .matrix .now)) (a .vector .now) (sym (c .before .before .before .before .before .check-setup .ensures) ∙ ap says (c .before .before .before .enum-told .given .1)) (c .before .before .if1 .left) (c .before .first-non-finite .ensures) (c .if2 .taken))
 
 returns-4 : tie.Need-returns-4
 returns-4 c = let a = c .before .before .before .before .before .before .before .before .before .before .args in
-    sym (vector-passed (a .setup) (lent (a .signs .now) (a .directions .now) (a .matrix .now)) (a .vector .now) (sym (c .before .before .before .before .before .check-setup .ensures) ∙ ap says (c .before .before .before .enum-told .given .1)) (c .before .before .if1 .left) (c .before .first-non-finite .ensures) (c .if2 .left))
+    sym (vector-passed (a .setup) (lent (a .rotation .now) (a .directions .now) (a .matrix .now)) (a .vector .now) (sym (c .before .before .before .before .before .check-setup .ensures) ∙ ap says (c .before .before .before .enum-told .given .1)) (c .before .before .if1 .left) (c .before .first-non-finite .ensures) (c .if2 .left))
 
 pub check-vector-spec : {M : Type 1} → statement M
 check-vector-spec =

@@ -25,7 +25,7 @@ same-length-2 c = search needs
 
 returns-2 : tie.Need-returns-2
 returns-2 c = let a = c .before .before .before .before .before .before .before .before .before .before .before .args in
-    sketch-again (a .setup) (lent (a .signs .now) (a .directions .now) (a .matrix .now)) (a .vector .now) _ _ _ _ (c .before .before .before .before .before .sketch-at-once .ensures .kept (c .before .before .before .if1 .left)) (c .before .sketch-checked .ensures)
+    sketch-again (a .setup) (lent (a .rotation .now) (a .directions .now) (a .matrix .now)) (a .vector .now) _ _ _ _ (c .before .before .before .before .before .sketch-at-once .ensures .kept (c .before .before .before .if1 .left)) (c .before .sketch-checked .ensures)
 
 pub sketch-spec : {M : Type 1} → statement M
 sketch-spec =

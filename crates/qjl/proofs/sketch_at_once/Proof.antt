@@ -11,7 +11,7 @@ use Rattle.qjl.proofs.sketch_at_once.Statement.{statement}
 use Rattle.qjl.proofs.sketch_at_once.Tie as tie
 
 -- what the checks leave, where they are done
-passed : (c : tie.After-enum-told) → first (setupChecksButEntries (c .before .before .before .before .before .before .before .args .setup) (lent (c .before .before .before .before .before .before .before .args .signs .now) (c .before .before .before .before .before .before .before .args .directions .now) (c .before .before .before .before .before .before .before .args .matrix .now))) accepted ≡ accepted
+passed : (c : tie.After-enum-told) → first (setupChecksButEntries (c .before .before .before .before .before .before .before .args .setup) (lent (c .before .before .before .before .before .before .before .args .rotation .now) (c .before .before .before .before .before .before .before .args .directions .now) (c .before .before .before .before .before .before .before .args .matrix .now))) accepted ≡ accepted
 passed c = sym (c .before .before .check-but-entries .ensures) ∙ ap says (c .enum-told .given .1)
 
 check-but-entries-requires : tie.Need-check-but-entries-requires
@@ -40,14 +40,14 @@ returns-4 c = at-once-left _ _ _ refl
 
 sketch-rows-requires : tie.Need-sketch-rows-requires
 sketch-rows-requires c κs = let a = c .before .before .before .before .before .before .before .before .before .before .before .before .args in
-    shaped-ready (a .setup) (lent (a .signs .now) (a .directions .now) (a .matrix .now)) (a .vector .now) _ (passed (c .before .before .before .before .before)) (c .before .before .before .if1 .left) (c .before .before .before .before .counted-projections .ensures) (c .before .if3 .left)
+    shaped-ready (a .setup) (lent (a .rotation .now) (a .directions .now) (a .matrix .now)) (a .vector .now) _ (passed (c .before .before .before .before .before)) (c .before .before .before .if1 .left) (c .before .before .before .before .counted-projections .ensures) (c .before .if3 .left)
 
 same-length : tie.Need-same-length
 same-length c = search needs
 
 returns-5 : tie.Need-returns-5
 returns-5 c = let a = c .before .before .before .before .before .before .before .before .before .before .before .before .before .before .args in
-    at-once-signs _ (shaped-value (a .setup) (lent (a .signs .now) (a .directions .now) (a .matrix .now)) (a .vector .now) _ (passed (c .before .before .before .before .before .before .before)) (c .before .before .before .before .before .if1 .left) (c .before .before .before .before .before .before .counted-projections .ensures) (c .before .before .before .if3 .left) (c .before .before .before .before .if2 .left)) (c .before .sketch-rows .ensures)
+    at-once-signs _ (shaped-value (a .setup) (lent (a .rotation .now) (a .directions .now) (a .matrix .now)) (a .vector .now) _ (passed (c .before .before .before .before .before .before .before)) (c .before .before .before .before .before .if1 .left) (c .before .before .before .before .before .before .counted-projections .ensures) (c .before .before .before .if3 .left) (c .before .before .before .before .if2 .left)) (c .before .sketch-rows .ensures)
 
 pub sketch-at-once-spec : {M : Type 1} → statement M
 sketch-at-once-spec =

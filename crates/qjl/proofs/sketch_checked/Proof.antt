@@ -11,7 +11,7 @@ use Rattle.qjl.proofs.sketch_checked.Statement.{statement}
 use Rattle.qjl.proofs.sketch_checked.Tie as tie
 
 -- what the checks leave, where they are done
-passed : (c : tie.After-enum-told) → first (vectorChecks (c .before .before .before .before .before .before .before .args .setup) (lent (c .before .before .before .before .before .before .before .args .signs .now) (c .before .before .before .before .before .before .before .args .directions .now) (c .before .before .before .before .before .before .before .args .matrix .now)) (c .before .before .before .before .before .before .before .args .vector .now)) accepted ≡ accepted
+passed : (c : tie.After-enum-told) → first (vectorChecks (c .before .before .before .before .before .before .before .args .setup) (lent (c .before .before .before .before .before .before .before .args .rotation .now) (c .before .before .before .before .before .before .before .args .directions .now) (c .before .before .before .before .before .before .before .args .matrix .now)) (c .before .before .before .before .before .before .before .args .vector .now)) accepted ≡ accepted
 passed c = sym (c .before .before .check-vector .ensures) ∙ ap says (c .enum-told .given .1)
 
 check-vector-requires : tie.Need-check-vector-requires
@@ -22,7 +22,7 @@ enum-known-checked c = search needs
 
 returns : tie.Need-returns
 returns c = let a = c .before .before .before .before .before .before .before .before .args in
-    both-refused _ _ (sketch-refused (a .setup) (lent (a .signs .now) (a .directions .now) (a .matrix .now)) (a .vector .now) _ (sym (c .before .before .before .check-vector .ensures) ∙ ap says (c .before .checked .given .1)))
+    both-refused _ _ (sketch-refused (a .setup) (lent (a .rotation .now) (a .directions .now) (a .matrix .now)) (a .vector .now) _ (sym (c .before .before .before .check-vector .ensures) ∙ ap says (c .before .checked .given .1)))
 
 enum-told : tie.Need-enum-told
 enum-told c = search needs
@@ -32,18 +32,18 @@ counted-projections-requires c κs = search needs
 
 returns-2 : tie.Need-returns-2
 returns-2 c = let a = c .before .before .before .before .before .before .before .before .before .args in
-    both-refused _ _ (sketch-room (a .setup) (lent (a .signs .now) (a .directions .now) (a .matrix .now)) (a .vector .now) _ (passed (c .before .before)) (c .before .counted-projections .ensures) (c .if1 .taken))
+    both-refused _ _ (sketch-room (a .setup) (lent (a .rotation .now) (a .directions .now) (a .matrix .now)) (a .vector .now) _ (passed (c .before .before)) (c .before .counted-projections .ensures) (c .if1 .taken))
 
 sketch-rows-requires : tie.Need-sketch-rows-requires
 sketch-rows-requires c κs = let a = c .before .before .before .before .before .before .before .before .before .before .args in
-    vector-ready (a .setup) (lent (a .signs .now) (a .directions .now) (a .matrix .now)) (a .vector .now) (passed (c .before .before .before)) (c .before .before .counted-projections .ensures) (c .before .if1 .left)
+    vector-ready (a .setup) (lent (a .rotation .now) (a .directions .now) (a .matrix .now)) (a .vector .now) (passed (c .before .before .before)) (c .before .before .counted-projections .ensures) (c .before .if1 .left)
 
 same-length : tie.Need-same-length
 same-length c = search needs
 
 returns-3 : tie.Need-returns-3
 returns-3 c = let a = c .before .before .before .before .before .before .before .before .before .before .before .before .args in
-    both-value _ _ _ (sketch-value (a .setup) (lent (a .signs .now) (a .directions .now) (a .matrix .now)) (a .vector .now) _ (passed (c .before .before .before .before .before)) (c .before .before .before .before .counted-projections .ensures) (c .before .before .before .if1 .left)) (c .before .sketch-rows .ensures .signs (c .before .sketch-rows .ensures .whole refl))
+    both-value _ _ _ (sketch-value (a .setup) (lent (a .rotation .now) (a .directions .now) (a .matrix .now)) (a .vector .now) _ (passed (c .before .before .before .before .before)) (c .before .before .before .before .counted-projections .ensures) (c .before .before .before .if1 .left)) (c .before .sketch-rows .ensures .signs (c .before .sketch-rows .ensures .whole refl))
 
 pub sketch-checked-spec : {M : Type 1} → statement M
 sketch-checked-spec =

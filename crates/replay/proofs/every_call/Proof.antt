@@ -8,8 +8,8 @@ pub every-call-spec : {M : Type 1} → statement M
 every-call-spec =
     tie.close
     (tie.spec
-    (λ cases₀ differ₀ call₀ cases differ call. call ≤ 34)
-    (λ cases₀ differ₀ call₀ cases differ call. 34 - call)
+    (λ cases₀ differ₀ call₀ cases differ call. call ≤ 36)
+    (λ cases₀ differ₀ call₀ cases differ call. 36 - call)
     (λ c. search needs)
     (λ c κs. search needs)
     (λ c κs. search needs)

@@ -1,5 +1,5 @@
 -- `setup::check_scalars` meets its contract: a check that passes leaves the rest of the list. Assumes nothing.
-use mathlib.Core.Path.{refl, sym, _∙_}
+use mathlib.Core.Path.{sym, _∙_}
 use borrow.Author.Tests.{eq-eqb, ne-eqb}
 use borrow.Author.Needs.{needs}
 use Rattle.setup.proofs.Steps.{stops, goes-on}
@@ -15,8 +15,8 @@ returns-2 c = goes-on _ _ _ (ne-eqb _ _ (c .before .if1 .left)) (stops _ _ _ (eq
 outside-bits-requires : tie.Need-outside-bits-requires
 outside-bits-requires c κs = search needs
 
-cast-t7 : tie.Need-cast-t7
-cast-t7 c = search needs
+cast-t8 : tie.Need-cast-t8
+cast-t8 c = search needs
 
 returns-3 : tie.Need-returns-3
 returns-3 c = goes-on _ _ _ (ne-eqb _ _ (c .before .before .before .before .if1 .left)) (goes-on _ _ _ (ne-eqb _ _ (c .before .before .before .if2 .left)) (stops _ _ _ (sym (c .before .before .outside-bits .ensures) ∙ c .before .if3 .taken)))
@@ -27,14 +27,11 @@ outside-projections-requires c κs = search needs
 returns-4 : tie.Need-returns-4
 returns-4 c = goes-on _ _ _ (ne-eqb _ _ (c .before .before .before .before .before .if1 .left)) (goes-on _ _ _ (ne-eqb _ _ (c .before .before .before .before .if2 .left)) (goes-on _ _ _ (sym (c .before .before .before .outside-bits .ensures) ∙ c .before .before .if3 .left) (stops _ _ _ (sym (c .before .outside-projections .ensures) ∙ c .if4 .taken))))
 
-outside-powers-requires : tie.Need-outside-powers-requires
-outside-powers-requires c κs = search needs
+check-rotation-dimension-requires : tie.Need-check-rotation-dimension-requires
+check-rotation-dimension-requires c κs = search needs
 
 returns-5 : tie.Need-returns-5
-returns-5 c = goes-on _ _ _ (ne-eqb _ _ (c .before .before .before .before .before .before .before .if1 .left)) (goes-on _ _ _ (ne-eqb _ _ (c .before .before .before .before .before .before .if2 .left)) (goes-on _ _ _ (sym (c .before .before .before .before .before .outside-bits .ensures) ∙ c .before .before .before .before .if3 .left) (goes-on _ _ _ (sym (c .before .before .before .outside-projections .ensures) ∙ c .before .before .if4 .left) (stops _ _ _ (sym (c .before .outside-powers .ensures) ∙ c .if5 .taken)))))
-
-returns-6 : tie.Need-returns-6
-returns-6 c = goes-on _ _ _ (ne-eqb _ _ (c .before .before .before .before .before .before .before .if1 .left)) (goes-on _ _ _ (ne-eqb _ _ (c .before .before .before .before .before .before .if2 .left)) (goes-on _ _ _ (sym (c .before .before .before .before .before .outside-bits .ensures) ∙ c .before .before .before .before .if3 .left) (goes-on _ _ _ (sym (c .before .before .before .outside-projections .ensures) ∙ c .before .before .if4 .left) (goes-on _ _ _ (sym (c .before .outside-powers .ensures) ∙ c .if5 .left) refl))))
+returns-5 c = goes-on _ _ _ (ne-eqb _ _ (c .before .before .before .before .before .before .if1 .left)) (goes-on _ _ _ (ne-eqb _ _ (c .before .before .before .before .before .if2 .left)) (goes-on _ _ _ (sym (c .before .before .before .before .outside-bits .ensures) ∙ c .before .before .before .if3 .left) (goes-on _ _ _ (sym (c .before .before .outside-projections .ensures) ∙ c .before .if4 .left) (c .check-rotation-dimension .ensures))))
 
 pub check-scalars-spec : {M : Type 1} → statement M
 check-scalars-spec =
@@ -43,10 +40,9 @@ check-scalars-spec =
     returns
     returns-2
     outside-bits-requires
-    cast-t7
+    cast-t8
     returns-3
     outside-projections-requires
     returns-4
-    outside-powers-requires
-    returns-5
-    returns-6)
+    check-rotation-dimension-requires
+    returns-5)

@@ -26,7 +26,7 @@ returns : tie.Need-returns
 returns c =
     let a = c .before .before .before .before .before .before .before .args in
     sym
-    (append-refused (scalarChecks (a .setup)) (tableChecksButEntries (a .setup) (lent (a .signs .now) (a .directions .now) (a .matrix .now))) tt accepted
+    (append-refused (scalarChecks (a .setup)) (tableChecksButEntries (a .setup) (lent (a .rotation .now) (a .directions .now) (a .matrix .now))) tt accepted
     (sym (c .before .before .before .check-scalars .ensures) ∙ ap says (c .before .scalars .given .1)))
 
 returns-2 : tie.Need-returns-2
@@ -34,7 +34,7 @@ returns-2 c =
     let a = c .before .before .before .before .before .before .before .args in
     c .check-tables .ensures
     ∙ sym
-    (append-passed (scalarChecks (a .setup)) (tableChecksButEntries (a .setup) (lent (a .signs .now) (a .directions .now) (a .matrix .now))) tt accepted
+    (append-passed (scalarChecks (a .setup)) (tableChecksButEntries (a .setup) (lent (a .rotation .now) (a .directions .now) (a .matrix .now))) tt accepted
     (sym (c .before .before .before .check-scalars .ensures) ∙ ap says (c .before .enum-told .given .1)))
 
 pub check-but-entries-spec : {M : Type 1} → statement M

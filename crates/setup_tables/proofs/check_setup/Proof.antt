@@ -12,7 +12,7 @@ use Rattle.setup_tables.proofs.check_setup.Statement.{statement}
 use Rattle.setup_tables.proofs.check_setup.Tie as tie
 
 -- what the checks leave, where they are done
-passed : (c : tie.After-enum-told) → first (setupChecksButEntries (c .before .before .before .before .before .before .args .setup) (lent (c .before .before .before .before .before .before .args .signs .now) (c .before .before .before .before .before .before .args .directions .now) (c .before .before .before .before .before .before .args .matrix .now))) accepted ≡ accepted
+passed : (c : tie.After-enum-told) → first (setupChecksButEntries (c .before .before .before .before .before .before .args .setup) (lent (c .before .before .before .before .before .before .args .rotation .now) (c .before .before .before .before .before .before .args .directions .now) (c .before .before .before .before .before .before .args .matrix .now))) accepted ≡ accepted
 passed c = sym (c .before .before .check-but-entries .ensures) ∙ ap says (c .enum-told .given .1)
 
 check-but-entries-requires : tie.Need-check-but-entries-requires
@@ -30,19 +30,19 @@ counted-projections-requires c κs = search needs
 check-entries-requires : tie.Need-check-entries-requires
 check-entries-requires c κs =
     let a = c .before .before .before .before .before .before .before .args in
-    ap (λ (n : ℕ). n * a .setup .dim) (c .counted-projections .ensures) ∙ sym (but-entries-long (a .setup) (lent (a .signs .now) (a .directions .now) (a .matrix .now)) (passed (c .before)))
+    ap (λ (n : ℕ). n * a .setup .dim) (c .counted-projections .ensures) ∙ sym (but-entries-long (a .setup) (lent (a .rotation .now) (a .directions .now) (a .matrix .now)) (passed (c .before)))
 
 returns : tie.Need-returns
 returns c =
     let a = c .before .before .before .before .before .before .before .args in
     sym
-    (append-refused (setupChecksButEntries (a .setup) (lent (a .signs .now) (a .directions .now) (a .matrix .now))) (entryChecks (a .matrix .now)) tt accepted
+    (append-refused (setupChecksButEntries (a .setup) (lent (a .rotation .now) (a .directions .now) (a .matrix .now))) (entryChecks (a .matrix .now)) tt accepted
     (sym (c .before .before .before .check-but-entries .ensures) ∙ ap says (c .before .checked .given .1)))
 
 returns-2 : tie.Need-returns-2
 returns-2 c =
     let a = c .before .before .before .before .before .before .before .before .args in
-    c .check-entries .ensures ∙ sym (but-entries-rest (a .setup) (lent (a .signs .now) (a .directions .now) (a .matrix .now)) (passed (c .before .before)))
+    c .check-entries .ensures ∙ sym (but-entries-rest (a .setup) (lent (a .rotation .now) (a .directions .now) (a .matrix .now)) (passed (c .before .before)))
 
 pub check-setup-spec : {M : Type 1} → statement M
 check-setup-spec =

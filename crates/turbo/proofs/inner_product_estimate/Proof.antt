@@ -11,11 +11,11 @@ use Rattle.turbo.proofs.Demand.{demand}
 use Rattle.turbo.proofs.inner_product_estimate.Statement.{statement}
 use Rattle.turbo.proofs.inner_product_estimate.Tie as tie
 
-demanded : (c : tie.After-shared-slice-known5) → let a = c .before .before .before .before .before .args in Demand (a .setup) (lent (a .signs .now) (a .directions .now) (a .matrix .now)) (a .query .now)
+demanded : (c : tie.After-shared-slice-known5) → let a = c .before .before .before .before .before .args in Demand (a .setup) (lent (a .rotation .now) (a .directions .now) (a .matrix .now)) (a .query .now)
 demanded c =
     let a = c .before .before .before .before .before .args in
-    demand (a .setup) (lent (a .signs .now) (a .directions .now) (a .matrix .now)) (a .query .now)
-    (all-fit-from (a .signs .now) nan (λ j h. c .before .before .before .before .shared-slice-known .given j))
+    demand (a .setup) (lent (a .rotation .now) (a .directions .now) (a .matrix .now)) (a .query .now)
+    (all-fit-from (a .rotation .now) nan (λ j h. c .before .before .before .before .shared-slice-known .given j))
     (all-fit-from (a .directions .now) nan (λ j h. c .before .before .before .shared-slice-known2 .given j))
     (all-fit-from (a .matrix .now) nan (λ j h. c .before .before .shared-slice-known3 .given j))
     (all-fit-from (a .query .now) nan (λ j h. c .before .shared-slice-known4 .given j))
@@ -29,7 +29,7 @@ without-phase-requires c κs = search needs
 returns : tie.Need-returns
 returns c =
     let a = c .before .before .before .before .before .before .before .args in (
-      c .without-phase .ensures ∙ ap joined (c .before .inner-product-estimate-phased .ensures) ∙ phased-joined (a .setup) (lent (a .signs .now) (a .directions .now) (a .matrix .now)) (a .query .now) (a .bytes .now),
+      c .without-phase .ensures ∙ ap joined (c .before .inner-product-estimate-phased .ensures) ∙ phased-joined (a .setup) (lent (a .rotation .now) (a .directions .now) (a .matrix .now)) (a .query .now) (a .bytes .now),
       demanded (c .before .before),
     )
 

@@ -17,13 +17,13 @@ use Rattle.turbo.proofs.l2_distance_estimate.Statement.{statement}
 use Rattle.turbo.proofs.l2_distance_estimate.Tie as tie
 
 -- what the score's call has answered
-answered : (c : tie.After-without-phase) → let a = c .before .before .before .before .before .before .before .before .before .before .before .args in saysScore (c .without-phase .result) ≡ innerProductEstimateOf (a .setup) (lent (a .signs .now) (a .directions .now) (a .matrix .now)) (a .query .now) (a .bytes .now)
+answered : (c : tie.After-without-phase) → let a = c .before .before .before .before .before .before .before .before .before .before .before .args in saysScore (c .without-phase .result) ≡ innerProductEstimateOf (a .setup) (lent (a .rotation .now) (a .directions .now) (a .matrix .now)) (a .query .now) (a .bytes .now)
 answered c =
     let a = c .before .before .before .before .before .before .before .before .before .before .before .args in
-    c .without-phase .ensures ∙ ap joined (c .before .before .measure .ensures .0) ∙ phased-joined (a .setup) (lent (a .signs .now) (a .directions .now) (a .matrix .now)) (a .query .now) (a .bytes .now)
+    c .without-phase .ensures ∙ ap joined (c .before .before .measure .ensures .0) ∙ phased-joined (a .setup) (lent (a .rotation .now) (a .directions .now) (a .matrix .now)) (a .query .now) (a .bytes .now)
 
 -- a score
-scored : (c : tie.After-known-told) → let a = c .before .before .before .before .before .before .before .before .before .before .before .before .before .before .args in innerProductEstimateOf (a .setup) (lent (a .signs .now) (a .directions .now) (a .matrix .now)) (a .query .now) (a .bytes .now) ≡ value (c .before .score .given .0 .0)
+scored : (c : tie.After-known-told) → let a = c .before .before .before .before .before .before .before .before .before .before .before .before .before .before .args in innerProductEstimateOf (a .setup) (lent (a .rotation .now) (a .directions .now) (a .matrix .now)) (a .query .now) (a .bytes .now) ≡ value (c .before .score .given .0 .0)
 scored c = sym (answered (c .before .before .before)) ∙ ap saysScore (c .before .score .given .1)
 
 -- and the radii that are left beside it
@@ -57,7 +57,7 @@ part-distance-from-score-end : tie.Need-part-distance-from-score-end
 part-distance-from-score-end c =
     let k = c .before in
     let a = k .before .before .before .before .before .before .before .before .before .before .before .before .before .before .args in
-    front-enough (a .bytes .now) _ (scored-pairs (a .setup) (lent (a .signs .now) (a .directions .now) (a .matrix .now)) (a .query .now) (a .bytes .now) (scored k)) (left k)
+    front-enough (a .bytes .now) _ (scored-pairs (a .setup) (lent (a .rotation .now) (a .directions .now) (a .matrix .now)) (a .query .now) (a .bytes .now) (scored k)) (left k)
 
 distance-from-score-requires : tie.Need-distance-from-score-requires
 distance-from-score-requires c κs = search needs
@@ -72,7 +72,7 @@ returns : tie.Need-returns
 returns c =
     let k = c .before .before .before in
     let a = k .before .before .before .before .before .before .before .before .before .before .before .before .before .before .args in
-    let l = lent (a .signs .now) (a .directions .now) (a .matrix .now) in
+    let l = lent (a .rotation .now) (a .directions .now) (a .matrix .now) in
     let radii = front-taken (a .bytes .now) _ (scored-pairs (a .setup) l (a .query .now) (a .bytes .now) (scored k)) (left k) in
     c .distance-from-score .ensures
     ∙ ap (λ (xs : List Float). distanceFromScoreOf (a .query .now) xs (k .before .score .given .0 .0)) radii
@@ -81,12 +81,12 @@ returns c =
 returns-2 : tie.Need-returns-2
 returns-2 c =
     let a = c .before .before .before .before .before .before .before .before .before .before .before .before .before .before .args in
-    sym (distance-refused (a .setup) (lent (a .signs .now) (a .directions .now) (a .matrix .now)) (a .query .now) (a .bytes .now) (sym (answered (c .before .before .before)) ∙ ap saysScore (c .before .number .given .1)))
+    sym (distance-refused (a .setup) (lent (a .rotation .now) (a .directions .now) (a .matrix .now)) (a .query .now) (a .bytes .now) (sym (answered (c .before .before .before)) ∙ ap saysScore (c .before .number .given .1)))
 
 returns-3 : tie.Need-returns-3
 returns-3 c =
     let a = c .before .before .before .before .before .before .before .before .before .before .before .before .before .args in
-    sym (distance-withdrawn (a .setup) (lent (a .signs .now) (a .directions .now) (a .matrix .now)) (a .query .now) (a .bytes .now) (sym (answered (c .before .before)) ∙ ap saysScore (c .enum-told .given .1)))
+    sym (distance-withdrawn (a .setup) (lent (a .rotation .now) (a .directions .now) (a .matrix .now)) (a .query .now) (a .bytes .now) (sym (answered (c .before .before)) ∙ ap saysScore (c .enum-told .given .1)))
 
 pub l2-distance-estimate-spec : {M : Type 1} → statement M
 l2-distance-estimate-spec =

@@ -28,7 +28,7 @@ returns c = c .before .before .measure-query .ensures
 returns-2 : tie.Need-returns-2
 returns-2 c =
     let a = c .before .before .before .before .before .before .before .before .before .before .args in
-    let l = lent (a .signs .now) (a .directions .now) (a .matrix .now) in
+    let l = lent (a .rotation .now) (a .directions .now) (a .matrix .now) in
     (sym (phased-refused (a .setup) l (a .query .now) (a .bytes .now) (query-scalars (a .setup) l (a .query .now) (sym (c .before .before .before .check-scalars .ensures) ∙ ap says (c .before .number .given .1)))), tt)
 
 pub measure-spec : {M : Type 1} → statement M

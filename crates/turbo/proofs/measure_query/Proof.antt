@@ -28,22 +28,22 @@ space c = let most = scalars-usable (c .before .before .before .before .before .
 
 -- the query is prepared
 ready : (c : tie.After-enum-told) → let p = c .before .before .before .before in let a = p .before .before .before .before .before .before .before .before .before .before .before .before .args in
-    done (prepareRotatedOf (a .setup) (lent (a .signs .now) (a .directions .now) (a .matrix .now)) (a .query .now) (length (take (a .setup .dim - 0) (p .before .before .before .before .zeros .result))) (length (take (p .before .before .before .before .before .counted-projections .result - 0) (p .before .before .before .zeros2 .result)))) ≡ accepted
+    done (prepareRotatedOf (a .setup) (lent (a .rotation .now) (a .directions .now) (a .matrix .now)) (a .query .now) (length (take (a .setup .dim - 0) (p .before .before .before .before .zeros .result))) (length (take (p .before .before .before .before .before .counted-projections .result - 0) (p .before .before .before .zeros2 .result)))) ≡ accepted
 ready c = sym (c .before .before .before .before .prepare-query .ensures .0) ∙ ap says (c .enum-told .given .1)
 
 -- what the two parts hold then
 rotated-part : (c : tie.After-enum-told) → let p = c .before .before .before .before in let a = p .before .before .before .before .before .before .before .before .before .before .before .before .args in
-    take (a .setup .dim - 0) (p .prepare-query .last .1 .1 .1 .1 .1 .0 ++ postOf 0 (a .setup .dim - 0) (p .before .before .before .before .zeros .result)) ≡ rotatedQuery (a .setup) (lent (a .signs .now) (a .directions .now) (a .matrix .now)) (a .query .now)
+    take (a .setup .dim - 0) (p .prepare-query .last .1 .1 .1 .1 .1 .0 ++ postOf 0 (a .setup .dim - 0) (p .before .before .before .before .zeros .result)) ≡ rotatedQuery (a .setup) (lent (a .rotation .now) (a .directions .now) (a .matrix .now)) (a .query .now)
 rotated-part c =
     let p = c .before .before .before .before in
     let a = p .before .before .before .before .before .before .before .before .before .before .before .before .args in
     let xs = p .before .before .before .before .zeros .result in
     part-read (a .setup .dim) xs (room (p .before .before .before)) (p .prepare-query .last .1 .1 .1 .1 .1 .0) (postOf 0 (a .setup .dim - 0) xs) (p .prepare-query .kept .1 .1 .1 .1 .1 .0)
     ∙ p .prepare-query .ensures .1 .0
-    ∙ after-value _ (take (a .setup .dim - 0) xs) (prepare-rotated (a .setup) (lent (a .signs .now) (a .directions .now) (a .matrix .now)) (a .query .now) _ _ (ready c))
+    ∙ after-value _ (take (a .setup .dim - 0) xs) (prepare-rotated (a .setup) (lent (a .rotation .now) (a .directions .now) (a .matrix .now)) (a .query .now) _ _ (ready c))
 
 projected-part : (c : tie.After-enum-told) → let p = c .before .before .before .before in let a = p .before .before .before .before .before .before .before .before .before .before .before .before .args in let m = p .before .before .before .before .before .counted-projections .result in
-    take (m - 0) (p .prepare-query .last .1 .1 .1 .1 .1 .1 .0 ++ postOf 0 (m - 0) (p .before .before .before .zeros2 .result)) ≡ projectedQuery (a .setup) (lent (a .signs .now) (a .directions .now) (a .matrix .now)) (a .query .now)
+    take (m - 0) (p .prepare-query .last .1 .1 .1 .1 .1 .1 .0 ++ postOf 0 (m - 0) (p .before .before .before .zeros2 .result)) ≡ projectedQuery (a .setup) (lent (a .rotation .now) (a .directions .now) (a .matrix .now)) (a .query .now)
 projected-part c =
     let p = c .before .before .before .before in
     let a = p .before .before .before .before .before .before .before .before .before .before .before .before .args in
@@ -51,7 +51,7 @@ projected-part c =
     let xs = p .before .before .before .zeros2 .result in
     part-read m xs (space (p .before .before .before)) (p .prepare-query .last .1 .1 .1 .1 .1 .1 .0) (postOf 0 (m - 0) xs) (p .prepare-query .kept .1 .1 .1 .1 .1 .1 .0)
     ∙ p .prepare-query .ensures .1 .1
-    ∙ after-value _ (take (m - 0) xs) (prepare-projected (a .setup) (lent (a .signs .now) (a .directions .now) (a .matrix .now)) (a .query .now) _ _ (ready c))
+    ∙ after-value _ (take (m - 0) xs) (prepare-projected (a .setup) (lent (a .rotation .now) (a .directions .now) (a .matrix .now)) (a .query .now) _ _ (ready c))
 
 counted-projections-requires : tie.Need-counted-projections-requires
 counted-projections-requires c κs = search needs
@@ -91,8 +91,8 @@ returns c = let p = c .before .before .before .before .before in
     let a = p .before .before .before .before .before .before .before .before .before .before .before .before .args in
     let z = p .before .before .before in (
       sym
-          (phased-refused (a .setup) (lent (a .signs .now) (a .directions .now) (a .matrix .now)) (a .query .now) (a .bytes .now)
-          (query-refused (a .setup) (lent (a .signs .now) (a .directions .now) (a .matrix .now)) (a .query .now) _ _ (part-long (a .setup .dim) (z .before .zeros .result) (room z)) (part-long (z .before .before .counted-projections .result) (z .zeros2 .result) (space z) ∙ z .before .before .counted-projections .ensures)
+          (phased-refused (a .setup) (lent (a .rotation .now) (a .directions .now) (a .matrix .now)) (a .query .now) (a .bytes .now)
+          (query-refused (a .setup) (lent (a .rotation .now) (a .directions .now) (a .matrix .now)) (a .query .now) _ _ (part-long (a .setup .dim) (z .before .zeros .result) (room z)) (part-long (z .before .before .counted-projections .result) (z .zeros2 .result) (space z) ∙ z .before .before .counted-projections .ensures)
           (sym (p .prepare-query .ensures .0) ∙ ap says (c .before .prepared .given .1)))),
       tt,
     )
@@ -137,8 +137,8 @@ returns-2 c = let e = c .before .before .before .before .before .before .before 
     let m = p .before .before .before .before .before .counted-projections .result in (
       c .before .before .record-score .ensures .0
           ∙ ap (λ (vs : List Float). value (recordScoreOf (a .setup) (a .directions .now) vs (take (m - 0) (p .prepare-query .last .1 .1 .1 .1 .1 .1 .0 ++ postOf 0 (m - 0) (p .before .before .before .zeros2 .result))) (a .bytes .now))) (rotated-part e)
-          ∙ ap (λ (vs : List Float). value (recordScoreOf (a .setup) (a .directions .now) (rotatedQuery (a .setup) (lent (a .signs .now) (a .directions .now) (a .matrix .now)) (a .query .now)) vs (a .bytes .now))) (projected-part e)
-          ∙ sym (phased-passed (a .setup) (lent (a .signs .now) (a .directions .now) (a .matrix .now)) (a .query .now) (a .bytes .now) (query-passed (a .setup) (lent (a .signs .now) (a .directions .now) (a .matrix .now)) (a .query .now) _ _ (ready e))),
+          ∙ ap (λ (vs : List Float). value (recordScoreOf (a .setup) (a .directions .now) (rotatedQuery (a .setup) (lent (a .rotation .now) (a .directions .now) (a .matrix .now)) (a .query .now)) vs (a .bytes .now))) (projected-part e)
+          ∙ sym (phased-passed (a .setup) (lent (a .rotation .now) (a .directions .now) (a .matrix .now)) (a .query .now) (a .bytes .now) (query-passed (a .setup) (lent (a .rotation .now) (a .directions .now) (a .matrix .now)) (a .query .now) _ _ (ready e))),
       c .before .before .record-score .ensures .1,
     )
 

@@ -29,21 +29,21 @@ part-values-end c = search needs
 read-pairs-requires : tie.Need-read-pairs-requires
 read-pairs-requires c κs = search needs
 
-sub-apply-inverse : tie.Need-sub-apply-inverse
-sub-apply-inverse c = search needs
+sub-rotate-back : tie.Need-sub-rotate-back
+sub-rotate-back c = search needs
 
-part-apply-inverse-start : tie.Need-part-apply-inverse-start
-part-apply-inverse-start c = search needs
+part-rotate-back-start : tie.Need-part-rotate-back-start
+part-rotate-back-start c = search needs
 
-part-apply-inverse-end : tie.Need-part-apply-inverse-end
-part-apply-inverse-end c =
+part-rotate-back-end : tie.Need-part-rotate-back-end
+part-rotate-back-end c =
     let p = c .before .before in
     let z = p .before .before in
     let n = length (z .before .before .before .before .before .args .out .now) in
     part-enough n (z .no-values .result) (values-fit z) (p .read-pairs .last .1 .1 .1 .0) (postOf 0 (n - 0) (z .no-values .result)) (p .read-pairs .kept .1 .1 .1 .0)
 
-apply-inverse-requires : tie.Need-apply-inverse-requires
-apply-inverse-requires c κs = search needs
+rotate-back-requires : tie.Need-rotate-back-requires
+rotate-back-requires c κs = search needs
 
 same-length : tie.Need-same-length
 same-length c = search needs
@@ -57,8 +57,8 @@ returns c =
     let xs = z .no-values .result in
     let n = length (s .args .out .now) in
     let read = part-read n xs (values-fit z) (p .read-pairs .last .1 .1 .1 .0) (postOf 0 (n - 0) xs) (p .read-pairs .kept .1 .1 .1 .0) in
-    a .apply-inverse .ensures .1
-    ∙ values-back (s .args .signs .now) _ _ (s .args .out .now) (s .pre .turnable) (ap length read ∙ p .read-pairs .kept .1 .1 .1 .0 ∙ part-long n xs (values-fit z)) (read ∙ p .read-pairs .ensures)
+    a .rotate-back .ensures .1
+    ∙ values-back (s .args .setup) (s .args .rotation .now) _ _ (s .args .out .now) (s .pre .turnable) (ap length read ∙ p .read-pairs .kept .1 .1 .1 .0 ∙ part-long n xs (values-fit z)) (read ∙ p .read-pairs .ensures)
 
 pub decode-spec : {M : Type 1} → statement M
 decode-spec =
@@ -69,9 +69,9 @@ decode-spec =
     part-values-start
     part-values-end
     read-pairs-requires
-    sub-apply-inverse
-    part-apply-inverse-start
-    part-apply-inverse-end
-    apply-inverse-requires
+    sub-rotate-back
+    part-rotate-back-start
+    part-rotate-back-end
+    rotate-back-requires
     same-length
     returns)

@@ -17,14 +17,14 @@ use Rattle.turbo_decode.proofs.decode_approximate.Statement.{statement}
 use Rattle.turbo_decode.proofs.decode_approximate.Tie as tie
 
 -- the setup passes
-passed : (c : tie.After-enum-told) → let a = c .before .before .before .before .before .before .before .before .args in first (setupChecks (a .setup) (lent (a .signs .now) (a .directions .now) (a .matrix .now))) accepted ≡ accepted
+passed : (c : tie.After-enum-told) → let a = c .before .before .before .before .before .before .before .before .args in first (setupChecks (a .setup) (lent (a .rotation .now) (a .directions .now) (a .matrix .now))) accepted ≡ accepted
 passed c = sym (c .before .before .check-setup .ensures) ∙ ap says (c .enum-told .given .1)
 
 -- so that only the record decides whether it is opened
 usable : (c : tie.After-enum-told) → let a = c .before .before .before .before .before .before .before .before .args in openRecordOf (a .setup) (a .bytes .now) ≡ openedOf (a .setup) (a .bytes .now)
 usable c =
     let a = c .before .before .before .before .before .before .before .before .args in
-    open-usable (a .setup) (a .bytes .now) (setup-scalars (a .setup) (lent (a .signs .now) (a .directions .now) (a .matrix .now)) (passed c))
+    open-usable (a .setup) (a .bytes .now) (setup-scalars (a .setup) (lent (a .rotation .now) (a .directions .now) (a .matrix .now)) (passed c))
 
 -- and it is
 opened : (c : tie.After-known-told2) → let a = c .before .before .before .before .before .before .before .before .before .before .before .before .args in openedOf (a .setup) (a .bytes .now) ≡ value (c .before .header .given .0 .0)
@@ -42,7 +42,7 @@ returns : tie.Need-returns
 returns c =
     let h = c .before .before .before in
     let a = h .before .before .before .before .before .before .args in
-    both-refused _ (a .out .now) (decode-setup (a .setup) (lent (a .signs .now) (a .directions .now) (a .matrix .now)) (a .bytes .now) (length (a .out .now)) (sym (h .check-setup .ensures) ∙ ap says (c .before .checked .given .1)))
+    both-refused _ (a .out .now) (decode-setup (a .setup) (lent (a .rotation .now) (a .directions .now) (a .matrix .now)) (a .bytes .now) (length (a .out .now)) (sym (h .check-setup .ensures) ∙ ap says (c .before .checked .given .1)))
 
 enum-told : tie.Need-enum-told
 enum-told c = search needs
@@ -58,14 +58,14 @@ returns-2 c =
     let t = c .before in
     let o = t .before .before .before in
     let a = o .before .before .before .before .before .before .before .before .before .args in
-    both-refused _ (a .out .now) (decode-room (a .setup) (lent (a .signs .now) (a .directions .now) (a .matrix .now)) (a .bytes .now) (length (a .out .now)) (passed (o .before)) (opened t) (c .if1 .taken))
+    both-refused _ (a .out .now) (decode-room (a .setup) (lent (a .rotation .now) (a .directions .now) (a .matrix .now)) (a .bytes .now) (length (a .out .now)) (passed (o .before)) (opened t) (c .if1 .taken))
 
 decode-requires : tie.Need-decode-requires
 decode-requires c κs =
     let t = c .before .before in
     let o = t .before .before .before in
     let a = o .before .before .before .before .before .before .before .before .before .args in
-    decode-ready (a .setup) (lent (a .signs .now) (a .directions .now) (a .matrix .now)) (a .bytes .now) (length (a .out .now)) (passed (o .before)) (opened t) (c .before .if1 .left)
+    decode-ready (a .setup) (lent (a .rotation .now) (a .directions .now) (a .matrix .now)) (a .bytes .now) (length (a .out .now)) (passed (o .before)) (opened t) (c .before .if1 .left)
 
 enum-known-number : tie.Need-enum-known-number
 enum-known-number c = search needs
@@ -83,19 +83,19 @@ returns-3 c =
     let t = e .before in
     let o = t .before .before .before in
     let a = o .before .before .before .before .before .before .before .before .before .args in
-    both-value _ (a .out .now) _ (decode-value (a .setup) (lent (a .signs .now) (a .directions .now) (a .matrix .now)) (a .bytes .now) (length (a .out .now)) (passed (o .before)) (opened t) (e .if1 .left)) (d .decode .ensures)
+    both-value _ (a .out .now) _ (decode-value (a .setup) (lent (a .rotation .now) (a .directions .now) (a .matrix .now)) (a .bytes .now) (length (a .out .now)) (passed (o .before)) (opened t) (e .if1 .left)) (d .decode .ensures)
 
 returns-4 : tie.Need-returns-4
 returns-4 c =
     let o = c .before .before .before in
     let a = o .before .before .before .before .before .before .before .before .before .args in
-    both-refused _ (a .out .now) (decode-closed (a .setup) (lent (a .signs .now) (a .directions .now) (a .matrix .now)) (a .bytes .now) (length (a .out .now)) (passed (o .before)) (sym (usable (o .before)) ∙ sym (o .open-record .ensures) ∙ ap saysReading (c .before .number .given .1)))
+    both-refused _ (a .out .now) (decode-closed (a .setup) (lent (a .rotation .now) (a .directions .now) (a .matrix .now)) (a .bytes .now) (length (a .out .now)) (passed (o .before)) (sym (usable (o .before)) ∙ sym (o .open-record .ensures) ∙ ap saysReading (c .before .number .given .1)))
 
 returns-5 : tie.Need-returns-5
 returns-5 c =
     let o = c .before .before in
     let a = o .before .before .before .before .before .before .before .before .before .args in
-    both-withdrawn _ (a .out .now) (decode-withdrawn (a .setup) (lent (a .signs .now) (a .directions .now) (a .matrix .now)) (a .bytes .now) (length (a .out .now)) (passed (o .before)) (sym (usable (o .before)) ∙ sym (o .open-record .ensures) ∙ ap saysReading (c .enum-told2 .given .1)))
+    both-withdrawn _ (a .out .now) (decode-withdrawn (a .setup) (lent (a .rotation .now) (a .directions .now) (a .matrix .now)) (a .bytes .now) (length (a .out .now)) (passed (o .before)) (sym (usable (o .before)) ∙ sym (o .open-record .ensures) ∙ ap saysReading (c .enum-told2 .given .1)))
 
 pub decode-approximate-spec : {M : Type 1} → statement M
 decode-approximate-spec =

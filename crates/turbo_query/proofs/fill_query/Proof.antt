@@ -2,13 +2,13 @@
 use mathlib.Core.Path.{refl, _∙_}
 use borrow.Author.Needs.{needs}
 use Rattle.error.proofs.Answers.{after-value}
-use Rattle.rotation.proofs.Applied.{applied-value}
+use Rattle.setup_rotation.proofs.Rotations.{rotate-value}
 use Rattle.qjl_rows.proofs.Answers.{project-ready}
 use Rattle.turbo_query.proofs.fill_query.Statement.{statement}
 use Rattle.turbo_query.proofs.fill_query.Tie as tie
 
-apply-requires : tie.Need-apply-requires
-apply-requires c κs = search needs
+rotate-requires : tie.Need-rotate-requires
+rotate-requires c κs = search needs
 
 project-requires : tie.Need-project-requires
 project-requires c κs = search needs
@@ -24,10 +24,10 @@ returns c =
     let p = c .before .before in
     let a = p .before .before .before .before in
     let s = a .before .before .before .before .before .before .before in (
-      a .apply .ensures .1 ∙ after-value _ _ (applied-value (s .args .dim) (s .args .signs .now) (s .args .query .now) _ (s .pre .0)),
-      p .project .ensures .1 ∙ after-value _ _ (project-ready (s .args .dim) (s .args .matrix .now) (s .args .query .now) _ refl (s .pre .1)),
+      a .rotate .ensures .1 ∙ after-value _ _ (rotate-value (s .args .setup) (s .args .rotation .now) (s .args .query .now) _ (s .pre .0)),
+      p .project .ensures .1 ∙ after-value _ _ (project-ready (s .args .setup .dim) (s .args .matrix .now) (s .args .query .now) _ refl (s .pre .1)),
     )
 
 pub fill-query-spec : {M : Type 1} → statement M
 fill-query-spec =
-    tie.close (tie.spec apply-requires project-requires same-length same-length-2 returns)
+    tie.close (tie.spec rotate-requires project-requires same-length same-length-2 returns)

@@ -7,14 +7,14 @@ use borrow.Rule.Slice.PartMut.{postOf}
 use lib.ListN.{length}
 use Rattle.lists.proofs.Parts.{part-long, part-read, part-again, part-enough, part-filled}
 use Rattle.error.specs.Answer.{first, accepted}
-use Rattle.rotation.specs.Checks.{rotationChecks}
+use Rattle.setup_rotation.specs.Rotations.{turnChecks}
 use Rattle.rounding.specs.Rows.{projected}
 use Rattle.turbo_query.proofs.Answers.{handed-same}
 use Rattle.turbo_query.proofs.prepare.Statement.{statement}
 use Rattle.turbo_query.proofs.prepare.Tie as tie
 
 -- both arrays have room
-rotated-fits : (c : tie.After-zeros2) → c .before .before .before .before .before .before .before .args .dim ≤ length (c .before .zeros .result)
+rotated-fits : (c : tie.After-zeros2) → c .before .before .before .before .before .before .before .args .setup .dim ≤ length (c .before .zeros .result)
 rotated-fits c = omega (arith, c .before .before .before .before .before .before .before .pre .small, c .before .zeros .ok)
 
 projected-fits : (c : tie.After-zeros2) → c .before .before .before .before .before .before .before .args .rows ≤ length (c .zeros2 .result)
@@ -49,8 +49,8 @@ fill-query-requires c κs =
     let z = c .before .before in
     let s = z .before .before .before .before .before .before .before in
     let a = s .args in (
-      subst (λ (k : ℕ). first (rotationChecks (a .dim) (a .signs .now) (length (a .query .now)) k) accepted ≡ accepted) (sym (part-long _ _ (rotated-fits z))) (s .pre .turnable),
-      record { query-long = s .pre .rowed .query-long; matrix-long = s .pre .rowed .matrix-long ∙ ap (λ (k : ℕ). k * a .dim) (sym (part-long _ _ (projected-fits z))) },
+      subst (λ (k : ℕ). first (turnChecks (a .setup) (a .rotation .now) (length (a .query .now)) k) accepted ≡ accepted) (sym (part-long _ _ (rotated-fits z))) (s .pre .turnable),
+      record { query-long = s .pre .rowed .query-long; matrix-long = s .pre .rowed .matrix-long ∙ ap (λ (k : ℕ). k * a .setup .dim) (sym (part-long _ _ (projected-fits z))) },
     )
 
 sub-hand-over : tie.Need-sub-hand-over
@@ -64,7 +64,7 @@ part-hand-over-end c =
     let f = c .before .before .before in
     let z = f .before .before .before in
     let a = z .before .before .before .before .before .before .before .args in
-    part-enough (a .dim) (z .before .zeros .result) (rotated-fits z) (f .fill-query .last .1 .1 .1 .1 .0) (postOf 0 (a .dim - 0) (z .before .zeros .result)) (f .fill-query .kept .1 .1 .1 .1 .0)
+    part-enough (a .setup .dim) (z .before .zeros .result) (rotated-fits z) (f .fill-query .last .1 .1 .1 .1 .0) (postOf 0 (a .setup .dim - 0) (z .before .zeros .result)) (f .fill-query .kept .1 .1 .1 .1 .0)
 
 sub-hand-over-2 : tie.Need-sub-hand-over-2
 sub-hand-over-2 c = search needs
@@ -99,10 +99,10 @@ returns c =
     let us = z .zeros2 .result in
     let vs = f .fill-query .last .1 .1 .1 .1 .1 .0 in
     handed-same
-    (part-again (a .dim) xs (rotated-fits z) ys (postOf 0 (a .dim - 0) xs) (f .fill-query .kept .1 .1 .1 .1 .0))
+    (part-again (a .setup .dim) xs (rotated-fits z) ys (postOf 0 (a .setup .dim - 0) xs) (f .fill-query .kept .1 .1 .1 .1 .0))
     (part-again (a .rows) us (projected-fits z) vs (postOf 0 (a .rows - 0) us) (f .fill-query .kept .1 .1 .1 .1 .1 .0))
-    (part-read (a .dim) xs (rotated-fits z) ys (postOf 0 (a .dim - 0) xs) (f .fill-query .kept .1 .1 .1 .1 .0) ∙ f .fill-query .ensures .0)
-    (part-filled (a .rows) us (projected-fits z) vs (postOf 0 (a .rows - 0) us) (f .fill-query .kept .1 .1 .1 .1 .1 .0) (λ (k : ℕ). projected (a .dim) k (a .matrix .now) (a .query .now)) (f .fill-query .ensures .1))
+    (part-read (a .setup .dim) xs (rotated-fits z) ys (postOf 0 (a .setup .dim - 0) xs) (f .fill-query .kept .1 .1 .1 .1 .0) ∙ f .fill-query .ensures .0)
+    (part-filled (a .rows) us (projected-fits z) vs (postOf 0 (a .rows - 0) us) (f .fill-query .kept .1 .1 .1 .1 .1 .0) (λ (k : ℕ). projected (a .setup .dim) k (a .matrix .now) (a .query .now)) (f .fill-query .ensures .1))
     (h .hand-over .ensures)
 
 pub prepare-spec : {M : Type 1} → statement M

@@ -14,7 +14,7 @@ use Rattle.turbo_query.proofs.prepare_at_once.Statement.{statement}
 use Rattle.turbo_query.proofs.prepare_at_once.Tie as tie
 
 -- what the checks leave, where they are done
-passed : (c : tie.After-enum-told) → let a = c .before .before .before .before .before .before .before .before .before .args in first (setupChecksButEntries (a .setup) (lent (a .signs .now) (a .directions .now) (a .matrix .now))) accepted ≡ accepted
+passed : (c : tie.After-enum-told) → let a = c .before .before .before .before .before .before .before .before .before .args in first (setupChecksButEntries (a .setup) (lent (a .rotation .now) (a .directions .now) (a .matrix .now))) accepted ≡ accepted
 passed c = sym (c .before .before .check-but-entries .ensures) ∙ ap says (c .enum-told .given .1)
 
 check-but-entries-requires : tie.Need-check-but-entries-requires
@@ -46,7 +46,7 @@ prepare-requires c κs =
     let t = c .before .before in
     let m = t .before .before .before in
     let a = m .before .before .before .before .before .before .before .before .before .before .args in
-    shaped-rows (a .setup) (lent (a .signs .now) (a .directions .now) (a .matrix .now)) (a .query .now) (passed (m .before)) (t .before .before .if1 .left) (m .counted-projections .ensures)
+    shaped-rows (a .setup) (lent (a .rotation .now) (a .directions .now) (a .matrix .now)) (a .query .now) (passed (m .before)) (t .before .before .if1 .left) (m .counted-projections .ensures)
 
 enum-known-handed : tie.Need-enum-known-handed
 enum-known-handed c = search needs
@@ -63,7 +63,7 @@ returns-4 c =
     let t = p .before .before .before in
     let m = t .before .before .before in
     let a = m .before .before .before .before .before .before .before .before .before .before .args in
-    prepare-left (a .setup) (lent (a .signs .now) (a .directions .now) (a .matrix .now)) (a .query .now) (a .rotated .now) (a .projected .now)
+    prepare-left (a .setup) (lent (a .rotation .now) (a .directions .now) (a .matrix .now)) (a .query .now) (a .rotated .now) (a .projected .now)
     (handed-same refl (m .counted-projections .ensures) refl (ap (λ (k : ℕ). projected (a .setup .dim) k (a .matrix .now) (a .query .now)) (m .counted-projections .ensures)) (p .prepare .ensures))
     (ap says (c .before .handed .given .1))
 
@@ -82,7 +82,7 @@ returns-5 c =
     let t = p .before .before .before in
     let m = t .before .before .before in
     let a = m .before .before .before .before .before .before .before .before .before .before .args in
-    prepare-made (a .setup) (lent (a .signs .now) (a .directions .now) (a .matrix .now)) (a .query .now) (a .rotated .now) (a .projected .now)
+    prepare-made (a .setup) (lent (a .rotation .now) (a .directions .now) (a .matrix .now)) (a .query .now) (a .rotated .now) (a .projected .now)
     (handed-same refl (m .counted-projections .ensures) refl (ap (λ (k : ℕ). projected (a .setup .dim) k (a .matrix .now) (a .query .now)) (m .counted-projections .ensures)) (p .prepare .ensures))
     (passed (m .before)) (t .before .before .if1 .left) (sym (t .before .all-finite .ensures) ∙ not-false _ (t .if2 .left)) (ap says (c .enum-told2 .given .1))
 

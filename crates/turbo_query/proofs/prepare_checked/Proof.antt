@@ -12,7 +12,7 @@ use Rattle.turbo_query.proofs.prepare_checked.Tie as tie
 use Rattle.rounding.specs.Rows.{projected}
 
 -- what the checks leave, where they are done
-passed : (c : tie.After-enum-told) → let a = c .before .before .before .before .before .before .before .before .before .args in first (vectorChecks (a .setup) (lent (a .signs .now) (a .directions .now) (a .matrix .now)) (a .query .now)) accepted ≡ accepted
+passed : (c : tie.After-enum-told) → let a = c .before .before .before .before .before .before .before .before .before .args in first (vectorChecks (a .setup) (lent (a .rotation .now) (a .directions .now) (a .matrix .now)) (a .query .now)) accepted ≡ accepted
 passed c = sym (c .before .before .check-vector .ensures) ∙ ap says (c .enum-told .given .1)
 
 check-vector-requires : tie.Need-check-vector-requires
@@ -25,7 +25,7 @@ returns : tie.Need-returns
 returns c =
     let h = c .before .before .before in
     let a = h .before .before .before .before .before .before .before .args in
-    prepare-refused (a .setup) (lent (a .signs .now) (a .directions .now) (a .matrix .now)) (a .query .now) (a .rotated .now) (a .projected .now) (sym (h .check-vector .ensures) ∙ ap says (c .before .checked .given .1))
+    prepare-refused (a .setup) (lent (a .rotation .now) (a .directions .now) (a .matrix .now)) (a .query .now) (a .rotated .now) (a .projected .now) (sym (h .check-vector .ensures) ∙ ap says (c .before .checked .given .1))
 
 enum-told : tie.Need-enum-told
 enum-told c = search needs
@@ -37,7 +37,7 @@ prepare-requires : tie.Need-prepare-requires
 prepare-requires c κs =
     let m = c .before .before in
     let a = m .before .before .before .before .before .before .before .before .before .before .args in
-    vector-rows (a .setup) (lent (a .signs .now) (a .directions .now) (a .matrix .now)) (a .query .now) (passed (m .before)) (m .counted-projections .ensures)
+    vector-rows (a .setup) (lent (a .rotation .now) (a .directions .now) (a .matrix .now)) (a .query .now) (passed (m .before)) (m .counted-projections .ensures)
 
 same-length : tie.Need-same-length
 same-length c = search needs
@@ -50,7 +50,7 @@ returns-2 c =
     let p = c .before .before .before .before in
     let m = p .before .before .before in
     let a = m .before .before .before .before .before .before .before .before .before .before .args in
-    prepare-passed (a .setup) (lent (a .signs .now) (a .directions .now) (a .matrix .now)) (a .query .now) (a .rotated .now) (a .projected .now) (passed (m .before))
+    prepare-passed (a .setup) (lent (a .rotation .now) (a .directions .now) (a .matrix .now)) (a .query .now) (a .rotated .now) (a .projected .now) (passed (m .before))
     (handed-same refl (m .counted-projections .ensures) refl (ap (λ (k : ℕ). projected (a .setup .dim) k (a .matrix .now) (a .query .now)) (m .counted-projections .ensures)) (p .prepare .ensures))
 
 pub prepare-checked-spec : {M : Type 1} → statement M

@@ -38,7 +38,7 @@ returns-2 c =
     let e = p .before .before .before in
     let h = e .before .before .before .before .before in
     let a = h .before .before .before .before .before .before .before .before .before .args in
-    prepare-again (a .setup) (lent (a .signs .now) (a .directions .now) (a .matrix .now)) (a .query .now) (h .prepare-at-once .ensures .0 .kept (e .if1 .left)) (h .prepare-at-once .ensures .1 .kept (e .if1 .left)) (p .prepare-checked .ensures)
+    prepare-again (a .setup) (lent (a .rotation .now) (a .directions .now) (a .matrix .now)) (a .query .now) (h .prepare-at-once .ensures .0 .kept (e .if1 .left)) (h .prepare-at-once .ensures .1 .kept (e .if1 .left)) (p .prepare-checked .ensures)
 
 pub prepare-query-spec : {M : Type 1} → statement M
 prepare-query-spec =

@@ -26,8 +26,8 @@ same-length c = search needs
 returns : tie.Need-returns
 returns c =
     let a = c .before .before .before .before .before .before .before .before .before .before .before .before .before .args in
-    let e = c .before .before .before .before .before .decode-approximate .ensures .0 ∙ ap (λ (s : Setup). done (decodeApproximateOf s (lent (now (a .signs)) (now (a .directions)) (now (a .matrix))) (now (a .bytes)) (length (now (a .out))))) (c .before .before .before .before .before .before .before .setup .ensures) in
-    (told-as (c .tell-filled .ensures) e, c .before .before .before .before .before .decode-approximate .ensures .1 ∙ ap (λ (s : Setup). after (decodeApproximateOf s (lent (now (a .signs)) (now (a .directions)) (now (a .matrix))) (now (a .bytes)) (length (now (a .out)))) (now (a .out))) (c .before .before .before .before .before .before .before .setup .ensures))
+    let e = c .before .before .before .before .before .decode-approximate .ensures .0 ∙ ap (λ (s : Setup). done (decodeApproximateOf s (lent (now (a .rotation)) (now (a .directions)) (now (a .matrix))) (now (a .bytes)) (length (now (a .out))))) (c .before .before .before .before .before .before .before .setup .ensures) in
+    (told-as (c .tell-filled .ensures) e, c .before .before .before .before .before .decode-approximate .ensures .1 ∙ ap (λ (s : Setup). after (decodeApproximateOf s (lent (now (a .rotation)) (now (a .directions)) (now (a .matrix))) (now (a .bytes)) (length (now (a .out)))) (now (a .out))) (c .before .before .before .before .before .before .before .setup .ensures))
 
 pub foldrima-decode-approximate-spec : {M : Type 1} → statement M
 foldrima-decode-approximate-spec = tie.close (tie.spec setup-requires decode-approximate-requires tell-filled-requires same-length returns)

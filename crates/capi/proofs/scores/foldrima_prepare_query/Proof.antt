@@ -30,11 +30,11 @@ returns : tie.Need-returns
 returns c =
     let a = c .before .before .before .before .before .before .before .before .before .before .before .before .before .before .before .before .before .args in
     let u = c .before .before .before .before .before .before .before .before .before .before .setup .ensures in
-    let e = c .before .before .before .before .before .before .before .prepare-query .ensures .0 ∙ ap (λ (s : Setup). done (prepareRotatedOf s (lent (now (a .signs)) (now (a .directions)) (now (a .matrix))) (now (a .query)) (length (now (a .rotated))) (length (now (a .projected))))) u in (
+    let e = c .before .before .before .before .before .before .before .prepare-query .ensures .0 ∙ ap (λ (s : Setup). done (prepareRotatedOf s (lent (now (a .rotation)) (now (a .directions)) (now (a .matrix))) (now (a .query)) (length (now (a .rotated))) (length (now (a .projected))))) u in (
       told-as (c .tell .ensures) e,
       (
-        c .before .before .before .before .before .before .before .prepare-query .ensures .1 .0 ∙ ap (λ (s : Setup). after (prepareRotatedOf s (lent (now (a .signs)) (now (a .directions)) (now (a .matrix))) (now (a .query)) (length (now (a .rotated))) (length (now (a .projected)))) (now (a .rotated))) u,
-        c .before .before .before .before .before .before .before .prepare-query .ensures .1 .1 ∙ ap (λ (s : Setup). after (prepareProjectedOf s (lent (now (a .signs)) (now (a .directions)) (now (a .matrix))) (now (a .query)) (length (now (a .rotated))) (length (now (a .projected)))) (now (a .projected))) u,
+        c .before .before .before .before .before .before .before .prepare-query .ensures .1 .0 ∙ ap (λ (s : Setup). after (prepareRotatedOf s (lent (now (a .rotation)) (now (a .directions)) (now (a .matrix))) (now (a .query)) (length (now (a .rotated))) (length (now (a .projected)))) (now (a .rotated))) u,
+        c .before .before .before .before .before .before .before .prepare-query .ensures .1 .1 ∙ ap (λ (s : Setup). after (prepareProjectedOf s (lent (now (a .rotation)) (now (a .directions)) (now (a .matrix))) (now (a .query)) (length (now (a .rotated))) (length (now (a .projected)))) (now (a .projected))) u,
       ),
     )
 

@@ -22,7 +22,7 @@ tell-requires c κs = search needs
 returns : tie.Need-returns
 returns c =
     let a = c .before .before .before .before .before .before .before .before .args in
-    let e = c .before .before .before .check-setup .ensures ∙ ap (λ (s : Setup). first (setupChecks s (lent (now (a .signs)) (now (a .directions)) (now (a .matrix)))) accepted) (c .before .before .before .before .setup .ensures) in
+    let e = c .before .before .before .check-setup .ensures ∙ ap (λ (s : Setup). first (setupChecks s (lent (now (a .rotation)) (now (a .directions)) (now (a .matrix)))) accepted) (c .before .before .before .before .setup .ensures) in
     told-as (c .tell .ensures) e
 
 pub foldrima-check-setup-spec : {M : Type 1} → statement M

@@ -26,8 +26,8 @@ same-length c = search needs
 returns : tie.Need-returns
 returns c =
     let a = c .before .before .before .before .before .before .before .before .before .before .before .args in
-    let e = c .before .before .before .before .sketch .ensures .0 ∙ ap (λ (s : Setup). done (sketchOf s (lent (now (a .signs)) (now (a .directions)) (now (a .matrix))) (now (a .vector)) (length (now (a .out))))) (c .before .before .before .before .before .before .setup .ensures) in
-    (told-as (c .tell .ensures) e, c .before .before .before .before .sketch .ensures .1 ∙ ap (λ (s : Setup). after (sketchOf s (lent (now (a .signs)) (now (a .directions)) (now (a .matrix))) (now (a .vector)) (length (now (a .out)))) (now (a .out))) (c .before .before .before .before .before .before .setup .ensures))
+    let e = c .before .before .before .before .sketch .ensures .0 ∙ ap (λ (s : Setup). done (sketchOf s (lent (now (a .rotation)) (now (a .directions)) (now (a .matrix))) (now (a .vector)) (length (now (a .out))))) (c .before .before .before .before .before .before .setup .ensures) in
+    (told-as (c .tell .ensures) e, c .before .before .before .before .sketch .ensures .1 ∙ ap (λ (s : Setup). after (sketchOf s (lent (now (a .rotation)) (now (a .directions)) (now (a .matrix))) (now (a .vector)) (length (now (a .out)))) (now (a .out))) (c .before .before .before .before .before .before .setup .ensures))
 
 pub foldrima-sketch-spec : {M : Type 1} → statement M
 foldrima-sketch-spec =

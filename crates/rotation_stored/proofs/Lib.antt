@@ -1,0 +1,4 @@
+pub mod Accepted
+pub mod Columns
+pub mod ErrorBound
+pub mod Examples

@@ -1,0 +1,4 @@
+pub mod Checks
+pub mod Stored
+pub mod Exact
+pub mod Inner
