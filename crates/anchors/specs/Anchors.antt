@@ -34,11 +34,11 @@ use Rattle.table.specs.Table.{withoutSigns, withSigns}
 
 -- This setup has n 2 and 1 bit, without residual.
 abbrev pub plainSetup : Setup
-plainSetup = record { mode = PolarOnly; dim = 2; bits = 1; projections = 0; rotation = FastHadamard }
+plainSetup = record { mode = PolarOnly; dim = 2; bits = 1; projections = 0; kind = FastHadamard }
 
 -- This setup has a residual: 2 bits in all, of which 1 is polar, and three projections.
 abbrev pub residualSetup : Setup
-residualSetup = record { mode = PolarWithQjl; dim = 2; bits = 2; projections = 3; rotation = FastHadamard }
+residualSetup = record { mode = PolarWithQjl; dim = 2; bits = 2; projections = 3; kind = FastHadamard }
 
 -- The signs are + and +, the directions (−1, 0) and (1, 0).
 abbrev pub signsLent : List Float
@@ -90,7 +90,7 @@ diagonalLent = lent signsLent (one true ∷ posZero ∷ one false ∷ one false 
 
 -- This setup has a residual of one row, (2^100, 0); the query is (7 × 2^25, 0), and the record is P12 with one sign, +.
 abbrev pub rowSetup : Setup
-rowSetup = record { mode = PolarWithQjl; dim = 2; bits = 2; projections = 1; rotation = FastHadamard }
+rowSetup = record { mode = PolarWithQjl; dim = 2; bits = 2; projections = 1; kind = FastHadamard }
 
 abbrev pub rowLent : Lent
 rowLent = lent signsLent directionsLent (fin false 1 (pos 100) ∷ posZero ∷ [])
@@ -120,7 +120,7 @@ tinyLent = lent signsLent directionsLent tinyQuery
 
 -- This setup has a stored rotation. Its matrix is lent column by column, (1, 2) and (3, 4), so that its rows are (1, 3) and (2, 4).
 abbrev pub storedSetup : Setup
-storedSetup = record { mode = PolarOnly; dim = 2; bits = 1; projections = 0; rotation = Stored }
+storedSetup = record { mode = PolarOnly; dim = 2; bits = 1; projections = 0; kind = Stored }
 
 abbrev pub storedLent : Lent
 storedLent = lent (one false ∷ two ∷ fin false 3 (pos 0) ∷ fin false 1 (pos 2) ∷ []) directionsLent []
@@ -128,7 +128,7 @@ storedLent = lent (one false ∷ two ∷ fin false 3 (pos 0) ∷ fin false 1 (po
 -- This one has ten dimensions. Every entry of its matrix and of the query is 2^−75, and the direction of index 1 is (1, 1). The record has the radius 2^20 and four
 -- radii of 0.
 abbrev pub faintSetup : Setup
-faintSetup = record { mode = PolarOnly; dim = 10; bits = 1; projections = 0; rotation = Stored }
+faintSetup = record { mode = PolarOnly; dim = 10; bits = 1; projections = 0; kind = Stored }
 
 abbrev pub faint : Float
 faint = fin false 1 (negsuc 74)
@@ -184,8 +184,8 @@ pub record Anchors : Type 0 where
   pub stored-decoded : decodeApproximateOf storedSetup storedLent withoutSigns 2 ≡ value (one false ∷ fin false 3 (pos 0) ∷ [])
   -- Of the matrix (1, 2, NaN, 4) the third entry that is lent is named: by rows it would be the second. 8 comes before 26, and 26 before 5.
   pub stored-entry : first (setupChecks storedSetup (lent (one false ∷ two ∷ nan ∷ fin false 1 (pos 2) ∷ []) directionsLent [])) accepted ≡ refused 9 2
-  pub stored-eight : first (setupChecks (record { mode = PolarWithQjl; dim = 514; bits = 2; projections = 0; rotation = Stored }) storedLent) accepted ≡ refused 8 0
-  pub stored-large : first (setupChecks (record { mode = PolarOnly; dim = 514; bits = 1; projections = 0; rotation = Stored }) storedLent) accepted ≡ refused 26 0
+  pub stored-eight : first (setupChecks (record { mode = PolarWithQjl; dim = 514; bits = 2; projections = 0; kind = Stored }) storedLent) accepted ≡ refused 8 0
+  pub stored-large : first (setupChecks (record { mode = PolarOnly; dim = 514; bits = 1; projections = 0; kind = Stored }) storedLent) accepted ≡ refused 26 0
   -- Each product 2^−150 is rounded to 0, ten for either entry. With R not multiplied by 10 in the bound the exact score would lie outside it.
   pub faint-score : innerProductEstimateOf faintSetup faintLent faintQuery faintRecord ≡ value posZero
   pub faint-exact : Same (exactOf faintSetup faintLent faintQuery faintRecord) (whole (20 * 2 ^ 489))
@@ -232,7 +232,7 @@ pub record Anchors : Type 0 where
   pub per-step : perStep ≡ 2 ^ (619 - 146)
   pub per-radius : perRadius ≡ 2 ^ (619 - 149 - 146)
   -- ---- 'In `PolarOnly` m counts as 0'
-  pub counted-without : countedProjectionsOf (record { mode = PolarOnly; dim = 2; bits = 1; projections = 3; rotation = FastHadamard }) ≡ 0
+  pub counted-without : countedProjectionsOf (record { mode = PolarOnly; dim = 2; bits = 1; projections = 3; kind = FastHadamard }) ≡ 0
   pub counted-with : countedProjectionsOf residualSetup ≡ 3
   -- ---- what they are made of, each at its own scale
   pub rotated-exact : exactRotated 2 signsLent queryLent ≡ whole (11863283 * 2 ^ 274) ∷ whole (11863283 * 2 ^ 274) ∷ []

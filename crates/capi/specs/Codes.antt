@@ -30,7 +30,7 @@ rotationFrom code = cond (eqb code 0) FastHadamard Stored
 
 -- These are the scalars of a setup, with numbers for its mode and for which rotation it has.
 abbrev pub setupFrom : ℕ → ℕ → ℕ → ℕ → ℕ → Setup
-setupFrom mode dim bits projections kind = record { mode = modeFrom mode; dim = dim; bits = bits; projections = projections; rotation = rotationFrom kind }
+setupFrom mode dim bits projections kind = record { mode = modeFrom mode; dim = dim; bits = bits; projections = projections; kind = rotationFrom kind }
 
 -- The number 0 is `Absent`, and every other number is `Given` with the norm beside it.
 unfoldable pub normFrom : ℕ → Float → SourceNorm

@@ -52,7 +52,7 @@ pub fn setup(code: u8, dim: usize, bits: u8, projections: usize, kind: u8) -> Se
         dim,
         bits,
         projections,
-        rotation: turned,
+        kind: turned,
     }
 }
 

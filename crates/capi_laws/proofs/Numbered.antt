@@ -183,12 +183,12 @@ stored-inverse-numbered n matrix xs room = chain (storedChecks n matrix (length 
 
 -- the numbers of a list of checks under a setup, from those under either rotation
 rotations : (list : Setup → List Check) (s : Setup)
-    → between (list (record { mode = s .mode; dim = s .dim; bits = s .bits; projections = s .projections; rotation = FastHadamard })) ≡ true
-    → between (list (record { mode = s .mode; dim = s .dim; bits = s .bits; projections = s .projections; rotation = Stored })) ≡ true
+    → between (list (record { mode = s .mode; dim = s .dim; bits = s .bits; projections = s .projections; kind = FastHadamard })) ≡ true
+    → between (list (record { mode = s .mode; dim = s .dim; bits = s .bits; projections = s .projections; kind = Stored })) ≡ true
     → between (list s) ≡ true
-rotations list s hadamard stored = either (s .rotation)
+rotations list s hadamard stored = either (s .kind)
   where
-    either : (k : RotationKind) → between (list (record { mode = s .mode; dim = s .dim; bits = s .bits; projections = s .projections; rotation = k })) ≡ true
+    either : (k : RotationKind) → between (list (record { mode = s .mode; dim = s .dim; bits = s .bits; projections = s .projections; kind = k })) ≡ true
     either FastHadamard = hadamard
     either Stored = stored
 

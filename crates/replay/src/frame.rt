@@ -125,13 +125,13 @@ pub(crate) fn range(case: &[u8; 512]) -> Range {
 // The scalars of a setup.
 pub(crate) fn setup(case: &[u8; 512]) -> Setup {
     let mode = mode(case);
-    let rotation = kind(case);
+    let turned = kind(case);
     Setup {
         mode,
         dim: count(case),
         bits: bits(case),
         projections: projections(case),
-        rotation,
+        kind: turned,
     }
 }
 

@@ -1,6 +1,6 @@
 // Deterministic rotation: signs, then a normalized Hadamard transform, and back.
-// Ported from turbo-quant/src/rotation.rs and changed: only FastHadamardRotation is carried, its signs are lent, the output is lent, and
-// an error is a number and a place.
+// Ported from turbo-quant/src/rotation.rs (`FastHadamardRotation`) and changed: its signs are lent, the output is lent, and an error is a
+// number and a place.
 
 use error::DIMENSION_MISMATCH;
 use error::MALFORMED_SIGN;

@@ -14,7 +14,7 @@ use Rattle.rotation.specs.Checks.{wrongZeroDimension, wrongOddDimension}
 abbrev pub badStored : ℕ → Bool
 badStored n = ltb 512 n
 
--- '26 when a stored rotation's dimension exceeds 512, in the place of 4.' The document names no place beside it, which is then 0.
+-- '26 when a stored rotation's dimension exceeds 512, in the place of 4': that is its turn in the order. No place is named beside the number, so it is 0.
 abbrev pub wrongStored : ℕ → Check
 wrongStored n = check (badStored n) 26 0
 

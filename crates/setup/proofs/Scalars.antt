@@ -80,10 +80,10 @@ scalars-usable s e =
     let dimension = k .1 .1 .1 .1 .0 in
     record {
       above = omega (arith, nonzero);
-      most = dimension-most (s .rotation) (s .dim) dimension;
+      most = dimension-most (s .kind) (s .dim) dimension;
       even = omega (arith, even);
-      hadamard = dimension-power (s .rotation) (s .dim) dimension;
-      stored = dimension-stored (s .rotation) (s .dim) dimension;
+      hadamard = dimension-power (s .kind) (s .dim) dimension;
+      stored = dimension-stored (s .kind) (s .dim) dimension;
       least-bits = bits-least (s .mode) (s .bits) (neither-first (ltb (s .bits) (byMode (s .mode) 1 2)) (ltb 16 (s .bits)) bits);
       most-bits = bits-most (s .mode) (s .bits) (neither-second (ltb (s .bits) (byMode (s .mode) 1 2)) (ltb 16 (s .bits)) bits);
       most-projections = projections-most (s .mode) (s .projections) projections;

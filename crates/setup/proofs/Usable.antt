@@ -11,8 +11,8 @@ pub record Usable (s : Setup) : Type 0 where
   pub above : 0 < s .dim
   pub most : s .dim ≤ 4096
   pub even : s .dim % 2 ≡ 0
-  pub hadamard : s .rotation ≡ FastHadamard → Power (s .dim)
-  pub stored : s .rotation ≡ Stored → s .dim ≤ 512
+  pub hadamard : s .kind ≡ FastHadamard → Power (s .dim)
+  pub stored : s .kind ≡ Stored → s .dim ≤ 512
   pub least-bits : 1 ≤ polarBitsOf s
   pub most-bits : polarBitsOf s ≤ 16
   pub most-projections : countedProjectionsOf s ≤ 4096

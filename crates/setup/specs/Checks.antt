@@ -43,5 +43,5 @@ scalarChecks s =
     ∷ wrongOddDimension (s .dim)
     ∷ wrongTotalBits s
     ∷ wrongProjections (s .mode) (s .projections)
-    ∷ wrongRotationDimension (s .rotation) (s .dim)
+    ∷ wrongRotationDimension (s .kind) (s .dim)
     ∷ []

@@ -7,6 +7,7 @@ pub record Lent : Type 0 where
   -- The signs of the Hadamard rotation, or the entries of a stored rotation's matrix, column by column.
   pub rotation : List Float
   pub directions : List Float
+  -- The matrix that queries and vectors are projected on, row by row.
   pub matrix : List Float
 
 -- Contracts put what is lent together so, from its three lists.

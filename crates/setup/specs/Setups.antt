@@ -29,7 +29,7 @@ countedProjectionsOf s = counted (s .mode) (s .projections)
 
 -- The rotation is lent 'n signs' (document 01), or a stored one's n × n matrix entries (document 02).
 abbrev pub rotationNeeded : Setup → ℕ
-rotationNeeded s = byRotation (s .rotation) (s .dim) (s .dim * s .dim)
+rotationNeeded s = byRotation (s .kind) (s .dim) (s .dim * s .dim)
 
 -- 'the table has 2 × 2^polar bits entries'
 abbrev pub directionsNeeded : Setup → ℕ

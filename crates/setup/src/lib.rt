@@ -38,7 +38,7 @@ pub struct Setup {
     pub dim: usize,
     pub bits: u8,
     pub projections: usize,
-    pub rotation: RotationKind,
+    pub kind: RotationKind,
 }
 
 // The polar bits: the total, less 1 in residual mode, and 0 where that has none left.
@@ -116,8 +116,23 @@ pub fn check_scalars(setup: Setup) -> Outcome
             place: setup.projections,
         };
     }
-    let kind = setup.rotation;
+    let kind = setup.kind;
     check_rotation_dimension(kind, dim)
+}
+
+// The seed of the host's generator of rotation signs.
+pub fn hadamard_seed(seed: u64) -> u64
+    ensures { λ r. ⌜ r ≡ hadamardSeedOf seed ⌝ }
+{
+    std::num::wrapping_add_u64(seed, 0xA11C_E55E_D5A5_EED5)
+}
+
+// The seed of the host's generator of matrix entries.
+pub fn matrix_seed(seed: u64) -> u64
+    ensures { λ r. ⌜ r ≡ matrixSeedOf seed ⌝ }
+{
+    let residual = std::num::wrapping_add_u64(seed, 0xCAFE_BABE_0000_0001);
+    std::num::wrapping_add_u64(residual, 0xDEAD_BEEF_1234_5678)
 }
 
 // The check of a dimension by the rotation that it is for.
@@ -144,21 +159,6 @@ fn check_rotation_dimension(kind: RotationKind, dim: usize) -> Outcome
             Outcome::Done
         }
     }
-}
-
-// The seed of the host's generator of rotation signs.
-pub fn hadamard_seed(seed: u64) -> u64
-    ensures { λ r. ⌜ r ≡ hadamardSeedOf seed ⌝ }
-{
-    std::num::wrapping_add_u64(seed, 0xA11C_E55E_D5A5_EED5)
-}
-
-// The seed of the host's generator of matrix entries.
-pub fn matrix_seed(seed: u64) -> u64
-    ensures { λ r. ⌜ r ≡ matrixSeedOf seed ⌝ }
-{
-    let residual = std::num::wrapping_add_u64(seed, 0xCAFE_BABE_0000_0001);
-    std::num::wrapping_add_u64(residual, 0xDEAD_BEEF_1234_5678)
 }
 
 // Whether the total bits are outside 1..16, or below 2 in residual mode.

@@ -1,4 +1,4 @@
--- Under a setup whose checks pass, but for those of the matrix's entries, its rotation refuses no input and no output of its dimension. Assumes nothing.
+-- Under a setup whose checks pass, but for those of the projection matrix's entries, its rotation refuses no input and no output of its dimension. Assumes nothing.
 use Prim.Native.Nat.{ℕ, _*_, _%_}
 use mathlib.Core.Path.{_≡_, refl, ap}
 use mathlib.Core.Bool.{false, not}
@@ -34,4 +34,4 @@ turnable-at Stored n entries above even small long good =
 pub setup-turnable : (s : Setup) (l : Lent) → first (setupChecksButEntries s l) accepted ≡ accepted → first (turnChecks s (l .rotation) (s .dim) (s .dim)) accepted ≡ accepted
 setup-turnable s l passed =
     let k = first-passes (setupChecksButEntries s l) tt passed in
-    turnable-at (s .rotation) (s .dim) (l .rotation) (k .0) (k .1 .0) (k .1 .1 .1 .1 .0) (k .1 .1 .1 .1 .1 .0) (k .1 .1 .1 .1 .1 .1 .1 .1 .0)
+    turnable-at (s .kind) (s .dim) (l .rotation) (k .0) (k .1 .0) (k .1 .1 .1 .1 .0) (k .1 .1 .1 .1 .1 .0) (k .1 .1 .1 .1 .1 .1 .1 .1 .0)

@@ -16,7 +16,7 @@ pub fn rotate(setup: Setup, entries: &[f32], input: &[f32], output: &mut [f32]) 
     ensures { λ r. ⌜ says r ≡ done (rotateOf setup (now (entries .entry)) (now (input .entry)) (length (now (output .entry)))) ⌝ }
     ensures { λ _. ⌜ now (output .exit) ≡ after (rotateOf setup (now (entries .entry)) (now (input .entry)) (length (now (output .entry)))) (now (output .entry)) ⌝ }
 {
-    let kind = setup.rotation;
+    let kind = setup.kind;
     match kind {
         RotationKind::FastHadamard => rotation::apply(setup.dim, entries, input, output),
         RotationKind::Stored => rotation_stored::apply(setup.dim, entries, input, output),
@@ -28,7 +28,7 @@ pub fn rotate_back(setup: Setup, entries: &[f32], input: &[f32], output: &mut [f
     ensures { λ r. ⌜ says r ≡ done (rotateBackOf setup (now (entries .entry)) (now (input .entry)) (length (now (output .entry)))) ⌝ }
     ensures { λ _. ⌜ now (output .exit) ≡ after (rotateBackOf setup (now (entries .entry)) (now (input .entry)) (length (now (output .entry)))) (now (output .entry)) ⌝ }
 {
-    let kind = setup.rotation;
+    let kind = setup.kind;
     match kind {
         RotationKind::FastHadamard => rotation::apply_inverse(setup.dim, entries, input, output),
         RotationKind::Stored => rotation_stored::apply_inverse(setup.dim, entries, input, output),

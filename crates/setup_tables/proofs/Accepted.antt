@@ -29,7 +29,7 @@ pub record Directions (s : Setup) (directions : List Float) : Type 0 where
 pub record AcceptedSetup (s : Setup) (l : Lent) : Type 0 where
   pub usable : Usable s
   pub rotation-long : length (l .rotation) ≡ rotationNeeded s
-  pub rotation-good : (i : ℕ) → i < length (l .rotation) → badRotationEntry (s .rotation) (getD (l .rotation) i nan) ≡ false
+  pub rotation-good : (i : ℕ) → i < length (l .rotation) → badRotationEntry (s .kind) (getD (l .rotation) i nan) ≡ false
   pub table : Directions s (l .directions)
   pub matrix-long : length (l .matrix) ≡ matrixNeeded s
   pub matrix-finite : (i : ℕ) → i < length (l .matrix) → finite (getD (l .matrix) i nan) ≡ true
@@ -43,7 +43,7 @@ module _ (s : Setup) (l : Lent) where
       record {
         usable = usable;
         rotation-long = eqb-true (length (l .rotation)) (rotationNeeded s) (not-false _ (k .0));
-        rotation-good = each-clear (badRotationEntry (s .rotation)) (l .rotation) nan (k .1 .1 .1 .0);
+        rotation-good = each-clear (badRotationEntry (s .kind)) (l .rotation) nan (k .1 .1 .1 .0);
         table = record {
           long = eqb-true (length (l .directions)) (directionsNeeded s) (not-false _ (k .1 .0));
           good = each-clear badDirection (l .directions) nan (k .1 .1 .1 .1 .0);

@@ -41,9 +41,9 @@ tableLengthChecks s l =
     ∷ wrongInput (length (l .matrix)) (matrixNeeded s)
     ∷ []
 
--- 'then 10, 7': these are the checks of the tables, but for the matrix's entries.
+-- 'then 10, 7': these are the checks of the tables, but for the projection matrix's entries.
 abbrev pub tableChecksButEntries : Setup → Lent → List Check
-tableChecksButEntries s l = tableLengthChecks s l ++ (wrongRotationEntry (s .rotation) (l .rotation) ∷ each badDirection 7 (l .directions) ∷ [])
+tableChecksButEntries s l = tableLengthChecks s l ++ (wrongRotationEntry (s .kind) (l .rotation) ∷ each badDirection 7 (l .directions) ∷ [])
 
 -- '.. 9: a matrix entry is not finite. Place: its index.' 'The first matrix entry, row by row, that is not finite is named': the matrix is lent row by row, so the
 -- entry at row r and column c has index r × n + c.
@@ -59,7 +59,7 @@ tableChecks s l = tableChecksButEntries s l ++ entryChecks (l .matrix)
 abbrev pub setupChecks : Setup → Lent → List Check
 setupChecks s l = scalarChecks s ++ tableChecks s l
 
--- These are all of them but those of the matrix's entries, which come last.
+-- These are all of them but those of the projection matrix's entries, which come last.
 abbrev pub setupChecksButEntries : Setup → Lent → List Check
 setupChecksButEntries s l = scalarChecks s ++ tableChecksButEntries s l
 

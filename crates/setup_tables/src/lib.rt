@@ -59,7 +59,7 @@ pub fn check_setup(setup: Setup, rotation: &[f32], directions: &[f32], matrix: &
     }
 }
 
-// The checks of a whole setup but for the matrix's entries, which come last.
+// The checks of a whole setup but for the projection matrix's entries, which come last.
 pub fn check_but_entries(
     setup: Setup,
     rotation: &[f32],
@@ -93,7 +93,7 @@ fn direction_entries(bits: u8) -> usize
     2 * (1usize << bits)
 }
 
-// The checks of the lent tables but for the matrix's entries, under scalars that pass.
+// The checks of the lent tables but for the projection matrix's entries, under scalars that pass.
 fn check_tables(setup: Setup, rotation: &[f32], directions: &[f32], matrix: &[f32]) -> Outcome
     requires { ⌜ first (scalarChecks setup) accepted ≡ accepted ⌝ }
     ensures { λ r. ⌜ says r ≡ first (tableChecksButEntries setup (lent (now (rotation .entry)) (now (directions .entry)) (now (matrix .entry)))) accepted ⌝ }
@@ -118,9 +118,9 @@ fn check_tables(setup: Setup, rotation: &[f32], directions: &[f32], matrix: &[f3
 
 // The check of what is lent for the rotation: signs, or the entries of a matrix.
 fn check_rotation(setup: Setup, entries: &[f32]) -> Outcome
-    ensures { λ r. ⌜ says r ≡ first (wrongRotationEntry (setup .rotation) (now (entries .entry)) ∷ []) accepted ⌝ }
+    ensures { λ r. ⌜ says r ≡ first (wrongRotationEntry (setup .kind) (now (entries .entry)) ∷ []) accepted ⌝ }
 {
-    let kind = setup.rotation;
+    let kind = setup.kind;
     match kind {
         RotationKind::FastHadamard => {
             let sign = rotation::first_bad_sign(entries);
@@ -150,7 +150,7 @@ fn rotation_entries(setup: Setup) -> usize
     requires { ⌜ setup .dim ≤ 4096 ⌝ }
     ensures { λ r. ⌜ r ≡ rotationNeeded setup ⌝ }
 {
-    let kind = setup.rotation;
+    let kind = setup.kind;
     let dim = setup.dim;
     match kind {
         RotationKind::FastHadamard => dim,
@@ -186,7 +186,7 @@ fn check_lengths(setup: Setup, rotation: &[f32], directions: &[f32], matrix: &[f
     Outcome::Done
 }
 
-// The check of the matrix's entries: one pass, and a search for the place only where some entry is not finite.
+// The check of the projection matrix's entries: one pass, and a search for the place only where some entry is not finite.
 fn check_entries(matrix: &[f32], rows: usize, columns: usize) -> Outcome
     requires { ⌜ rows * columns ≡ length (now matrix) ⌝ }
     ensures { λ r. ⌜ says r ≡ first (entryChecks (now (matrix .entry))) accepted ⌝ }

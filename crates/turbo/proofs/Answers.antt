@@ -59,7 +59,7 @@ module _ (s : Setup) (l : Lent) (query : List Float) (bytes : List ℕ) where
   entries-at Stored = refl
 
   pub account-entries : accountOf s l query .entries ≡ rotatedQuery s l query
-  account-entries = entries-at (s .rotation)
+  account-entries = entries-at (s .kind)
 
   -- the score is the one of the query rotated and projected
   pub estimate-record : estimate s l query bytes ≡ recordScore s (l .directions) (rotatedQuery s l query) (projectedQuery s l query) bytes

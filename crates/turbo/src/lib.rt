@@ -78,8 +78,8 @@ pub fn inner_product_estimate_phased(
     )
 }
 
-// The estimated inner product by a query that is prepared, which needs neither what the rotation is lent nor the matrix. A withdrawn position is told behind the checks of what
-// is prepared.
+// The estimated inner product by a query that is prepared, which needs neither what the rotation is lent nor the matrix. A withdrawn position is told
+// behind the checks of what is prepared.
 pub fn inner_product_estimate_prepared(
     setup: Setup,
     directions: &[f32],

@@ -19,7 +19,7 @@ use Rattle.qjl.specs.Score.{sketchScoreOf}
 use Rattle.packed.specs.Fields.{dimOf}
 use Rattle.packed.specs.Layout.{headerOf}
 use Rattle.packed.specs.Reading.{unlessWithdrawn, radiiOf, recordChecks}
-use Rattle.packed_laws.specs.OtherDimensions.{isMoved, recordChecksOfPowers}
+use Rattle.packed_laws.specs.OtherDimensions.{isMovedRecord, recordChecksOfPowers}
 use Rattle.packed_laws.proofs.OtherDimensions.{other-dimensions}
 use Rattle.turbo_order.specs.Scores.{scoreOf}
 use Rattle.turbo_query.specs.Query.{queryChecks, prepareRotatedOf, prepareProjectedOf}
@@ -35,7 +35,7 @@ use Rattle.turbo.proofs.Demand.{scored-open}
 use Rattle.turbo_laws.specs.OtherDimensions.{hadamardScalars, hadamardSetup, hadamardQuery, hadamardScore, behindReading, UnderHadamard, OtherSetups}
 
 -- the checks that stand behind those of a record
-reading-same : {A : Type 0} (s : Setup) (bytes : List ℕ) (last : List Check) (a : Answer A) → isMoved (dimOf bytes) ≡ false
+reading-same : {A : Type 0} (s : Setup) (bytes : List ℕ) (last : List Check) (a : Answer A) → isMovedRecord bytes ≡ false
     → unlessWithdrawn bytes (first (recordChecks bytes ++ matchChecks s bytes ++ last) a) ≡ behindReading s bytes last a
 reading-same s bytes last a is =
     let rest = matchChecks s bytes in
@@ -48,7 +48,7 @@ reading-same s bytes last a is =
 
 -- a setup with another rotation
 abbrev turnedBy : Setup → RotationKind → Setup
-turnedBy s kind = record { mode = s .mode; dim = s .dim; bits = s .bits; projections = s .projections; rotation = kind }
+turnedBy s kind = record { mode = s .mode; dim = s .dim; bits = s .bits; projections = s .projections; kind = kind }
 
 under-hadamard : (s : Setup) → UnderHadamard (turnedBy s FastHadamard)
 unfolding sketchOf sketchScoreOf prepareRotatedOf prepareProjectedOf openRecordOf innerProductEstimateOf innerProductEstimatePhasedOf innerProductEstimatePreparedOf l2DistanceEstimateOf decodeApproximateOf scoreOf
@@ -78,11 +78,11 @@ under-hadamard s =
       decode = λ l bytes room is. ap (first (hadamardSetup h l)) (reading-same h bytes (wrongRoom room (h .dim) ∷ []) (value (decoded h l bytes)) is);
     }
 
-scored-dimension : (s : Setup) (l : Lent) (query : List Float) (bytes : List ℕ) (x : Float) → IsScored s l query bytes x → badRotationDimension (s .rotation) (dimOf bytes) ≡ false
+scored-dimension : (s : Setup) (l : Lent) (query : List Float) (bytes : List ℕ) (x : Float) → IsScored s l query bytes x → badRotationDimension (s .kind) (dimOf bytes) ≡ false
 unfolding innerProductEstimateOf
 scored-dimension s l query bytes x scored =
     let k = first-passes (queryChecks s l query) tt (first-clear (queryChecks s l query) _ scored) in
-    ap (badRotationDimension (s .rotation)) (opened-dim s bytes (scored-open s l query bytes scored)) ∙ k .1 .1 .1 .1 .0
+    ap (badRotationDimension (s .kind)) (opened-dim s bytes (scored-open s l query bytes scored)) ∙ k .1 .1 .1 .1 .0
 
 pub other-setups : OtherSetups
 unfolding ones

@@ -1,6 +1,6 @@
 -- Request h) of document 02 adds setups with a stored rotation and moves nothing of those with Hadamard signs: of these, document 01's checks, rotation, exact score and
--- bound stand here, and every call under such a setup is answered by them. A record counts whose dimension is none that the request lets pass (`isMoved`): of one of
--- those the record's own check had answered 4, and it is held against the setup now. Assumes nothing.
+-- bound stand here, and every call under such a setup is answered by them. What takes a record is claimed of every one that the request does not move
+-- (`isMovedRecord`): a moved one was 4 by the record's own check, and has the answer of the checks behind it now. Assumes nothing.
 use Prim.Native.Nat.{ℕ, _^_}
 use mathlib.Core.Path.{_≡_}
 use mathlib.Core.Bool.{true, false}
@@ -26,7 +26,7 @@ use Rattle.qjl.specs.Score.{modeScore, sketchScoreOf}
 use Rattle.packed.specs.Fields.{dimOf}
 use Rattle.packed.specs.Layout.{headerOf}
 use Rattle.packed.specs.Reading.{unlessWithdrawn, radiiOf, indicesOf}
-use Rattle.packed_laws.specs.OtherDimensions.{isMoved, recordChecksOfPowers}
+use Rattle.packed_laws.specs.OtherDimensions.{isMovedRecord, recordChecksOfPowers}
 use Rattle.turbo_order.specs.Account.{hadamardAccount}
 use Rattle.turbo_order.specs.Scores.{scoreFrom, exactBy, boundBy}
 use Rattle.turbo_query.specs.Query.{prepareRotatedOf, prepareProjectedOf}
@@ -100,29 +100,29 @@ pub record UnderHadamard (s : Setup) : Type 0 where
   pub exact : (l : Lent) (query : List Float) (bytes : List ℕ) → exactOf s l query bytes ≡ 2 ^ 23 ⊙ exactBy (hadamardAccount (s .dim) (l .rotation) query) s l query (contentOf bytes)
   pub bound : (l : Lent) (query : List Float) (bytes : List ℕ) → boundFor s l query bytes ≡ boundBy (hadamardAccount (s .dim) (l .rotation) query) s l query (contentOf bytes)
   -- These take a record.
-  pub opening : (bytes : List ℕ) → isMoved (dimOf bytes) ≡ false → openRecordOf s bytes ≡ first (hadamardScalars s) (behindReading s bytes [] (value (headerOf bytes)))
-  pub score : (l : Lent) (query : List Float) (bytes : List ℕ) → isMoved (dimOf bytes) ≡ false
+  pub opening : (bytes : List ℕ) → isMovedRecord bytes ≡ false → openRecordOf s bytes ≡ first (hadamardScalars s) (behindReading s bytes [] (value (headerOf bytes)))
+  pub score : (l : Lent) (query : List Float) (bytes : List ℕ) → isMovedRecord bytes ≡ false
       → innerProductEstimateOf s l query bytes
       ≡ first (hadamardQuery s l query) (behindReading s bytes (wrongScore (hadamardScore s l query bytes) ∷ []) (value (hadamardScore s l query bytes)))
-  pub phased : (l : Lent) (query : List Float) (bytes : List ℕ) → isMoved (dimOf bytes) ≡ false
+  pub phased : (l : Lent) (query : List Float) (bytes : List ℕ) → isMovedRecord bytes ≡ false
       → innerProductEstimatePhasedOf s l query bytes
       ≡ first (hadamardQuery s l query) (value (behindReading s bytes (wrongScore (hadamardScore s l query bytes) ∷ []) (value (hadamardScore s l query bytes))))
-  pub prepared : (directions turned values : List Float) (bytes : List ℕ) → isMoved (dimOf bytes) ≡ false
+  pub prepared : (directions turned values : List Float) (bytes : List ℕ) → isMovedRecord bytes ≡ false
       → innerProductEstimatePreparedOf s directions turned values bytes
       ≡ first (hadamardScalars s ++ directionChecks s directions ++ lengthsAndValues s turned values)
       (behindReading s bytes (wrongScore (recordScore s directions turned values bytes) ∷ []) (value (recordScore s directions turned values bytes)))
-  pub distance : (l : Lent) (query : List Float) (bytes : List ℕ) → isMoved (dimOf bytes) ≡ false
+  pub distance : (l : Lent) (query : List Float) (bytes : List ℕ) → isMovedRecord bytes ≡ false
       → l2DistanceEstimateOf s l query bytes
       ≡ first (hadamardQuery s l query)
       (behindReading s bytes (wrongScore (hadamardScore s l query bytes) ∷ []) (distanceFromScoreOf query (radiiOf bytes) (hadamardScore s l query bytes)))
-  pub decode : (l : Lent) (bytes : List ℕ) (room : ℕ) → isMoved (dimOf bytes) ≡ false
+  pub decode : (l : Lent) (bytes : List ℕ) (room : ℕ) → isMovedRecord bytes ≡ false
       → decodeApproximateOf s l bytes room
       ≡ first (hadamardSetup s l)
       (behindReading s bytes (wrongRoom room (s .dim) ∷ []) (value (unrotated (s .dim) (l .rotation) (decodedPairs (l .directions) (indicesOf bytes) (radiiOf bytes)))))
 
 pub record OtherSetups : Type 0 where
   -- A setup with Hadamard signs is answered as it was.
-  pub hadamard : (s : Setup) → s .rotation ≡ FastHadamard → UnderHadamard s
+  pub hadamard : (s : Setup) → s .kind ≡ FastHadamard → UnderHadamard s
   -- A record that is scored has a dimension that its setup can have. One of 514 dimensions, say, no setup can have: it is read and written, and never scored.
-  pub scored-dimension : (s : Setup) (l : Lent) (query : List Float) (bytes : List ℕ) (x : Float) → IsScored s l query bytes x → badRotationDimension (s .rotation) (dimOf bytes) ≡ false
+  pub scored-dimension : (s : Setup) (l : Lent) (query : List Float) (bytes : List ℕ) (x : Float) → IsScored s l query bytes x → badRotationDimension (s .kind) (dimOf bytes) ≡ false
   pub none-of-514 : (badRotationDimension FastHadamard 514 ≡ true) × (badRotationDimension Stored 514 ≡ true)

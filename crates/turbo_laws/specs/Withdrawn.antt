@@ -1,5 +1,6 @@
 -- Request b) of document 02 moves what is answered of a record without bytes, and nothing else: 'scoring answers withdrawn in place of a score, after the query's checks.
--- Distance does likewise, and decoding after the setup's checks, before 6, with nothing written.' Assumes nothing.
+-- Distance does likewise, and decoding after the setup's checks, before 6, with nothing written.' The lists of checks are those of now, with what requests c)
+-- and h) moved. Assumes nothing.
 use Prim.Native.Nat.{ℕ, _≤_}
 use mathlib.Core.Path.{_≡_}
 use mathlib.Core.List.{List, [], _∷_, _++_}

@@ -114,7 +114,7 @@ pub record ScoresWithoutNorm : Type 0 where
   pub decode-kept : (s : Setup) (l : Lent) (bytes : List ℕ) (room : ℕ) → hasNorm (mapOf bytes) ≡ false
       → decodeApproximateOf s l bytes room
       ≡ first (setupChecks s l) (unlessWithdrawn bytes (first (formerRecordChecks bytes ++ matchChecks s bytes ++ (wrongRoom room (s .dim) ∷ [])) (value (decoded s l bytes))))
-  -- Demand 3 holds such a record to document 01's exact score and bound.
+  -- Demand 3 holds such a record to this exact score and this bound.
   pub exact-kept : (s : Setup) (l : Lent) (query : List Float) (bytes : List ℕ) → hasNorm (mapOf bytes) ≡ false → exactOf s l query bytes ≡ formerExact s l query bytes
   pub bound-kept : (s : Setup) (l : Lent) (query : List Float) (bytes : List ℕ) → hasNorm (mapOf bytes) ≡ false → boundFor s l query bytes ≡ formerBound s l query bytes
   -- A sketch score with the norm 1.0 is document 01's.

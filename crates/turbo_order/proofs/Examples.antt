@@ -23,7 +23,7 @@ abbrev account : Account
 account = record { entries = []; exact = []; sizes = 3 ∷ 5 ∷ []; count = 4; factor = 7 }
 
 abbrev setup : Setup
-setup = record { mode = PolarOnly; dim = 2; bits = 1; projections = 0; rotation = FastHadamard }
+setup = record { mode = PolarOnly; dim = 2; bits = 1; projections = 0; kind = FastHadamard }
 
 -- the direction (1.0, -1.0)
 abbrev lent : Lent
@@ -45,7 +45,7 @@ bound-of-pair = refl
 
 -- ---- with a residual of one row, (1.0, -1.0), the query (1.0, 1.0) and the norm 1.5
 abbrev oneRowSetup : Setup
-oneRowSetup = record { mode = PolarWithQjl; dim = 2; bits = 2; projections = 1; rotation = FastHadamard }
+oneRowSetup = record { mode = PolarWithQjl; dim = 2; bits = 2; projections = 1; kind = FastHadamard }
 
 abbrev oneRowLent : Lent
 oneRowLent = record { rotation = []; directions = one false ∷ one true ∷ []; matrix = one false ∷ one true ∷ [] }

@@ -28,7 +28,7 @@ use Rattle.turbo_order.specs.Scores.{Content, polarPartSize, residualPar
 use Rattle.turbo_order.specs.AsWritten.{writtenPolarSize, writtenSize}
 use Rattle.turbo_order.proofs.Sound.{Sound}
 
-module _ (s : Setup) (l : Lent) (query : List Float) (is : s .rotation ≡ FastHadamard) (accepted : AcceptedSetup s l) (query-long : length query ≡ s .dim) where
+module _ (s : Setup) (l : Lent) (query : List Float) (is : s .kind ≡ FastHadamard) (accepted : AcceptedSetup s l) (query-long : length query ≡ s .dim) where
   rotatable : Rotatable (s .dim) (l .rotation) (length query) (s .dim)
   rotatable =
       record {

@@ -19,16 +19,16 @@ use Rattle.turbo_order.proofs.Stored.{stored-sound}
 
 module _ (s : Setup) (l : Lent) (query : List Float) where
   -- the account of a rotation that is known
-  account-at : {k : RotationKind} → s .rotation ≡ k → accountOf s l query ≡ byRotation k (hadamardAccount (s .dim) (l .rotation) query) (storedAccount (s .dim) (l .rotation) query)
+  account-at : {k : RotationKind} → s .kind ≡ k → accountOf s l query ≡ byRotation k (hadamardAccount (s .dim) (l .rotation) query) (storedAccount (s .dim) (l .rotation) query)
   account-at e = ap (λ (k : RotationKind). byRotation k (hadamardAccount (s .dim) (l .rotation) query) (storedAccount (s .dim) (l .rotation) query)) e
 
   module _ (accepted : AcceptedSetup s l) (query-long : length query ≡ s .dim) (rotation-fit : AllFit (l .rotation)) (query-fit : AllFit query) where
-    sound-at : (k : RotationKind) → s .rotation ≡ k → Sound (s .dim) (accountOf s l query)
+    sound-at : (k : RotationKind) → s .kind ≡ k → Sound (s .dim) (accountOf s l query)
     sound-at FastHadamard e = subst (λ (a : Account). Sound (s .dim) a) (sym (account-at e)) (hadamard-sound s l query e accepted query-long rotation-fit query-fit)
     sound-at Stored e = subst (λ (a : Account). Sound (s .dim) a) (sym (account-at e)) (stored-sound s l query e accepted rotation-fit query-fit)
 
     pub account-sound : Sound (s .dim) (accountOf s l query)
-    account-sound = sound-at (s .rotation) refl
+    account-sound = sound-at (s .kind) refl
 
 pub as-written : AsWritten
 unfolding sizeBy boundBy

@@ -14,7 +14,7 @@ use Rattle.setup_tables.proofs.Accepted.{AcceptedSetup}
 use Rattle.turbo_order.specs.Account.{storedAccount}
 use Rattle.turbo_order.proofs.Sound.{Sound}
 
-pub stored-sound : (s : Setup) (l : Lent) (query : List Float) → s .rotation ≡ Stored → AcceptedSetup s l → AllFit (l .rotation) → AllFit query
+pub stored-sound : (s : Setup) (l : Lent) (query : List Float) → s .kind ≡ Stored → AcceptedSetup s l → AllFit (l .rotation) → AllFit query
     → Sound (s .dim) (storedAccount (s .dim) (l .rotation) query)
 stored-sound s l query is accepted matrix-fit query-fit =
     let small = accepted .usable .stored is in

@@ -27,23 +27,23 @@ writtenSize s l query c = byMode (s .mode) (writtenPolarSize s l query c) (writt
 
 -- Under a stored rotation the first part of A has, 'for each |c| and |s|, its rotated entry's sum of |matrix entry × query entry| in place of (1/sqrt(n)) × X' (document
 -- 02).
-abbrev pub storedPolarSize : Setup → Lent → List Float → Content → ℕ
-storedPolarSize s l query c = polarSize (storedSizes (s .dim) (l .rotation) query) (l .directions) (c .indices) (c .radii)
+abbrev pub writtenStoredPolarSize : Setup → Lent → List Float → Content → ℕ
+writtenStoredPolarSize s l query c = polarSize (storedSizes (s .dim) (l .rotation) query) (l .directions) (c .indices) (c .radii)
 
-abbrev pub storedSize : Setup → Lent → List Float → Content → ℕ
-storedSize s l query c = byMode (s .mode) (storedPolarSize s l query c) (storedPolarSize s l query c + residualPartSize s l query c)
+abbrev pub writtenStoredSize : Setup → Lent → List Float → Content → ℕ
+writtenStoredSize s l query c = byMode (s .mode) (writtenStoredPolarSize s l query c) (writtenStoredPolarSize s l query c + residualPartSize s l query c)
 
 pub record AsWritten : Type 0 where
   -- Under the Hadamard rotation both are claimed of what a record holds that has at most one radius for each pair of the setup's dimension.
-  pub size : (s : Setup) (l : Lent) (query : List Float) (c : Content) → s .rotation ≡ FastHadamard → 2 * length (c .radii) ≤ s .dim
+  pub size : (s : Setup) (l : Lent) (query : List Float) (c : Content) → s .kind ≡ FastHadamard → 2 * length (c .radii) ≤ s .dim
       → sizeBy (accountOf s l query) s l query c ≡ writtenSize s l query c
   -- 'bound = (n + m + 16) × A / 2^23 + (R + n×m + n) / 2^146', where 'n×m is multiplied by a whole number: the norm rounded up, and at least 1' (document 02).
-  pub bound : (s : Setup) (l : Lent) (query : List Float) (c : Content) → s .rotation ≡ FastHadamard → 2 * length (c .radii) ≤ s .dim
+  pub bound : (s : Setup) (l : Lent) (query : List Float) (c : Content) → s .kind ≡ FastHadamard → 2 * length (c .radii) ≤ s .dim
       → scoreBound s l query c
       ≡ (s .dim + countedProjectionsOf s + 16) * writtenSize s l query c + (perRadius * absoluteSum (c .radii) + perStep * (s .dim * countedProjectionsOf s * wholeNorm (c .norm) + s .dim))
-  pub stored-size : (s : Setup) (l : Lent) (query : List Float) (c : Content) → s .rotation ≡ Stored → sizeBy (accountOf s l query) s l query c ≡ storedSize s l query c
+  pub stored-size : (s : Setup) (l : Lent) (query : List Float) (c : Content) → s .kind ≡ Stored → sizeBy (accountOf s l query) s l query c ≡ writtenStoredSize s l query c
   -- 'with n + m + 16 read as 2n + m + 16, R multiplied by n'.
-  pub stored-bound : (s : Setup) (l : Lent) (query : List Float) (c : Content) → s .rotation ≡ Stored
+  pub stored-bound : (s : Setup) (l : Lent) (query : List Float) (c : Content) → s .kind ≡ Stored
       → scoreBound s l query c
-      ≡ (2 * s .dim + countedProjectionsOf s + 16) * storedSize s l query c
+      ≡ (2 * s .dim + countedProjectionsOf s + 16) * writtenStoredSize s l query c
       + (perRadius * (s .dim * absoluteSum (c .radii)) + perStep * (s .dim * countedProjectionsOf s * wholeNorm (c .norm) + s .dim))

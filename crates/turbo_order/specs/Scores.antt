@@ -85,7 +85,7 @@ boundBy a s l query c =
 
 -- ---- under the rotation of the setup
 abbrev pub accountOf : Setup → Lent → List Float → Account
-accountOf s l query = byRotation (s .rotation) (hadamardAccount (s .dim) (l .rotation) query) (storedAccount (s .dim) (l .rotation) query)
+accountOf s l query = byRotation (s .kind) (hadamardAccount (s .dim) (l .rotation) query) (storedAccount (s .dim) (l .rotation) query)
 
 unfoldable pub scoreOf : Setup → Lent → List Float → Content → Float
 scoreOf s l query c = scoreBy (accountOf s l query) s l query c

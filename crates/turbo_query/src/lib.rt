@@ -86,7 +86,7 @@ fn prepare_at_once(
     true
 }
 
-// Writes both outputs, or refuses, check by check: the checks of the matrix's entries come before those of the query.
+// Writes both outputs, or refuses, check by check: the checks of the projection matrix's entries come before those of the query.
 fn prepare_checked(
     setup: Setup,
     rotation: &[f32],

@@ -172,7 +172,7 @@ fn setup_of(rows: usize) -> Setup {
         dim: 4,
         bits: if rows == 0 { 2 } else { 3 },
         projections: rows,
-        rotation: RotationKind::FastHadamard,
+        kind: RotationKind::FastHadamard,
     }
 }
 

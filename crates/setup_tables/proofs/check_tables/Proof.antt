@@ -21,7 +21,7 @@ returns : tie.Need-returns
 returns c =
     let a = c .before .before .before .before .before .before .before .args in
     sym
-    (append-refused (tableLengthChecks (a .setup) (lent (a .rotation .now) (a .directions .now) (a .matrix .now))) (wrongRotationEntry (a .setup .rotation) (a .rotation .now) ∷ each badDirection 7 (a .directions .now) ∷ []) tt accepted
+    (append-refused (tableLengthChecks (a .setup) (lent (a .rotation .now) (a .directions .now) (a .matrix .now))) (wrongRotationEntry (a .setup .kind) (a .rotation .now) ∷ each badDirection 7 (a .directions .now) ∷ []) tt accepted
     (sym (c .before .before .before .check-lengths .ensures) ∙ ap says (c .before .held .given .1)))
 
 enum-told : tie.Need-enum-told
@@ -31,10 +31,10 @@ enum-told c = search needs
 rest : (c : tie.After-enum-told)
     → let a = c .before .before .before .before .before .before .args in
     first (tableChecksButEntries (a .setup) (lent (a .rotation .now) (a .directions .now) (a .matrix .now))) accepted
-    ≡ first (wrongRotationEntry (a .setup .rotation) (a .rotation .now) ∷ each badDirection 7 (a .directions .now) ∷ []) accepted
+    ≡ first (wrongRotationEntry (a .setup .kind) (a .rotation .now) ∷ each badDirection 7 (a .directions .now) ∷ []) accepted
 rest c =
     let a = c .before .before .before .before .before .before .args in
-    append-passed (tableLengthChecks (a .setup) (lent (a .rotation .now) (a .directions .now) (a .matrix .now))) (wrongRotationEntry (a .setup .rotation) (a .rotation .now) ∷ each badDirection 7 (a .directions .now) ∷ []) tt accepted
+    append-passed (tableLengthChecks (a .setup) (lent (a .rotation .now) (a .directions .now) (a .matrix .now))) (wrongRotationEntry (a .setup .kind) (a .rotation .now) ∷ each badDirection 7 (a .directions .now) ∷ []) tt accepted
     (sym (c .before .before .check-lengths .ensures) ∙ ap says (c .enum-told .given .1))
 
 check-rotation-requires : tie.Need-check-rotation-requires
@@ -48,7 +48,7 @@ returns-2 c =
     let a = c .before .before .before .before .before .before .before .before .before .before .args in
     sym
     (rest (c .before .before .before .before)
-    ∙ append-refused (wrongRotationEntry (a .setup .rotation) (a .rotation .now) ∷ []) (each badDirection 7 (a .directions .now) ∷ []) tt accepted
+    ∙ append-refused (wrongRotationEntry (a .setup .kind) (a .rotation .now) ∷ []) (each badDirection 7 (a .directions .now) ∷ []) tt accepted
     (sym (c .before .before .before .check-rotation .ensures) ∙ ap says (c .before .turned .given .1)))
 
 enum-told-2 : tie.Need-enum-told-2
@@ -62,7 +62,7 @@ last : (c : tie.After-enum-told2)
 last c =
     let a = c .before .before .before .before .before .before .before .before .before .args in
     rest (c .before .before .before)
-    ∙ append-passed (wrongRotationEntry (a .setup .rotation) (a .rotation .now) ∷ []) (each badDirection 7 (a .directions .now) ∷ []) tt accepted
+    ∙ append-passed (wrongRotationEntry (a .setup .kind) (a .rotation .now) ∷ []) (each badDirection 7 (a .directions .now) ∷ []) tt accepted
     (sym (c .before .before .check-rotation .ensures) ∙ ap says (c .enum-told2 .given .1))
 
 first-bad-direction-requires : tie.Need-first-bad-direction-requires
