@@ -2,7 +2,7 @@
 """Chooses small cases from a list of answers and writes them in the form that the program
 `replay` reads: its standard input, and what it must print.
 
-    cargo run --release -p cases -- list --count 6000 | ./replay.py ../crates/replay
+    cargo run --release -p cases -- list --count 8000 | ./replay.py ../crates/replay
 
 A line of the list is `call name=value .. => rust VALUE | plain VALUE | refused NUMBER PLACE | withdrawn`.
 From each call come the first few values and the first few refusals of every number, told
@@ -10,7 +10,9 @@ apart by mode, by radius form and by what offended; distances by `sum` too, whic
 their sum is before its cut to zero. Every number that a call can give must be among them, and
 every kind of sum. Of a record of no bytes come withdrawn positions, for each call that takes a
 record, and every refusal that comes before them. Norms come absent, as 1.0, as -0.0 and as others,
-refused for each thing that can be wrong with them, and so large that the score is refused. A record
+refused for each thing that can be wrong with them, and so large that the score is refused. Stored
+rotations come under every setup and by themselves, with a wrong length and a bad entry told apart from
+the projections', and records of other dimensions are read, written, scored, and refused under signs. A record
 that is read stands in the list once for each call that reads it, but where it is there for its norm's
 value alone. The form of a case is described in crates/replay/src/frame.rt.
 """
@@ -45,14 +47,16 @@ CALLS = {
     "read_radii": {13, 18, 2, 3, 4, 1, 8, 17, 23, 16, 14},
     "apply": {2, 3, 4, 5, 10, 6},
     "apply_inverse": {2, 3, 4, 5, 10, 6},
-    "score_prepared": {2, 3, 1, 8, 4, 5, 7, 11, 13, 18, 17, 23, 16, 14, 20, 12},
-    "setup": {2, 3, 1, 8, 4, 5, 10, 7, 9},
-    "sketch": {2, 3, 1, 8, 4, 5, 10, 7, 9, 11, 6},
-    "prepare_query": {2, 3, 1, 8, 4, 5, 10, 7, 9, 11, 6},
-    "decode": {2, 3, 1, 8, 4, 5, 10, 7, 9, 13, 18, 17, 23, 16, 14, 20, 6},
-    "sketch_score": {2, 3, 1, 8, 4, 5, 10, 7, 9, 11, 23, 12},
-    "score": {2, 3, 1, 8, 4, 5, 10, 7, 9, 11, 13, 18, 17, 23, 16, 14, 20, 12},
-    "distance": {2, 3, 1, 8, 4, 5, 10, 7, 9, 11, 13, 18, 17, 23, 16, 14, 20, 12},
+    "stored_apply": {2, 3, 26, 5, 9, 6},
+    "stored_apply_inverse": {2, 3, 26, 5, 9, 6},
+    "score_prepared": {2, 3, 1, 8, 4, 26, 5, 7, 11, 13, 18, 17, 23, 16, 14, 20, 12},
+    "setup": {2, 3, 1, 8, 4, 26, 5, 10, 7, 9},
+    "sketch": {2, 3, 1, 8, 4, 26, 5, 10, 7, 9, 11, 6},
+    "prepare_query": {2, 3, 1, 8, 4, 26, 5, 10, 7, 9, 11, 6},
+    "decode": {2, 3, 1, 8, 4, 26, 5, 10, 7, 9, 13, 18, 17, 23, 16, 14, 20, 6},
+    "sketch_score": {2, 3, 1, 8, 4, 26, 5, 10, 7, 9, 11, 23, 12},
+    "score": {2, 3, 1, 8, 4, 26, 5, 10, 7, 9, 11, 13, 18, 17, 23, 16, 14, 20, 12},
+    "distance": {2, 3, 1, 8, 4, 26, 5, 10, 7, 9, 11, 13, 18, 17, 23, 16, 14, 20, 12},
 }
 # What a distance's sum can be, with the number of its refusal or 0; None where the score is not finite.
 SUMS = {(12, None), (12, "nan"), (12, "+inf"), (0, "-inf"), (0, "finite")}
@@ -79,10 +83,28 @@ NORMS = {
     "distance": SCORED,
     "decode": {"absent", "another"},
 }
+# What a call must have of boards of other dimensions: `about_board` says which a case is.
+UNDER = {"stored", "5, the rotation", "9, the rotation", "9, the projections"}
+OPENED = {"stored, another dimension", "5, another dimension under signs"}
+ALONE = {"stored 2", "stored 4", "stored 6", "stored 8", "26 before 5", "9 before 5"}
+BOARDS = {
+    "stored_apply": ALONE,
+    "stored_apply_inverse": ALONE,
+    "read_record": {"another dimension"},
+    "write_record": {"another dimension"},
+    "score_prepared": {"stored", *OPENED},
+    "setup": UNDER | {"1 before 26", "8 before 26", "9 before 7"},
+    "sketch": UNDER,
+    "prepare_query": UNDER,
+    "sketch_score": UNDER,
+    "decode": UNDER | OPENED,
+    "score": UNDER | OPENED,
+    "distance": UNDER | OPENED,
+}
 # The norms 1.0 and -0.0, root(PI / 2), and the largest norm with a finite product with it.
 ONE, MINUS_ZERO, ROOT, LARGEST = 0x3F800000, 0x80000000, 0x3FA06C99, 0x7F4C4229
 # The lists of a case, by their places in it, the form of an element, and the mark of one that is not written.
-SIGNS, DIRECTIONS, MATRIX, VECTOR, FLOATS, INDICES, SKETCH, BYTES, PROJECTED, PART = range(10)
+ROTATION, DIRECTIONS, MATRIX, VECTOR, FLOATS, INDICES, SKETCH, BYTES, PROJECTED, PART = range(10)
 FORMS = {INDICES: "H", SKETCH: "b", BYTES: "B", PART: "B"}
 MARKS = {FLOATS: 0xC0E80000, INDICES: 0xA5A5, SKETCH: 0x5A, BYTES: 0xA5, PROJECTED: 0xC0E80000}
 # The lists that a call writes, and the field with the length that is lent; 3 where there is none.
@@ -99,11 +121,13 @@ WRITES = {
     "decompress": {FLOATS: "out"},
     "apply": {FLOATS: "out"},
     "apply_inverse": {FLOATS: "out"},
+    "stored_apply": {FLOATS: "out"},
+    "stored_apply_inverse": {FLOATS: "out"},
     "read_radii": {FLOATS: ""},
     "decode": {FLOATS: "out"},
     "prepare_query": {FLOATS: "out_rotated", PROJECTED: "out_projected"},
 }
-MOST, NAME = 64, 24
+MOST, NAME, LARGEST_CASE = 64, 24, 512
 VALUES, SETUP_VALUES, REFUSALS = 6, 2, 1
 
 
@@ -136,6 +160,43 @@ def classes(fields):
     return frozenset(found)
 
 
+def stored(fields):
+    """Whether a case has a stored rotation, under a setup or by itself."""
+    return fields.get("kind") == "stored" or "matrix" in fields and "directions" not in fields
+
+
+def power(dim):
+    return dim & (dim - 1) == 0
+
+
+def about_board(call, fields, number, place):
+    """What a case has to do with boards of other dimensions: one of its call's in BOARDS, or nothing."""
+    dim, record = int(fields.get("dim", "0")), octets(fields.get("record", "-"))
+    other = len(record) > 5 and not power(int.from_bytes(record[1:5], "little"))
+    if call.startswith("stored_"):
+        if number in (26, 9):
+            return f"{number} before 5" if len(patterns(fields["input"])) != dim else ""
+        return f"stored {dim}" if number == 0 else ""
+    if call in ("read_record", "write_record"):
+        return "another dimension" if number == 0 and (other or not power(dim)) else ""
+    if not stored(fields):
+        named = "5, another dimension under signs"
+        return named if number == 5 and other and place == int.from_bytes(record[1:5], "little") else ""
+    entries = patterns(fields["rotation"])
+    if number == 0:
+        return "stored, another dimension" if other else "stored"
+    if number == 5 and len(entries) != dim * dim and place == len(entries):
+        return "5, the rotation"
+    if number == 9 and not all(map(finite, entries)):
+        wide = any(p & 0x7FFFFFFF > ONE for p in patterns(fields["directions"]))
+        return "9 before 7" if call == "setup" and wide else "9, the rotation"
+    if number == 9:
+        return "9, the projections"
+    if number in (1, 8) and call == "setup" and dim > 512:
+        return f"{number} before 26"
+    return ""
+
+
 def offender(fields, number):
     """What a refusal is about, where a number can stand for several things."""
     told = []
@@ -143,13 +204,13 @@ def offender(fields, number):
         dim, bits, rows = (int(fields[name]) for name in ("dim", "bits", "projections"))
         residual = fields["mode"] == "residual"
         scalars = (
-            dim in (2, 4, 8)
+            dim in ((2, 4, 6, 8) if stored(fields) else (2, 4, 8))
             and 1 + residual <= bits <= 16
             and (not residual or 1 <= rows <= 4096)
         )
         told.append(scalars)
         if number == 5:
-            told.append(len(patterns(fields["signs"])) == dim)
+            told.append(len(patterns(fields["rotation"])) == (dim * dim if stored(fields) else dim))
             told.append(len(patterns(fields["directions"])) == 2 << max(bits - residual, 0))
             told.append(len(patterns(fields["matrix"])) == (rows * dim if residual else 0))
             told.append(len(patterns(fields.get("query", fields.get("vector", "-")))) == dim)
@@ -157,6 +218,8 @@ def offender(fields, number):
         if number == 11:
             told.append(all(finite(p) for p in patterns(fields.get("query", "-"))))
             told.append(all(finite(p) for p in patterns(fields.get("rotated", "-"))))
+    elif number == 5 and stored(fields):
+        told.append(len(patterns(fields["matrix"])) == int(fields["dim"]) ** 2)
     elif number == 5:
         told.append(len(fields["signs"].split(",")) == int(fields["dim"]))
         told.append(2 * len(fields.get("radii", "-").split(",")) == int(fields["dim"]))
@@ -264,9 +327,10 @@ def ended(answer):
 
 def small(fields):
     """Whether a case is small enough to be written down."""
-    for name in ("dim", "projections"):
-        if 8 < int(fields.get(name, "0")) <= 4096:
-            return False
+    # A dimension that the setup's rotation doesn't take may be larger, and so may a count that is refused.
+    refused = 513 if stored(fields) else 9 if fields.get("kind") and not power(int(fields["dim"])) else 4097
+    if 8 < int(fields.get("dim", "0")) < refused or 8 < int(fields.get("projections", "0")) <= 4096:
+        return False
     if fields.get("mode") == "residual" and 4 < int(fields["projections"]) <= 4096:
         return False
     for name, text in fields.items():
@@ -287,10 +351,11 @@ def inputs(call, fields):
         "bytes": (BYTES, octets),
         "payload": (BYTES, octets),
         "record": (BYTES, octets),
-        "signs": (SKETCH if turns is numbers else SIGNS, turns),
+        "signs": (SKETCH if turns is numbers else ROTATION, turns),
+        "rotation": (ROTATION, patterns),
         "sketch": (SKETCH, numbers),
         "directions": (DIRECTIONS, patterns),
-        "matrix": (MATRIX, patterns),
+        "matrix": (ROTATION if call.startswith("stored_") else MATRIX, patterns),
         "radii": (VECTOR, patterns),
         "input": (VECTOR, patterns),
         "vector": (VECTOR, patterns),
@@ -360,13 +425,16 @@ def encode(call, fields, text):
     three = [0, int(fields.get("projections", 0)), 0]
     for name in ("count", "used_bits", "dim", "index"):
         three[0] = int(fields.get(name, three[0]))
+    if "kind" in fields:
+        three[2] = ["hadamard", "stored"].index(fields["kind"])
     if "seed" in fields:
         three[0] = int(fields["seed"], 16)
     floats = [int(fields.get(name, "0"), 16) for name in ("min", "max", "value")]
     if call in ("write_record", "sketch_score"):
         norm = norm_of(fields)
-        three[2] = int(call == "write_record" and norm is not None)
         floats[2] = norm or 0
+    if call == "write_record":
+        three[2] = int(norm is not None)
     answer = [0, 0]
     if number:
         for list_, room in WRITES.get(call, {}).items():
@@ -385,17 +453,16 @@ def encode(call, fields, text):
         body += bytes(-len(body) % 4)
         table += struct.pack("<HH", (96 + len(body)) // struct.calcsize(form), len(items))
         body += struct.pack(f"<{len(items)}{form}", *items)
-    case = head + table + body
-    assert len(head) == 56 and len(case) <= 512
-    return case
+    assert len(head) == 56
+    return head + table + body
 
 
 def kind_of(call, fields, answer):
     """How many cases of a kind are taken, and what tells it from others of the same call and number."""
-    number, record = ended(answer)[0], octets(fields.get("record", "-"))
-    norm = about_norm(call, fields, number)
+    (number, place), record = ended(answer), octets(fields.get("record", "-"))
+    norm, board = about_norm(call, fields, number), about_board(call, fields, number, place)
     if number:
-        return REFUSALS, [offender(fields, number), norm]
+        return REFUSALS, [offender(fields, number), norm, board]
     by, mode, signs = answer.split()[0], fields.get("mode"), record[:1] > [1]
     # A norm that the call need not have is not worth a case, and plain sums show another one once.
     if call in NORMS and (norm not in NORMS[call] or by == "plain" and norm in ("1.0", "-0.0")):
@@ -407,7 +474,9 @@ def kind_of(call, fields, answer):
         limit = 2 * VALUES
     elif by == "plain" or norm == "another" or (call == "read_record" and signs):
         limit = 1
-    return limit, [by, mode, fields.get("profile"), record[:1], fields.get("sum"), norm]
+    elif call.startswith("stored_"):
+        limit = SETUP_VALUES
+    return limit, [by, mode, fields.get("profile"), record[:1], fields.get("sum"), norm, board]
 
 
 def choose(lines):
@@ -432,17 +501,22 @@ def choose(lines):
         known = any(classes(fields) == kinds for kinds, _ in about if kinds)
         if known and len(about) >= limit // 2:
             continue
+        if any(len(encode(each, fields, answer)) > LARGEST_CASE for each in readers(call, fields, answer)):
+            continue
         about.add((classes(fields), asked))
         yield call, fields, answer
 
 
 def whole(taken):
-    """Stops where a number, a kind of sum or of norm, a withdrawn position or a refusal before it is missing."""
+    """Stops where a number, a kind of sum, of norm or of board, a withdrawn position or a refusal before it is missing."""
     numbers_of = {call: set() for call in CALLS}
     rooms, before = {call: set() for call in TAKERS}, {call: set() for call in TAKERS}
     sums, lengths, norms = set(), set(), {call: set() for call in NORMS}
+    boards = {call: set() for call in BOARDS}
     for call, fields, answer in taken:
-        number = ended(answer)[0]
+        number, place = ended(answer)
+        if call in BOARDS:
+            boards[call].add(about_board(call, fields, number, place))
         if call in NORMS:
             norms[call].add(about_norm(call, fields, number))
         if call == "distance" and number in (0, 12):
@@ -464,6 +538,8 @@ def whole(taken):
         assert rooms[call] == ROOMS.get(call, {("polar", True), ("residual", True)}), (call, rooms[call])
     for call, wanted in NORMS.items():
         assert norms[call] >= wanted, (call, wanted - norms[call])
+    for call, wanted in BOARDS.items():
+        assert boards[call] >= wanted, (call, wanted - boards[call])
     assert sums == SUMS, SUMS ^ sums
     assert {1, 5} <= lengths, lengths
 

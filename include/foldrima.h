@@ -1,6 +1,6 @@
 /*
- * Foldrima: the C functions of the proved port of turbo-quant, one for each call of document 01, and one for a record's length. For 64-bit x86 only:
- * libcapi.a is an archive for x86-64 Linux.
+ * Foldrima: the C functions of the proved port of turbo-quant, one for each call of document 01, one for a record's length, and two for document
+ * 02's stored rotation. For 64-bit x86 only: libcapi.a is an archive for x86-64 Linux.
  *
  * A signature here is that of the function of the same name in crates/capi; a test of host/foldrima holds the two, and the numbers below, against the
  * sources.
@@ -32,6 +32,7 @@
  *     unpack_indices, unpack_signs    count
  *     pack_signs                      foldrima_packed_len(signs_len, 1, ..)
  *     apply, apply_inverse            dim
+ *     stored_apply and its inverse    dim
  *     sketch                          projections; 0 in PolarOnly
  *     prepare_query                   rotated: dim; projected: projections, 0 in PolarOnly
  *     decode_approximate              dim
@@ -52,18 +53,33 @@
  *     sketch, sketch_score, inner_product_estimate_prepared       24 KB
  *     every other call                                             4 KB
  *
- * Modes and profiles. They are numbers here, since an enum can't cross to C, and every number of a uint8_t means one: a mode other than 0 counts as 1,
- * PolarWithQjl, and a profile other than 0 and 1 as BlockLogU8, which every call that takes a profile refuses (18; in foldrima_compress 16 comes
- * before). Document 01 has no refusal for a number that names nothing, and a call answers for everything it can be given (docs/DECISIONS.md, 31).
+ * Modes, kinds and profiles. They are numbers here, since an enum can't cross to C, and every number of a uint8_t means one: a mode other than 0 counts
+ * as 1, PolarWithQjl, a kind other than 0 as 1, Stored, and a profile other than 0 and 1 as BlockLogU8, which every call that takes a profile refuses
+ * (18; in foldrima_compress 16 comes before). Document 01 has no refusal for a number that names nothing, and a call answers for everything it can be
+ * given (docs/DECISIONS.md, 31).
  *
  * The float mode. Every answer rests on the mode that a thread starts with: round to nearest, subnormals kept (MXCSR: rounding control, FTZ and DAZ all
  * clear), exceptions masked. No call looks at it. Some numerical libraries switch flush-to-zero on, and then an answer may be wrong with no refusal:
  * dim 2, 1 bit, query (2^-130, 0), radius 2^100, index 1 is scored 0, where the exact score is 6.59e-10 and its bound 1.6e-14. Restore the mode before a
  * call. (The Rust package of host/foldrima looks at it before every call.)
  *
- * Setups. A setup is mode, dim, bits (the total) and projections, and lent beside them signs (dim entries, each -1 or 1), directions (cosine and sine of
- * the angle of each index, 2 * 2^polar bits entries) and matrix (projections * dim entries, row by row; none in PolarOnly). Polar bits are the total,
- * less 1 in PolarWithQjl. Every call that takes a setup checks it first.
+ * Setups. A setup is mode, dim, bits (the total), projections and kind, and lent beside them rotation (below), directions (cosine and sine of the angle
+ * of each index, 2 * 2^polar bits entries) and matrix (projections * dim entries, row by row; none in PolarOnly). Polar bits are the total, less 1 in
+ * PolarWithQjl. Every call that takes a setup checks it first.
+ *
+ * Rotations. The kind says which rotation a setup has, and so what is lent as its rotation:
+ *
+ *     FastHadamard    dim signs, each -1 or 1; dim is a power of two up to 4,096 (another even one is 4)
+ *     Stored          the dim * dim entries of a matrix, column by column: that of row i and column j stands at j * dim + i; dim is even and at most
+ *                     512 (above it 26). The rotation sums along rows, and its inverse along columns: it turns back where the matrix is orthogonal,
+ *                     which is not checked.
+ *
+ * A setup's checks are then, in this order ('setup' in the comments below):
+ *
+ *     FastHadamard    2, 3, 1, 8, 4, 5 for rotation, directions, matrix, 10 for a sign, 7, 9
+ *     Stored          2, 3, 1, 8, 26, 5 for rotation, directions, matrix, 9 for an entry of the rotation, 7, 9 for one of the matrix
+ *
+ * A record may have any even dimension up to 4,096, and does not say under which kind it was made. Under a setup of another dimension it is 5.
  */
 #ifndef FOLDRIMA_H
 #define FOLDRIMA_H
@@ -79,10 +95,13 @@ extern "C" {
 #error "libcapi.a is for 64-bit x86"
 #endif
 
-/* ---- modes and profiles */
+/* ---- modes, kinds of a rotation, profiles */
 
 #define FOLDRIMA_POLAR_ONLY 0        /* no residual sketch */
 #define FOLDRIMA_POLAR_WITH_QJL 1    /* with one; so is every other number */
+
+#define FOLDRIMA_FAST_HADAMARD 0     /* signs and the Hadamard transform */
+#define FOLDRIMA_STORED 1            /* a matrix, lent column by column; so is every other number */
 
 #define FOLDRIMA_F32 0               /* a radius is its four bytes */
 #define FOLDRIMA_BLOCK_LINEAR_U16 1  /* a radius is sixteen bits within a range */
@@ -93,12 +112,12 @@ extern "C" {
 #define FOLDRIMA_INVALID_BIT_WIDTH 1      /* bits outside 1..16, or total bits below 2 in residual mode; place: the bits */
 #define FOLDRIMA_ZERO_DIMENSION 2         /* dimension 0; place 0 */
 #define FOLDRIMA_ODD_DIMENSION 3          /* odd dimension; place: the dimension */
-#define FOLDRIMA_ROTATION_FAILED 4        /* an even dimension that is no power of two, or above 4,096; place: the dimension */
+#define FOLDRIMA_ROTATION_FAILED 4        /* Hadamard: an even dimension, no power of two or above 4,096; a record: above 4,096; place: the dimension */
 #define FOLDRIMA_DIMENSION_MISMATCH 5     /* an input's length, or a record's dimension, is not the setup's; place: what was found */
 #define FOLDRIMA_OUTPUT_LENGTH 6          /* an output isn't exactly the needed length; place: the needed length */
 #define FOLDRIMA_INVALID_DIRECTION 7      /* a direction entry is not finite or outside -1..1; place: its index */
 #define FOLDRIMA_ZERO_PROJECTION_COUNT 8  /* in residual mode, projections 0 or above 4,096; place: the count */
-#define FOLDRIMA_NON_FINITE_MATRIX 9      /* a matrix entry is not finite; place: its index */
+#define FOLDRIMA_NON_FINITE_MATRIX 9      /* an entry of a matrix, a stored rotation's or the projections', is not finite; place: its index */
 #define FOLDRIMA_MALFORMED_SIGN 10        /* a sign is neither -1 nor 1; place: its index */
 #define FOLDRIMA_NON_FINITE_INPUT 11      /* a value is not finite, in the vector, rotated or projected; place: its index there */
 #define FOLDRIMA_NON_FINITE_SCORE 12      /* a score or distance is not finite; place 0 */
@@ -111,6 +130,7 @@ extern "C" {
 #define FOLDRIMA_LENGTH_OVERFLOW 19       /* count times bits exceeds the largest size_t; place 0 */
 #define FOLDRIMA_PROFILE_MISMATCH 20      /* a record's bits or projections are not the setup's; place 0 */
 #define FOLDRIMA_MALFORMED_NORM 23        /* a norm is not finite or below zero; place 0 */
+#define FOLDRIMA_STORED_DIMENSION 26      /* a stored rotation's dimension is above 512; place 0 */
 
 /* ---- a withdrawn position */
 
@@ -118,9 +138,9 @@ extern "C" {
 
 /* ---- setup */
 
-/* Whether a setup is accepted: 2, 3, 1, 8, 4, 5 for signs, directions, matrix, 10, 7, 9. */
-void foldrima_check_setup(uint8_t mode, size_t dim, uint8_t bits, size_t projections, const float *signs, size_t signs_len, const float *directions,
-                          size_t directions_len, const float *matrix, size_t matrix_len, uint32_t *number, size_t *place);
+/* Whether a setup is accepted, by the checks that 'Rotations' lists above. */
+void foldrima_check_setup(uint8_t mode, size_t dim, uint8_t bits, size_t projections, uint8_t kind, const float *rotation, size_t rotation_len,
+                          const float *directions, size_t directions_len, const float *matrix, size_t matrix_len, uint32_t *number, size_t *place);
 
 /* The seed of the host's generator of rotation signs: seed + A11CE55ED5A5EED5 modulo 2^64. */
 uint64_t foldrima_hadamard_seed(uint64_t seed);
@@ -159,6 +179,15 @@ void foldrima_apply(size_t dim, const float *signs, size_t signs_len, const floa
 void foldrima_apply_inverse(size_t dim, const float *signs, size_t signs_len, const float *input, size_t input_len, float *output, size_t output_len,
                             uint32_t *number, size_t *place);
 
+/* The rotation of the input by a matrix that is lent column by column: 2, 3, 26, 5 for the matrix, 9, 5 for the input, 6. Values of the input that
+ * aren't finite pass through. */
+void foldrima_stored_apply(size_t dim, const float *matrix, size_t matrix_len, const float *input, size_t input_len, float *output, size_t output_len,
+                           uint32_t *number, size_t *place);
+
+/* The inverse rotation, by the matrix's columns; refusals as for foldrima_stored_apply. */
+void foldrima_stored_apply_inverse(size_t dim, const float *matrix, size_t matrix_len, const float *input, size_t input_len, float *output,
+                                   size_t output_len, uint32_t *number, size_t *place);
+
 /* IEEE 754's squareRoot; below zero it is NaN. */
 float foldrima_sqrt(float x);
 
@@ -166,41 +195,43 @@ float foldrima_sqrt(float x);
 void foldrima_dequantize_angle(uint8_t bits, uint16_t index, uint32_t *number, size_t *place, float *value);
 
 /* The sketch of a vector, a sign for each projection, none in PolarOnly: setup, 5, 11, 6. */
-void foldrima_sketch(uint8_t mode, size_t dim, uint8_t bits, size_t projections, const float *signs, size_t signs_len, const float *directions,
-                     size_t directions_len, const float *matrix, size_t matrix_len, const float *vector, size_t vector_len, int8_t *out, size_t out_len,
-                     uint32_t *number, size_t *place);
+void foldrima_sketch(uint8_t mode, size_t dim, uint8_t bits, size_t projections, uint8_t kind, const float *rotation, size_t rotation_len,
+                     const float *directions, size_t directions_len, const float *matrix, size_t matrix_len, const float *vector, size_t vector_len,
+                     int8_t *out, size_t out_len, uint32_t *number, size_t *place);
 
 /* The score of lent sketch signs, with the norm of their source (1.0 where it isn't known): setup, 5, 11 query, 11 projected, 5 and 10 for the signs,
  * 23, 12. In PolarOnly the value is 0, after the same checks. */
-void foldrima_sketch_score(uint8_t mode, size_t dim, uint8_t bits, size_t projections, const float *signs, size_t signs_len, const float *directions,
-                           size_t directions_len, const float *matrix, size_t matrix_len, const float *query, size_t query_len, const int8_t *sketch,
-                           size_t sketch_len, float norm, uint32_t *number, size_t *place, float *value);
+void foldrima_sketch_score(uint8_t mode, size_t dim, uint8_t bits, size_t projections, uint8_t kind, const float *rotation, size_t rotation_len,
+                           const float *directions, size_t directions_len, const float *matrix, size_t matrix_len, const float *query, size_t query_len,
+                           const int8_t *sketch, size_t sketch_len, float norm, uint32_t *number, size_t *place, float *value);
 
 /* A query rotated (dim entries) and projected (projections entries, none in PolarOnly): setup, 5, 11 thrice, 6 for rotated, 6 for projected. */
-void foldrima_prepare_query(uint8_t mode, size_t dim, uint8_t bits, size_t projections, const float *signs, size_t signs_len, const float *directions,
-                            size_t directions_len, const float *matrix, size_t matrix_len, const float *query, size_t query_len, float *rotated,
-                            size_t rotated_len, float *projected, size_t projected_len, uint32_t *number, size_t *place);
+void foldrima_prepare_query(uint8_t mode, size_t dim, uint8_t bits, size_t projections, uint8_t kind, const float *rotation, size_t rotation_len,
+                            const float *directions, size_t directions_len, const float *matrix, size_t matrix_len, const float *query,
+                            size_t query_len, float *rotated, size_t rotated_len, float *projected, size_t projected_len, uint32_t *number,
+                            size_t *place);
 
 /* The score of a record by a query, its residual scaled with the record's norm: setup, 5, 11 thrice, withdrawn, the record's reading, 5, 20, 12. */
-void foldrima_inner_product_estimate(uint8_t mode, size_t dim, uint8_t bits, size_t projections, const float *signs, size_t signs_len,
-                                     const float *directions, size_t directions_len, const float *matrix, size_t matrix_len, const float *query,
-                                     size_t query_len, const uint8_t *bytes, size_t bytes_len, uint32_t *number, size_t *place, float *value);
+void foldrima_inner_product_estimate(uint8_t mode, size_t dim, uint8_t bits, size_t projections, uint8_t kind, const float *rotation,
+                                     size_t rotation_len, const float *directions, size_t directions_len, const float *matrix, size_t matrix_len,
+                                     const float *query, size_t query_len, const uint8_t *bytes, size_t bytes_len, uint32_t *number, size_t *place,
+                                     float *value);
 
-/* The score of a record by a prepared query: 2, 3, 1, 8, 4, 5 and 7 for the directions, 5 twice, 11 twice, withdrawn, the record's reading, 5, 20,
- * 12. */
-void foldrima_inner_product_estimate_prepared(uint8_t mode, size_t dim, uint8_t bits, size_t projections, const float *directions,
+/* The score of a record by a prepared query: 2, 3, 1, 8, 4 (26 for Stored), 5 and 7 for the directions, 5 twice, 11 twice, withdrawn, the record's
+ * reading, 5, 20, 12. The rotation is not lent again: the kind says which dimensions it takes. */
+void foldrima_inner_product_estimate_prepared(uint8_t mode, size_t dim, uint8_t bits, size_t projections, uint8_t kind, const float *directions,
                                               size_t directions_len, const float *rotated, size_t rotated_len, const float *projected,
                                               size_t projected_len, const uint8_t *bytes, size_t bytes_len, uint32_t *number, size_t *place,
                                               float *value);
 
 /* The squared distance of a record from a query: the score's refusals, with withdrawn in the same place, then 12 of its own, where its sum (both squared
  * norms, less twice the score) is NaN or plus infinity. It is 0 where the sum is not greater than zero, minus infinity included. */
-void foldrima_l2_distance_estimate(uint8_t mode, size_t dim, uint8_t bits, size_t projections, const float *signs, size_t signs_len,
+void foldrima_l2_distance_estimate(uint8_t mode, size_t dim, uint8_t bits, size_t projections, uint8_t kind, const float *rotation, size_t rotation_len,
                                    const float *directions, size_t directions_len, const float *matrix, size_t matrix_len, const float *query,
                                    size_t query_len, const uint8_t *bytes, size_t bytes_len, uint32_t *number, size_t *place, float *value);
 
 /* The vector that a record stands for (dim entries): setup, withdrawn, the record's reading, 5, 20, 6. */
-void foldrima_decode_approximate(uint8_t mode, size_t dim, uint8_t bits, size_t projections, const float *signs, size_t signs_len,
+void foldrima_decode_approximate(uint8_t mode, size_t dim, uint8_t bits, size_t projections, uint8_t kind, const float *rotation, size_t rotation_len,
                                  const float *directions, size_t directions_len, const float *matrix, size_t matrix_len, const uint8_t *bytes,
                                  size_t bytes_len, float *out, size_t out_len, uint32_t *number, size_t *place);
 

@@ -1,5 +1,6 @@
 /*
- * How much stack the calls take at the largest setup, dimension and projections 4,096: each runs in a thread whose stack was painted before.
+ * How much stack the calls take at the largest setup, dimension and projections 4,096, and at the largest one with a stored rotation, dimension 512:
+ * each runs in a thread whose stack was painted before.
  *
  *     cc -O2 -I include host/c/stack.c target/staticlib/libcapi.a -lpthread -lm -o stack && ./stack
  *
@@ -13,18 +14,20 @@
 
 #include "foldrima.h"
 
-enum { DIM = 4096, PAIRS = DIM / 2, BITS = 16, POLAR = BITS - 1, TABLE = 2 << POLAR, SIZE = 1 << 20, KB = 1024 };
+enum { DIM = 4096, LESS = 512, PAIRS = DIM / 2, BITS = 16, POLAR = BITS - 1, TABLE = 2 << POLAR, SIZE = 1 << 20, KB = 1024 };
 
-static float signs[DIM], directions[TABLE], query[DIM], rotated[DIM], projected[DIM], radii[PAIRS], floats[DIM], *matrix;
+static float signs[DIM], directions[TABLE], query[DIM], rotated[DIM], projected[DIM], radii[PAIRS], floats[DIM], stored[LESS * LESS], *matrix;
 static uint16_t indices[PAIRS];
 static int8_t sketch[DIM];
-static uint8_t payload[4 * PAIRS], packed[2 * PAIRS], record[4 * PAIRS + 2 * PAIRS + DIM];
-static size_t record_len, packed_len;
+static uint8_t payload[4 * PAIRS], packed[2 * PAIRS], record[4 * PAIRS + 2 * PAIRS + DIM], less[4 * PAIRS + 2 * PAIRS + DIM];
+static size_t record_len, less_len, packed_len;
 static uint32_t number;
 static size_t place;
 
-#define SETUP FOLDRIMA_POLAR_WITH_QJL, DIM, BITS, DIM
+#define SETUP FOLDRIMA_POLAR_WITH_QJL, DIM, BITS, DIM, FOLDRIMA_FAST_HADAMARD
 #define TABLES signs, DIM, directions, TABLE, matrix, (size_t)DIM * DIM
+#define STORED_SETUP FOLDRIMA_POLAR_WITH_QJL, LESS, BITS, DIM, FOLDRIMA_STORED
+#define STORED_TABLES stored, (size_t)LESS * LESS, directions, TABLE, matrix, (size_t)DIM * LESS
 
 static void nothing(void) { number = 0; }
 static void pack(void) { foldrima_pack_indices(indices, PAIRS, POLAR, packed, packed_len, &number, &place); }
@@ -33,6 +36,8 @@ static void pack_signs(void) { foldrima_pack_signs(sketch, DIM, packed, DIM / 8,
 static void unpack_signs(void) { foldrima_unpack_signs(packed, DIM / 8, DIM, sketch, DIM, &number, &place); }
 static void apply(void) { foldrima_apply(DIM, signs, DIM, query, DIM, floats, DIM, &number, &place); }
 static void apply_inverse(void) { foldrima_apply_inverse(DIM, signs, DIM, query, DIM, floats, DIM, &number, &place); }
+static void stored_apply(void) { foldrima_stored_apply(LESS, stored, (size_t)LESS * LESS, query, LESS, floats, LESS, &number, &place); }
+static void stored_apply_inverse(void) { foldrima_stored_apply_inverse(LESS, stored, (size_t)LESS * LESS, query, LESS, floats, LESS, &number, &place); }
 static void compress(void) { float min, max; foldrima_compress(radii, PAIRS, FOLDRIMA_BLOCK_LINEAR_U16, payload, 2 * PAIRS, &number, &place, &min, &max); }
 static void decompress(void) { foldrima_decompress(FOLDRIMA_BLOCK_LINEAR_U16, PAIRS, 0.0f, 1.0f, payload, 2 * PAIRS, radii, PAIRS, &number, &place); }
 static void quantize(void) { uint16_t value; foldrima_quantize(BITS, 0.0f, 1.0f, 0.5f, &number, &place, &value); }
@@ -78,6 +83,33 @@ static void prepared_score(void)
 static void distance(void) { float value; foldrima_l2_distance_estimate(SETUP, TABLES, query, DIM, record, record_len, &number, &place, &value); }
 static void decode(void) { foldrima_decode_approximate(SETUP, TABLES, record, record_len, floats, DIM, &number, &place); }
 
+
+/* The same under the stored rotation. */
+static void stored_check(void) { foldrima_check_setup(STORED_SETUP, STORED_TABLES, &number, &place); }
+static void stored_sketch(void) { foldrima_sketch(STORED_SETUP, STORED_TABLES, query, LESS, sketch, DIM, &number, &place); }
+static void stored_sketch_score(void)
+{
+    float value;
+    foldrima_sketch_score(STORED_SETUP, STORED_TABLES, query, LESS, sketch, DIM, 0.75f, &number, &place, &value);
+}
+static void stored_prepare(void) { foldrima_prepare_query(STORED_SETUP, STORED_TABLES, query, LESS, rotated, LESS, projected, DIM, &number, &place); }
+static void stored_score(void)
+{
+    float value;
+    foldrima_inner_product_estimate(STORED_SETUP, STORED_TABLES, query, LESS, less, less_len, &number, &place, &value);
+}
+static void stored_prepared_score(void)
+{
+    float value;
+    foldrima_inner_product_estimate_prepared(STORED_SETUP, directions, TABLE, rotated, LESS, projected, DIM, less, less_len, &number, &place, &value);
+}
+static void stored_distance(void)
+{
+    float value;
+    foldrima_l2_distance_estimate(STORED_SETUP, STORED_TABLES, query, LESS, less, less_len, &number, &place, &value);
+}
+static void stored_decode(void) { foldrima_decode_approximate(STORED_SETUP, STORED_TABLES, less, less_len, floats, LESS, &number, &place); }
+
 static void *run(void *call)
 {
     (*(void (**)(void))call)();
@@ -115,6 +147,11 @@ int main(void)
         {"read_indices", read_indices, 4 * KB}, {"read_signs", read_signs, 4 * KB}, {"sketch", make_sketch, 24 * KB},
         {"sketch_score", sketch_score, 24 * KB}, {"inner_product_estimate_prepared", prepared_score, 24 * KB}, {"decode_approximate", decode, 40 * KB},
         {"prepare_query", prepare, 48 * KB}, {"inner_product_estimate", score, 96 * KB}, {"l2_distance_estimate", distance, 96 * KB},
+        {"stored_apply", stored_apply, 4 * KB}, {"stored_apply_inverse", stored_apply_inverse, 4 * KB}, {"check_setup, stored", stored_check, 4 * KB},
+        {"sketch, stored", stored_sketch, 24 * KB}, {"sketch_score, stored", stored_sketch_score, 24 * KB},
+        {"prepare_query, stored", stored_prepare, 48 * KB}, {"inner_product_estimate, stored", stored_score, 96 * KB},
+        {"prepared score, stored", stored_prepared_score, 24 * KB}, {"l2_distance_estimate, stored", stored_distance, 96 * KB},
+        {"decode_approximate, stored", stored_decode, 40 * KB},
     };
     unsigned char *stack = aligned_alloc(4096, SIZE);
     int failed = 0;
@@ -123,6 +160,8 @@ int main(void)
         return 2;
     for (size_t i = 0; i < (size_t)DIM * DIM; i++)
         matrix[i] = i % 3 ? 0.5f : -0.25f;
+    for (size_t i = 0; i < (size_t)LESS * LESS; i++)
+        stored[i] = i % 7 ? 0.25f : -0.5f;
     for (size_t i = 0; i < TABLE / 2; i++) {
         float angle;
         foldrima_dequantize_angle(POLAR, (uint16_t)i, &number, &place, &angle);
@@ -142,6 +181,11 @@ int main(void)
                           record, 0, &number, &place);
     record_len = place;
     write_record();
+    foldrima_write_record(FOLDRIMA_BLOCK_LINEAR_U16, LESS, POLAR, FOLDRIMA_POLAR_WITH_QJL, DIM, 1, 0.75f, radii, LESS / 2, indices, LESS / 2, sketch,
+                          DIM, less, 0, &number, &place);
+    less_len = place;
+    foldrima_write_record(FOLDRIMA_BLOCK_LINEAR_U16, LESS, POLAR, FOLDRIMA_POLAR_WITH_QJL, DIM, 1, 0.75f, radii, LESS / 2, indices, LESS / 2, sketch,
+                          DIM, less, less_len, &number, &place);
     const size_t thread = used(stack, nothing);
     for (size_t i = 0; i < sizeof calls / sizeof *calls; i++) {
         const size_t bytes = used(stack, calls[i].call) - thread;

@@ -4,3 +4,4 @@ pub mod Chains
 pub mod Sweep
 pub mod Finite
 pub mod Differs
+pub mod AtOnce

@@ -8,8 +8,9 @@ use lib.ListN.{length}
 use lib.Ieee.{Float}
 use Rattle.error.specs.Answer.{Answer, value, place}
 use Rattle.error.specs.Checks.{badValue}
+use Rattle.error.specs.Inner.{AtOnce}
 use Rattle.qjl.specs.Sketch.{signOfSum}
-use Rattle.qjl.specs.Inner.{JudgedSigns, AtOnce}
+use Rattle.qjl.specs.Inner.{JudgedSigns}
 
 pub judged-left : (judged : Bool) (values : List Float) (old : List ℤ) → judged ≡ true → JudgedSigns judged values old false old
 judged-left judged values old is = record { whole = λ e. absurd (true≢false (sym is ∙ e)); clean = λ j e. absurd (false≢true e); signs = λ e. absurd (false≢true e); kept = λ e. refl }
@@ -20,12 +21,6 @@ signs-made judged values old new c s = record { whole = λ e. refl; clean = λ j
 -- of the same values by another name
 pub signs-same : {judged : Bool} {values others : List Float} {old new : List ℤ} {wrote : Bool} → values ≡ others → JudgedSigns judged values old wrote new → JudgedSigns judged others old wrote new
 signs-same {judged} {values} {others} {old} {new} {wrote} e s = subst (λ (vs : List Float). JudgedSigns judged vs old wrote new) e s
-
-pub at-once-left : {A : Type 0} (answer : Answer A) (old new : A) → new ≡ old → AtOnce answer old false new
-at-once-left answer old new h = record { made = λ e. absurd (false≢true e); kept = λ e. h }
-
-pub at-once-made : {A : Type 0} (answer : Answer A) (old new : A) → answer ≡ value new → AtOnce answer old true new
-at-once-made answer old new h = record { made = λ e. h; kept = λ e. absurd (true≢false e) }
 
 pub at-once-signs : {values : List Float} {old new : List ℤ} {wrote : Bool} (answer : Answer (List ℤ)) → (ltb (place badValue values) (length values) ≡ false → answer ≡ value (map signOfSum values))
     → JudgedSigns true values old wrote new

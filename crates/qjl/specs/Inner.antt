@@ -1,4 +1,4 @@
--- Private functions of this crate, and of crates that write all or nothing as they do, ensure these. No public promise is stated by these. Assumes nothing.
+-- Private functions of this crate ensure this. No public promise is stated by it. Assumes nothing.
 use mathlib.Core.Path.{_≡_}
 use mathlib.Core.Bool.{Bool, true, false}
 use mathlib.Core.List.{List, map}
@@ -6,7 +6,7 @@ use lib.Dec.{ltb}
 use lib.IntN.{ℤ}
 use lib.ListN.{length}
 use lib.Ieee.{Float}
-use Rattle.error.specs.Answer.{Answer, value, place}
+use Rattle.error.specs.Answer.{place}
 use Rattle.error.specs.Checks.{badValue}
 use Rattle.qjl.specs.Sketch.{signOfSum}
 
@@ -15,9 +15,4 @@ pub record JudgedSigns (judged : Bool) (values : List Float) (old : List ℤ) (w
   pub whole : judged ≡ false → wrote ≡ true
   pub clean : judged ≡ true → wrote ≡ true → ltb (place badValue values) (length values) ≡ false
   pub signs : wrote ≡ true → new ≡ map signOfSum values
-  pub kept : wrote ≡ false → new ≡ old
-
--- The call writes the answer's value or nothing, and answers whether it did.
-pub record AtOnce {A : Type 0} (answer : Answer A) (old : A) (wrote : Bool) (new : A) : Type 0 where
-  pub made : wrote ≡ true → answer ≡ value new
   pub kept : wrote ≡ false → new ≡ old

@@ -16,11 +16,12 @@ ghost use Prim.Native.Nat.{_≤_};
 ghost use lib.ListN.{length};
 ghost use Rattle.error.specs.Answer.{first, accepted, done, after};
 ghost use Rattle.error.specs.Outcomes.{says, saysScore};
+ghost use Rattle.error.specs.Inner.{AtOnce};
 ghost use Rattle.rounding.specs.Rows.{projected};
 ghost use Rattle.qjl_rows.specs.Inner.{Rowed};
 ghost use Rattle.setup.specs.Lent.{lent};
 ghost use Rattle.qjl.specs.Sketch.{signOfSum, vectorChecks, sketchOf};
-ghost use Rattle.qjl.specs.Inner.{JudgedSigns, AtOnce};
+ghost use Rattle.qjl.specs.Inner.{JudgedSigns};
 ghost use Rattle.qjl.specs.Score.{signedScore, sketchScoreOf};
 
 // The sketch of a vector, into the output: the sign of each projection. In `PolarOnly` it has no signs.

@@ -20,11 +20,11 @@ use Rattle.qjl_rows.specs.Inner.{Rowed, onRow}
 use Rattle.rounding.proofs.Rows.{length-projected, projected-row}
 use Rattle.rounding.specs.Rows.{projected}
 
-is-true : (b : Bool) → T b → b ≡ true
+pub is-true : (b : Bool) → T b → b ≡ true
 is-true true t = refl
 is-true false t = absurd t
 
-told : (b : Bool) → b ≡ true → T b
+pub told : (b : Bool) → b ≡ true → T b
 told true e = tt
 told false e = subst T (sym e) tt
 

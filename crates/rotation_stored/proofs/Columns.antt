@@ -30,11 +30,11 @@ pub length-row : (n : ℕ) (matrix : List Float) (i : ℕ) → length (rowOf n m
 unfolding rowOf
 length-row n matrix i = length-map (from 0 n) _ ∙ length-from 0 n
 
-row-entry : (n : ℕ) (matrix : List Float) (i j : ℕ) → j < n → getD (rowOf n matrix i) j nan ≡ getD matrix (j * n + i) nan
+pub row-entry : (n : ℕ) (matrix : List Float) (i j : ℕ) → j < n → getD (rowOf n matrix i) j nan ≡ getD matrix (j * n + i) nan
 unfolding rowOf
 row-entry n matrix i j l = getD-from (λ k. getD matrix (k * n + i) nan) 0 n j l ∙ ap (λ (k : ℕ). getD matrix (k * n + i) nan) (zero-add j)
 
-stored-entry : (n : ℕ) (matrix xs : List Float) (i : ℕ) → i < n → getD (storedRotated n matrix xs) i nan ≡ dot (rowOf n matrix i) xs
+pub stored-entry : (n : ℕ) (matrix xs : List Float) (i : ℕ) → i < n → getD (storedRotated n matrix xs) i nan ≡ dot (rowOf n matrix i) xs
 unfolding storedRotated
 stored-entry n matrix xs i l = getD-from (λ k. dot (rowOf n matrix k) xs) 0 n i l ∙ ap (λ (k : ℕ). dot (rowOf n matrix k) xs) (zero-add i)
 

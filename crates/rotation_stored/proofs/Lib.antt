@@ -2,3 +2,4 @@ pub mod Accepted
 pub mod Columns
 pub mod ErrorBound
 pub mod Examples
+mod AtOnce

@@ -10,16 +10,18 @@ use error::Outcome;
 use error::STORED_DIMENSION;
 use error::ZERO_DIMENSION;
 ghost use mathlib.Core.Path.{_≡_};
+ghost use mathlib.Core.Bool.{true};
 ghost use Prim.Native.Nat.{_+_, _*_, _≤_, _<_};
 ghost use lib.ListN.{length};
 ghost use lib.Ieee.{nan};
 ghost use Rattle.error.specs.Answer.{first, accepted, done, after};
 ghost use Rattle.error.specs.Outcomes.{says};
+ghost use Rattle.error.specs.Inner.{AtOnce};
 ghost use Rattle.float.specs.Constants.{posZero};
 ghost use Rattle.rotation_stored.specs.Checks.{badStored, matrixChecks, storedChecks};
-ghost use Rattle.rotation_stored.specs.Stored.{storedRotated, storedApplyOf, storedApplyInverseOf};
+ghost use Rattle.rotation_stored.specs.Stored.{storedRotated, storedUnrotated, storedApplyOf, storedApplyInverseOf};
 ghost use Rattle.lists.specs.Inner.{Filled};
-ghost use Rattle.rotation_stored.specs.Inner.{Taken};
+ghost use Rattle.rotation_stored.specs.Inner.{Shaped, Judged, Taken};
 
 // Whether a dimension is above what a stored rotation takes.
 pub fn outside_stored(dim: usize) -> bool
@@ -33,6 +35,49 @@ pub fn apply(dim: usize, matrix: &[f32], input: &[f32], output: &mut [f32]) -> O
     ensures { λ r. ⌜ says r ≡ done (storedApplyOf dim (now (matrix .entry)) (now (input .entry)) (length (now (output .entry)))) ⌝ }
     ensures { λ _. ⌜ now (output .exit) ≡ after (storedApplyOf dim (now (matrix .entry)) (now (input .entry)) (length (now (output .entry)))) (now (output .entry)) ⌝ }
 {
+    if apply_at_once(dim, matrix, input, output) {
+        return Outcome::Done;
+    }
+    apply_checked(dim, matrix, input, output)
+}
+
+// The inverse rotation of the input into the output: for each column of the matrix, the sum of its entries times the input's.
+pub fn apply_inverse(dim: usize, matrix: &[f32], input: &[f32], output: &mut [f32]) -> Outcome
+    ensures { λ r. ⌜ says r ≡ done (storedApplyInverseOf dim (now (matrix .entry)) (now (input .entry)) (length (now (output .entry)))) ⌝ }
+    ensures { λ _. ⌜ now (output .exit) ≡ after (storedApplyInverseOf dim (now (matrix .entry)) (now (input .entry)) (length (now (output .entry)))) (now (output .entry)) ⌝ }
+{
+    if inverse_at_once(dim, matrix, input, output) {
+        return Outcome::Done;
+    }
+    inverse_checked(dim, matrix, input, output)
+}
+
+// The rotation where nothing offends and every sum is finite, and else false with nothing written. A finite sum has finite terms only, so
+// the matrix needs no pass of its own.
+fn apply_at_once(dim: usize, matrix: &[f32], input: &[f32], output: &mut [f32]) -> bool
+    ensures { λ r. ⌜ AtOnce (storedApplyOf dim (now (matrix .entry)) (now (input .entry)) (length (now (output .entry)))) (now (output .entry)) r (now (output .exit)) ⌝ }
+{
+    if !is_shaped(dim, matrix.len(), input.len(), output.len()) {
+        return false;
+    }
+    judge_rows(matrix, input, output)
+}
+
+// The inverse rotation in the same way.
+fn inverse_at_once(dim: usize, matrix: &[f32], input: &[f32], output: &mut [f32]) -> bool
+    ensures { λ r. ⌜ AtOnce (storedApplyInverseOf dim (now (matrix .entry)) (now (input .entry)) (length (now (output .entry)))) (now (output .entry)) r (now (output .exit)) ⌝ }
+{
+    if !is_shaped(dim, matrix.len(), input.len(), output.len()) {
+        return false;
+    }
+    judge_columns(dim, matrix, input, output)
+}
+
+// The rotation, check by check.
+fn apply_checked(dim: usize, matrix: &[f32], input: &[f32], output: &mut [f32]) -> Outcome
+    ensures { λ r. ⌜ says r ≡ done (storedApplyOf dim (now (matrix .entry)) (now (input .entry)) (length (now (output .entry)))) ⌝ }
+    ensures { λ _. ⌜ now (output .exit) ≡ after (storedApplyOf dim (now (matrix .entry)) (now (input .entry)) (length (now (output .entry)))) (now (output .entry)) ⌝ }
+{
     let checked = check(dim, matrix, input.len(), output.len());
     if let Outcome::Refused { number, place } = checked {
         return Outcome::Refused { number, place };
@@ -41,8 +86,8 @@ pub fn apply(dim: usize, matrix: &[f32], input: &[f32], output: &mut [f32]) -> O
     Outcome::Done
 }
 
-// The inverse rotation of the input into the output: for each column of the matrix, the sum of its entries times the input's.
-pub fn apply_inverse(dim: usize, matrix: &[f32], input: &[f32], output: &mut [f32]) -> Outcome
+// The inverse rotation, check by check.
+fn inverse_checked(dim: usize, matrix: &[f32], input: &[f32], output: &mut [f32]) -> Outcome
     ensures { λ r. ⌜ says r ≡ done (storedApplyInverseOf dim (now (matrix .entry)) (now (input .entry)) (length (now (output .entry)))) ⌝ }
     ensures { λ _. ⌜ now (output .exit) ≡ after (storedApplyInverseOf dim (now (matrix .entry)) (now (input .entry)) (length (now (output .entry)))) (now (output .entry)) ⌝ }
 {
@@ -51,6 +96,66 @@ pub fn apply_inverse(dim: usize, matrix: &[f32], input: &[f32], output: &mut [f3
         return Outcome::Refused { number, place };
     }
     qjl_rows::project(dim, matrix, input, output)
+}
+
+// Whether a dimension and all lengths pass: what is left to offend is an entry of the matrix.
+fn is_shaped(dim: usize, matrix: usize, input: usize, output: usize) -> bool
+    ensures { λ r. ⌜ (r ≡ true → Shaped dim matrix input output) ⌝ }
+{
+    if dim == 0 {
+        return false;
+    }
+    if dim % 2 == 1 {
+        return false;
+    }
+    if outside_stored(dim) {
+        return false;
+    }
+    if matrix != dim * dim {
+        return false;
+    }
+    if input != dim {
+        return false;
+    }
+    output == dim
+}
+
+// The sums along the rows, into the output if all of them are finite; it answers whether they are.
+fn judge_rows(matrix: &[f32], input: &[f32], output: &mut [f32]) -> bool
+    requires { ⌜ Shaped (length (now input)) (length (now matrix)) (length (now input)) (length (now output)) ⌝ }
+    ensures { λ r. ⌜ Judged (storedRotated (length (now (input .entry))) (now (matrix .entry)) (now (input .entry))) (now (output .entry)) r (now (output .exit)) ⌝ }
+{
+    let rows = input.len();
+    let mut sums = zeros();
+    sum_rows(matrix, input, &mut sums[0..rows]);
+    hand_over(&sums[0..rows], output)
+}
+
+// The sums along the columns in the same way.
+fn judge_columns(dim: usize, matrix: &[f32], input: &[f32], output: &mut [f32]) -> bool
+    requires { ⌜ Shaped dim (length (now matrix)) (length (now input)) (length (now output)) ⌝ }
+    ensures { λ r. ⌜ Judged (storedUnrotated dim (now (matrix .entry)) (now (input .entry))) (now (output .entry)) r (now (output .exit)) ⌝ }
+{
+    let mut sums = zeros();
+    qjl_rows::project(dim, matrix, input, &mut sums[0..dim]);
+    hand_over(&sums[0..dim], output)
+}
+
+// Copies the values to the output if all of them are finite, and answers whether they are.
+fn hand_over(values: &[f32], output: &mut [f32]) -> bool
+    requires { ⌜ length (now output) ≡ length (now values) ⌝ }
+    ensures { λ r. ⌜ Judged (now (values .entry)) (now (output .entry)) r (now (output .exit)) ⌝ }
+{
+    if !error::all_finite(values) {
+        return false;
+    }
+    float::copy_into(values, output);
+    true
+}
+
+// Room for the sums, of which there are at most 512.
+fn zeros() -> [f32; 512] {
+    [0.0f32; 512]
 }
 
 // The checks of a stored rotation, either way.

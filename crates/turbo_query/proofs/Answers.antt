@@ -22,10 +22,10 @@ use Rattle.setup_rotation.proofs.Turnable.{setup-turnable}
 use Rattle.error.specs.Checks.{wrongInput, badValue}
 use Rattle.qjl_rows.specs.Inner.{Rowed}
 use Rattle.qjl_rows.proofs.FiniteSums.{matrix-finite}
-use Rattle.qjl.specs.Inner.{AtOnce}
+use Rattle.error.specs.Inner.{AtOnce}
 use Rattle.qjl.specs.Sketch.{vectorChecks}
 use Rattle.qjl.proofs.Answers.{vector-rowed, vector-passed}
-use Rattle.qjl.proofs.AtOnce.{at-once-left, at-once-made}
+use Rattle.error.proofs.AtOnce.{at-once-left, at-once-made}
 use Rattle.turbo_query.specs.Query.{rotatedQuery, projectedQuery, prepareRotatedOf, prepareProjectedOf}
 use Rattle.turbo_query.specs.Inner.{handedChecks, Handed, Queryable}
 

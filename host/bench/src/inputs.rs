@@ -8,7 +8,7 @@ use oracle::{
     packed::PackedTurboCode,
     qjl::{QjlQuantizer, QjlSketch},
     radius::{CompressedRadiiV1, RadiusCodecProfileV1},
-    rotation::FastHadamardRotation,
+    rotation::{FastHadamardRotation, StoredRotation},
     thin,
     turbo::{TurboCode, TurboMode, TurboProjectedQuery, TurboQuantizer},
 };
@@ -22,6 +22,13 @@ pub struct Indices {
 pub struct Turn {
     pub rotation: FastHadamardRotation,
     pub signs: Vec<f32>,
+    pub input: Vec<f32>,
+}
+
+/// A stored rotation with its matrix, column by column.
+pub struct StoredTurn {
+    pub rotation: StoredRotation,
+    pub matrix: Vec<f32>,
     pub input: Vec<f32>,
 }
 
@@ -61,6 +68,7 @@ pub struct Inputs {
     pub radii: Vec<f32>,
     pub compressed: CompressedRadiiV1,
     pub rotations: Vec<Turn>,
+    pub stored: Vec<StoredTurn>,
     pub sketches: Vec<Sketch>,
     pub turbo: Turbo,
 }
@@ -107,8 +115,15 @@ impl Inputs {
             rotations: rotations.into(),
             sketches: sketches.into(),
             turbo: turbo(&mut rng, seed),
+            stored: [90, 300, 512].map(|dim| stored(&mut rng, dim)).into(),
         }
     }
+}
+
+fn stored(rng: &mut Rng, dim: usize) -> StoredTurn {
+    let matrix = vector(rng, dim * dim);
+    let rotation = thin::stored_rotation(dim, &matrix).unwrap();
+    StoredTurn { rotation, matrix, input: vector(rng, dim) }
 }
 
 fn turbo(rng: &mut Rng, seed: u64) -> Turbo {

@@ -89,6 +89,22 @@ fn rows(inputs: &Inputs) -> Vec<Row<'_>> {
             black_box(&output);
         }
     });
+    let names = ["stored apply 90", "stored apply 300", "stored apply 512"];
+    rows.each(&names, &inputs.stored, |turn| {
+        let mut output = vec![0.0f32; turn.input.len()];
+        move || {
+            turn.rotation.apply(black_box(&turn.input), &mut output).unwrap();
+            black_box(&output);
+        }
+    });
+    let names = ["stored inverse 90", "stored inverse 300", "stored inverse 512"];
+    rows.each(&names, &inputs.stored, |turn| {
+        let mut output = vec![0.0f32; turn.input.len()];
+        move || {
+            turn.rotation.apply_inverse(black_box(&turn.input), &mut output).unwrap();
+            black_box(&output);
+        }
+    });
     rows.each(&["sketch 256 x 64", "sketch 1024 x 256"], &inputs.sketches, |wide| {
         move || wide.qjl.sketch(black_box(&wide.vector)).unwrap()
     });
@@ -171,7 +187,7 @@ fn target(row: &str) -> f64 {
         () if starts(&["pack", "unpack"]) => 10.0,
         () if starts(&["prepared score"]) => 4.0,
         () if starts(&["sketch", "project"]) => 3.0,
-        () if starts(&["score", "decode"]) => 2.0,
+        () if starts(&["score", "decode", "stored"]) => 2.0,
         () => 1.0,
     }
 }

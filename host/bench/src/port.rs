@@ -3,7 +3,7 @@
 
 use std::hint::black_box;
 
-use foldrima::{RadiusCodecProfileV1, Range, Setup, TurboMode};
+use foldrima::{RadiusCodecProfileV1, Range, RotationKind, Setup, TurboMode};
 
 use crate::{
     inputs::{Inputs, Sketch, Turbo},
@@ -16,7 +16,8 @@ fn sketch_setup(wide: &Sketch) -> Setup<'_> {
         dim: wide.dim,
         bits: 2,
         projections: wide.projections,
-        signs: &wide.signs,
+        kind: RotationKind::FastHadamard,
+        rotation: &wide.signs,
         directions: &wide.directions,
         matrix: &wide.matrix,
     }
@@ -28,7 +29,8 @@ fn turbo_setup(turbo: &Turbo) -> Setup<'_> {
         dim: 256,
         bits: 8,
         projections: 64,
-        signs: &turbo.signs,
+        kind: RotationKind::FastHadamard,
+        rotation: &turbo.signs,
         directions: &turbo.directions,
         matrix: &turbo.matrix,
     }
@@ -61,6 +63,24 @@ pub fn call<'a>(row: &str, inputs: &'a Inputs) -> Option<Call<'a>> {
         return Some(Box::new(move || {
             let input = black_box(&turn.input);
             foldrima::apply(input.len(), &turn.signs, input, &mut out).unwrap();
+            black_box(&out);
+        }));
+    }
+    if let Some(i) = at(&["stored apply 90", "stored apply 300", "stored apply 512"]) {
+        let turn = &inputs.stored[i];
+        let mut out = vec![0.0; turn.input.len()];
+        return Some(Box::new(move || {
+            let input = black_box(&turn.input);
+            foldrima::stored_apply(input.len(), &turn.matrix, input, &mut out).unwrap();
+            black_box(&out);
+        }));
+    }
+    if let Some(i) = at(&["stored inverse 90", "stored inverse 300", "stored inverse 512"]) {
+        let turn = &inputs.stored[i];
+        let mut out = vec![0.0; turn.input.len()];
+        return Some(Box::new(move || {
+            let input = black_box(&turn.input);
+            foldrima::stored_apply_inverse(input.len(), &turn.matrix, input, &mut out).unwrap();
             black_box(&out);
         }));
     }

@@ -13,7 +13,7 @@ use oracle::{
 };
 
 use crate::{
-    case::{Answer, Case, Mode, Profile, Setup, Value},
+    case::{Answer, Case, Kind, Mode, Profile, Setup, Value, LARGEST_STORED},
     record,
 };
 
@@ -124,6 +124,9 @@ fn answer(case: &Case) -> Answer {
             matrix: seed.wrapping_add(0xCAFE_BABE_0000_0001).wrapping_add(0xDEAD_BEEF_1234_5678),
         }),
         Case::Apply { inverse, dim, signs, input, .. } => apply(*inverse, *dim, signs, input),
+        Case::StoredApply { inverse, dim, matrix, input, .. } => {
+            stored_apply(*inverse, *dim, matrix, input)
+        }
         Case::SetupCheck { setup } => match &setup.rust {
             None => Answer::Absent,
             Some(Ok(_)) => Answer::Value(Value::Done),
@@ -213,6 +216,21 @@ fn apply(inverse: bool, dim: usize, signs: &[f32], input: &[f32]) -> Answer {
         return Answer::Absent;
     }
     let rotation = match thin::rotation(dim, signs) {
+        Ok(rotation) => rotation,
+        Err(fault) => return Answer::Error(fault),
+    };
+    let turned =
+        if inverse { thin::apply_inverse(&rotation, input) } else { thin::apply(&rotation, input) };
+    told(turned, Value::Floats)
+}
+
+fn stored_apply(inverse: bool, dim: usize, matrix: &[f32], input: &[f32]) -> Answer {
+    // The matrix must be one of this dimension, and a large one is not worth reading.
+    let fits = matrix.len() == Kind::Stored.needed(dim) && dim <= LARGEST_STORED;
+    if !fits || matrix.iter().any(|entry| !entry.is_finite()) {
+        return Answer::Absent;
+    }
+    let rotation = match thin::stored_rotation(dim, matrix) {
         Ok(rotation) => rotation,
         Err(fault) => return Answer::Error(fault),
     };

@@ -4,11 +4,32 @@ use std::{fmt, rc::Rc};
 
 use oracle::{
     radius::RadiusCodecProfileV1,
+    rotation::RotationKind,
     thin::{self, Answer as Rust, Fault, Halves},
     turbo::{TurboMode, TurboQuantizer},
 };
 
 pub use oracle::{radius::RadiusCodecProfileV1 as Profile, turbo::TurboMode as Mode};
+
+/// The largest dimension of a stored rotation.
+pub const LARGEST_STORED: usize = 512;
+
+/// Which rotation a setup has.
+#[derive(Debug, Clone, Copy, PartialEq, Eq)]
+pub enum Kind {
+    FastHadamard,
+    Stored,
+}
+
+impl Kind {
+    /// How many entries are lent for a rotation of this dimension.
+    pub fn needed(self, dim: usize) -> usize {
+        match self {
+            Kind::FastHadamard => dim,
+            Kind::Stored => dim.saturating_mul(dim),
+        }
+    }
+}
 
 /// A setup as the port is lent it, and the Rust's quantizer with the same parts.
 pub struct Setup {
@@ -16,7 +37,9 @@ pub struct Setup {
     pub dim: usize,
     pub bits: u8,
     pub projections: usize,
-    pub signs: Vec<f32>,
+    pub kind: Kind,
+    /// Signs, or a matrix column by column.
+    pub rotation: Vec<f32>,
     pub directions: Rc<Vec<f32>>,
     pub matrix: Vec<f32>,
     /// Whether `directions` is the host's own table for the polar bits.
@@ -41,7 +64,8 @@ impl Setup {
             dim: 2,
             bits: 1 + (mode == TurboMode::PolarWithQjl) as u8,
             projections,
-            signs,
+            kind: Kind::FastHadamard,
+            rotation: signs,
             directions: Rc::new(thin::directions(1)),
             matrix,
             own_table: true,
@@ -58,8 +82,7 @@ impl Setup {
             TurboMode::PolarOnly => self.projections.min(64),
             TurboMode::PolarWithQjl => self.projections,
         };
-        let (signs, matrix) = (&self.signs, &self.matrix);
-        self.rust = rust_setup(self.mode, self.dim, self.bits, asked, signs, matrix);
+        self.rust = rust_setup(&self, asked);
         if let Some(Ok(turbo)) = &self.rust {
             self.halves = thin::halves(turbo);
         }
@@ -169,6 +192,14 @@ pub enum Case {
         input: Vec<f32>,
         out: usize,
     },
+    /// The matrix stands column by column.
+    StoredApply {
+        inverse: bool,
+        dim: usize,
+        matrix: Vec<f32>,
+        input: Vec<f32>,
+        out: usize,
+    },
     SetupCheck {
         setup: Rc<Setup>,
     },
@@ -231,7 +262,7 @@ pub enum Case {
 }
 
 /// The names of the calls, in the order of `Maker::make`.
-pub const CALLS: [&str; 28] = [
+pub const CALLS: [&str; 30] = [
     "packed_len",
     "pack_indices",
     "unpack_indices",
@@ -260,6 +291,22 @@ pub const CALLS: [&str; 28] = [
     "decode",
     "score_prepared",
     "encoded_bytes",
+    "stored_apply",
+    "stored_apply_inverse",
+];
+
+/// The calls whose cases may have a stored rotation, or a record of any even dimension.
+pub const OTHER_BOARDS: [&str; 10] = [
+    "setup",
+    "sketch",
+    "prepare_query",
+    "sketch_score",
+    "write_record",
+    "read_record",
+    "score",
+    "distance",
+    "decode",
+    "score_prepared",
 ];
 
 /// The calls that are lent a record to read.
@@ -289,6 +336,21 @@ impl Case {
     /// The same, to be changed.
     pub(crate) fn record_mut(&mut self) -> Option<&mut Vec<u8>> {
         record_of!(self)
+    }
+
+    /// The setup of a call under one.
+    pub fn setup(&self) -> Option<&Rc<Setup>> {
+        match self {
+            Case::SetupCheck { setup }
+            | Case::Sketch { setup, .. }
+            | Case::Prepare { setup, .. }
+            | Case::SketchScore { setup, .. }
+            | Case::Score { setup, .. }
+            | Case::Distance { setup, .. }
+            | Case::Decode { setup, .. }
+            | Case::ScorePrepared { setup, .. } => Some(setup),
+            _ => None,
+        }
     }
 
     pub fn call(&self) -> &'static str {
@@ -321,6 +383,8 @@ impl Case {
             Case::Decode { .. } => 25,
             Case::ScorePrepared { .. } => 26,
             Case::EncodedBytes { .. } => 27,
+            Case::StoredApply { inverse: false, .. } => 28,
+            Case::StoredApply { inverse: true, .. } => 29,
         }]
     }
 }
@@ -454,6 +518,13 @@ fn profile_name(profile: RadiusCodecProfileV1) -> &'static str {
     }
 }
 
+fn kind_name(kind: Kind) -> &'static str {
+    match kind {
+        Kind::FastHadamard => "hadamard",
+        Kind::Stored => "stored",
+    }
+}
+
 fn mode_name(mode: TurboMode) -> &'static str {
     match mode {
         TurboMode::PolarOnly => "polar",
@@ -465,12 +536,13 @@ impl fmt::Display for Setup {
     fn fmt(&self, f: &mut fmt::Formatter) -> fmt::Result {
         write!(
             f,
-            "mode={} dim={} bits={} projections={} signs={} directions={} matrix={}",
+            "mode={} dim={} bits={} projections={} kind={} rotation={} directions={} matrix={}",
             mode_name(self.mode),
             self.dim,
             self.bits,
             self.projections,
-            Patterns(&self.signs),
+            kind_name(self.kind),
+            Patterns(&self.rotation),
             Patterns(&self.directions),
             Patterns(&self.matrix)
         )
@@ -525,6 +597,10 @@ impl fmt::Display for Case {
             Case::Apply { dim, signs, input, out, .. } => {
                 let (signs, input) = (Patterns(signs), Patterns(input));
                 write!(f, "dim={dim} signs={signs} input={input} out={out}")
+            }
+            Case::StoredApply { dim, matrix, input, out, .. } => {
+                let (matrix, input) = (Patterns(matrix), Patterns(input));
+                write!(f, "dim={dim} matrix={matrix} input={input} out={out}")
             }
             Case::SetupCheck { setup } => write!(f, "{setup}"),
             Case::Sketch { setup, vector, out } => {
@@ -618,26 +694,34 @@ impl fmt::Display for Answer {
     }
 }
 
-/// The Rust's quantizer for these parts. None where the Rust can't have them.
-fn rust_setup(
-    mode: TurboMode,
-    dim: usize,
-    bits: u8,
-    projections: usize,
-    signs: &[f32],
-    matrix: &[f32],
-) -> Option<Rust<TurboQuantizer>> {
+/// The Rust's quantizer with a setup's parts, and so many projections. None where the Rust
+/// can't have them.
+fn rust_setup(setup: &Setup, projections: usize) -> Option<Rust<TurboQuantizer>> {
+    let Setup { mode, dim, bits, kind, ref rotation, ref matrix, .. } = *setup;
     let rows = if mode == TurboMode::PolarOnly { 0 } else { projections };
-    let fits = signs.len() == dim
-        && signs.iter().all(|sign| *sign == 1.0 || *sign == -1.0)
+    let good = |entry: &f32| match kind {
+        Kind::FastHadamard => *entry == 1.0 || *entry == -1.0,
+        Kind::Stored => entry.is_finite(),
+    };
+    let fits = rotation.len() == kind.needed(dim)
+        && rotation.iter().all(good)
         && rows.checked_mul(dim) == Some(matrix.len())
         && matrix.iter().all(|entry| entry.is_finite());
     // A large quantizer is not worth drawing only to be dropped.
-    if dim > 1 << 13 || (!fits && rows.saturating_mul(dim.max(1)) > 1 << 16) {
+    let most = match kind {
+        Kind::FastHadamard => 1 << 13,
+        Kind::Stored if fits => LARGEST_STORED,
+        Kind::Stored => 64,
+    };
+    if dim > most || (!fits && rows.saturating_mul(dim.max(1)) > 1 << 16) {
         return None;
     }
-    match thin::turbo(mode, dim, bits, projections, 0) {
-        Ok(drawn) if fits => Some(Ok(thin::turbo_with(&drawn, signs, matrix))),
+    let turn = match kind {
+        Kind::FastHadamard => RotationKind::FastHadamard,
+        Kind::Stored => RotationKind::StoredQr,
+    };
+    match thin::turbo_by(turn, mode, dim, bits, projections, 0) {
+        Ok(drawn) if fits => Some(Ok(thin::turbo_with(&drawn, rotation, matrix))),
         Ok(_) => None,
         Err(fault) => Some(Err(fault)),
     }

@@ -2,6 +2,7 @@
 //! oracle, and judged by document 01's lists of refusals.
 
 pub mod ask;
+pub mod boards;
 pub mod case;
 pub mod expect;
 pub mod make;

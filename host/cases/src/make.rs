@@ -6,7 +6,7 @@ use std::{collections::HashMap, rc::Rc};
 use oracle::thin;
 
 use crate::{
-    case::{Case, Profile, Setup, CALLS, TAKE_A_RECORD},
+    case::{Case, Kind, Profile, Setup, CALLS, OTHER_BOARDS, TAKE_A_RECORD},
     norms::Norms,
     rng::Rng,
 };
@@ -32,6 +32,11 @@ pub struct Maker {
     /// Makes the cases whose records are cut short, so that all others are the same with
     /// them and without.
     cutter: Option<Box<Maker>>,
+    /// Makes the cases of boards of other dimensions, for the same end.
+    boards: Option<Box<Maker>>,
+    /// Whether this is such a maker: most setups have a stored rotation, and records any even
+    /// dimension.
+    pub(crate) others: bool,
     /// Draws the norms of records, of their writing and of sketch scores, for the same end.
     pub(crate) norms: Norms,
     /// Whether the case that was made last has its norm already.
@@ -40,8 +45,14 @@ pub struct Maker {
 
 impl Maker {
     pub fn new(seed: u64, size: Size) -> Self {
-        let cutter = Self { damaged: 40, ..Self::alone(!seed, size) };
-        Self { cutter: Some(Box::new(cutter)), ..Self::alone(seed, size) }
+        let boards = Self::with_cutter(seed.rotate_left(16) ^ 0x5702, size, true);
+        Self { boards: Some(Box::new(boards)), ..Self::with_cutter(seed, size, false) }
+    }
+
+    fn with_cutter(seed: u64, size: Size, others: bool) -> Self {
+        let cutter = Self { damaged: 40, others, ..Self::alone(!seed, size) };
+        let damaged = if others { 15 } else { 4 };
+        Self { cutter: Some(Box::new(cutter)), damaged, others, ..Self::alone(seed, size) }
     }
 
     fn alone(seed: u64, size: Size) -> Self {
@@ -54,16 +65,19 @@ impl Maker {
             uses: 0,
             damaged: 4,
             cutter: None,
+            boards: None,
+            others: false,
             norms,
             normed: false,
         }
     }
 
-    /// The next case of the call with this place in `CALLS`. Of a hundred records ten are cut
+    /// The next case of the call with this place in `CALLS`. Of a hundred cases with a setup or
+    /// a record twenty are of boards of other dimensions. Of a hundred records ten are cut
     /// to no bytes, a withdrawn position, and two to 1 to 5; there two of five setups are
     /// damaged, and queries and outputs as ever. The others get their norms (`norms`).
     pub fn make(&mut self, call: usize) -> Case {
-        if let Some(case) = self.cut(call) {
+        if let Some(case) = self.other_board(call).or_else(|| self.cut(call)) {
             return case;
         }
         self.normed = false;
@@ -72,6 +86,11 @@ impl Maker {
             self.norms.put(&mut case);
         }
         case
+    }
+
+    fn other_board(&mut self, call: usize) -> Option<Case> {
+        let boards = self.boards.as_mut().filter(|_| OTHER_BOARDS.contains(&CALLS[call]))?;
+        boards.rng.chance(20).then(|| boards.make(call))
     }
 
     fn cut(&mut self, call: usize) -> Option<Case> {
@@ -128,11 +147,14 @@ impl Maker {
             }
             "apply" => self.apply(false),
             "apply_inverse" => self.apply(true),
+            "stored_apply" => self.stored_apply(false),
+            "stored_apply_inverse" => self.stored_apply(true),
             "setup" => Case::SetupCheck { setup: self.fresh_setup(40) },
             "sketch" => self.sketch(),
             "prepare_query" => self.prepare(),
             "sketch_score" => self.sketch_score(),
             "write_record" => self.write_record(),
+            "read_record" if self.others => Case::ReadRecord { record: self.record_alone(60) },
             "read_record" => {
                 let setup = self.setup();
                 Case::ReadRecord { record: self.record(&setup, 60) }
@@ -150,7 +172,7 @@ impl Maker {
             "decode" => {
                 let setup = self.setup();
                 let record = self.record(&setup, 30);
-                Case::Decode { out: self.rng.length(setup.dim, 10), setup, record }
+                Case::Decode { out: self.rng.length(self.long(&setup), 10), setup, record }
             }
             "score_prepared" => self.score_prepared(),
             "encoded_bytes" => {
@@ -452,6 +474,117 @@ impl Maker {
         let count = self.rng.length(dim, 6);
         let input = self.rng.vector_damaged(count, 15);
         Case::Apply { inverse, dim, signs, input, out: self.rng.length(dim, 8) }
+    }
+
+    // Stored rotations, and boards of other dimensions.
+
+    /// A dimension of a rotation of this kind, and one that it doesn't take.
+    pub(crate) fn good_dim_of(&mut self, kind: Kind) -> usize {
+        match kind {
+            Kind::FastHadamard => self.good_dim(),
+            Kind::Stored if self.size == Size::Small => self.rng.pick(&[2, 4, 4, 6, 6, 8]),
+            Kind::Stored => match self.rng.below(600) {
+                0 => 512,
+                1 => 300,
+                2..=4 => 256,
+                5..=40 => 90,
+                41..=100 => 2 * (1 + self.rng.below(50)),
+                _ => self.rng.pick(&[2, 4, 6, 8, 10, 12, 14, 16, 18, 20, 22, 30]),
+            },
+        }
+    }
+
+    pub(crate) fn odd_dim_of(&mut self, kind: Kind) -> usize {
+        match kind {
+            Kind::FastHadamard => self.odd_dim(),
+            Kind::Stored => {
+                self.rng.pick(&[0, 1, 3, 7, 511, 513, 514, 514, 516, 600, 1024, 4096, 4098, 8192])
+            }
+        }
+    }
+
+    /// A dimension of a record: any even one to 4,096, few of them powers of two.
+    pub(crate) fn board_dim(&mut self) -> usize {
+        let small = self.size == Size::Small;
+        match self.rng.below(if small { 10 } else { 100 }) {
+            0..=3 => 6,
+            4..=6 => 2 * (1 + self.rng.below(if small { 4 } else { 50 })),
+            7..=9 => self.rng.pick(&[2, 4, 6, 10]),
+            10..=60 => 2 * (1 + self.rng.below(40)),
+            61..=70 => 90,
+            71..=90 => self.rng.pick(&[98, 100, 126, 130, 254]),
+            91..=95 => self.rng.pick(&[300, 510, 512, 514]),
+            96 | 97 => self.rng.pick(&[1000, 1022, 2046, 2050]),
+            98 => 2 * (1 + self.rng.below(2048)),
+            _ => self.rng.pick(&[4094, 4096]),
+        }
+    }
+
+    /// The matrix of a stored rotation, column by column: near an orthogonal one, a permutation
+    /// with zeros of both signs, or finite floats of any style.
+    pub(crate) fn stored_matrix(&mut self, dim: usize) -> Vec<f32> {
+        match self.rng.below(20) {
+            0..=8 => self.orthogonal(dim),
+            9 | 10 => self.permutation(dim),
+            _ => self.rng.vector(dim * dim),
+        }
+    }
+
+    /// The product of two reflections, rounded: dense, and no row is its column.
+    fn orthogonal(&mut self, dim: usize) -> Vec<f32> {
+        let mut mirror = || {
+            let v: Vec<f64> = (0..dim).map(|_| f64::from(self.rng.unit()) + 1.0e-9).collect();
+            let norm = v.iter().map(|x| x * x).sum::<f64>().sqrt();
+            v.into_iter().map(|x| x / norm).collect::<Vec<f64>>()
+        };
+        let (u, v) = (mirror(), mirror());
+        let both: f64 = u.iter().zip(&v).map(|(a, b)| a * b).sum();
+        let entry = |i: usize, j: usize| {
+            let one = (i == j) as u8 as f64;
+            one - 2.0 * u[i] * u[j] - 2.0 * v[i] * v[j] + 4.0 * both * u[i] * v[j]
+        };
+        (0..dim * dim).map(|at| entry(at % dim, at / dim) as f32).collect()
+    }
+
+    /// A one or minus one in each row and column, all else a zero of either sign.
+    fn permutation(&mut self, dim: usize) -> Vec<f32> {
+        let mut row: Vec<usize> = (0..dim).collect();
+        (1..dim).for_each(|i| row.swap(i, self.rng.below(i + 1)));
+        let zeros = (0..dim * dim).map(|_| 0.0 * f32::from(self.rng.sign()));
+        let mut matrix: Vec<f32> = zeros.collect();
+        for (column, row) in row.into_iter().enumerate() {
+            matrix[column * dim + row] = f32::from(self.rng.sign());
+        }
+        matrix
+    }
+
+    /// Makes one or two entries of a matrix infinite or NaN.
+    pub(crate) fn spoil_entries(&mut self, matrix: &mut [f32]) {
+        for _ in 0..1 + self.rng.below(2) {
+            let at = self.rng.below(matrix.len());
+            if let Some(entry) = matrix.get_mut(at) {
+                *entry = self.rng.not_finite();
+            }
+        }
+    }
+
+    fn stored_apply(&mut self, inverse: bool) -> Case {
+        let mut dim = self.good_dim_of(Kind::Stored);
+        // What is lent fits a dimension that is taken, so that only the dimension offends.
+        let fits = dim;
+        if self.rng.chance(8) {
+            let large = self.rng.pick(&[usize::MAX, usize::MAX - 1, 1 << 32, 1 << 63]);
+            let odd = self.odd_dim_of(Kind::Stored);
+            dim = self.rng.pick(&[odd, odd, odd, large]);
+        }
+        let mut matrix = self.stored_matrix(fits);
+        matrix.resize(self.rng.length(fits * fits, 6), 0.5);
+        if self.rng.chance(8) {
+            self.spoil_entries(&mut matrix);
+        }
+        let count = self.rng.length(fits, 6);
+        let input = self.rng.vector_damaged(count, 15);
+        Case::StoredApply { inverse, dim, matrix, input, out: self.rng.length(fits, 8) }
     }
 
     /// Signs of a rotation, as floats.

@@ -6,11 +6,13 @@
 //!
 //! Document 02 has a record of no bytes as a withdrawn position, which the Rust doesn't
 //! know: the reader says so before its first check, and so after all that a call checks
-//! before it reads the record. It has a record's norm too, with the number 23 in three lists.
+//! before it reads the record. It has a record's norm too, with the number 23 in three lists;
+//! and a stored rotation, whose matrix is checked where the signs are, with 26 in the place of
+//! 4 and 9 in that of 10. A record has any even dimension to 4,096.
 
 use crate::{
     ask,
-    case::{Answer, Case, Mode, Profile, Setup, Value},
+    case::{Answer, Case, Kind, Mode, Profile, Setup, Value, LARGEST_STORED},
     plain, record,
 };
 
@@ -97,6 +99,17 @@ fn power(dim: usize) -> Checked {
     need(dim.count_ones() == 1 && dim <= LARGEST, 4, dim)
 }
 
+/// A stored rotation's dimension.
+fn stored(dim: usize) -> Checked {
+    need(dim <= LARGEST_STORED, 26, 0)
+}
+
+/// A record's dimension: even, and no power of two need it be.
+fn record_dimension(dim: usize) -> Checked {
+    dimension(dim)?;
+    need(dim <= LARGEST, 4, dim)
+}
+
 fn scalars(setup: &Setup) -> Checked {
     dimension(setup.dim)?;
     let least = if setup.mode == Mode::PolarOnly { 1 } else { 2 };
@@ -104,7 +117,10 @@ fn scalars(setup: &Setup) -> Checked {
     if setup.mode == Mode::PolarWithQjl {
         need((1..=LARGEST).contains(&setup.projections), 8, setup.projections)?;
     }
-    power(setup.dim)
+    match setup.kind {
+        Kind::FastHadamard => power(setup.dim),
+        Kind::Stored => stored(setup.dim),
+    }
 }
 
 fn direction(entry: &f32) -> bool {
@@ -113,10 +129,14 @@ fn direction(entry: &f32) -> bool {
 
 fn setup(setup: &Setup) -> Checked {
     scalars(setup)?;
-    need(setup.signs.len() == setup.dim, 5, setup.signs.len())?;
+    let rotation = &setup.rotation;
+    need(rotation.len() == setup.kind.needed(setup.dim), 5, rotation.len())?;
     need(setup.directions.len() == 2 << setup.polar_bits(), 5, setup.directions.len())?;
     need(setup.matrix.len() == setup.counted() * setup.dim, 5, setup.matrix.len())?;
-    each(&setup.signs, 10, turn)?;
+    match setup.kind {
+        Kind::FastHadamard => each(rotation, 10, turn)?,
+        Kind::Stored => each(rotation, 9, |entry| entry.is_finite())?,
+    }
     each(&setup.directions, 7, direction)?;
     each(&setup.matrix, 9, |entry| entry.is_finite())
 }
@@ -138,8 +158,7 @@ fn read(bytes: &[u8]) -> Result<Header, Ended> {
     need(record::defined(map), 18, map as usize)?;
     let dim = u32::from_le_bytes([bytes[1], bytes[2], bytes[3], bytes[4]]) as usize;
     let bits = bytes[5];
-    dimension(dim)?;
-    power(dim)?;
+    record_dimension(dim)?;
     width(bits)?;
     need(!(bits == 16 && map & record::SIGNS != 0), 1, 16)?;
     need(len >= record::header_len(map), 13, len)?;
@@ -314,6 +333,14 @@ fn judge(case: &Case, answer: &Answer) -> Checked {
             need(input.len() == *dim, 5, input.len())?;
             need(out == dim, 6, *dim)
         }
+        Case::StoredApply { dim, matrix, input, out, .. } => {
+            dimension(*dim)?;
+            stored(*dim)?;
+            need(matrix.len() == dim * dim, 5, matrix.len())?;
+            each(matrix, 9, |entry| entry.is_finite())?;
+            need(input.len() == *dim, 5, input.len())?;
+            need(out == dim, 6, *dim)
+        }
         Case::SetupCheck { setup: lent } => setup(lent),
         Case::Sketch { setup: lent, vector: values, out } => {
             setup(lent)?;
@@ -386,8 +413,7 @@ fn write(case: &Case) -> Checked {
     let residual = *mode == Mode::PolarWithQjl;
     need(*profile != Profile::BlockLogU8, 18, 0)?;
     need(residual || given.is_none(), 18, 0)?;
-    dimension(*dim)?;
-    power(*dim)?;
+    record_dimension(*dim)?;
     width(*bits)?;
     need(!(*bits == 16 && residual), 1, 16)?;
     if residual {

@@ -1,9 +1,9 @@
-//! Document 01's formulas as plain f32 loops, with document 02's norm in K, sums from +0.0,
-//! with the lent direction table. It answers where the Rust can't: other tables, and prepared values that were
+//! Document 01's formulas as plain f32 loops, with document 02's norm in K and its stored
+//! rotation, sums from +0.0, with the lent direction table. It answers where the Rust can't: other tables, and prepared values that were
 //! not prepared. Wherever the Rust does answer, `cases run` holds the two together.
 
 use crate::{
-    case::{Case, Mode, Setup, Value},
+    case::{Case, Kind, Mode, Setup, Value},
     record,
 };
 
@@ -41,6 +41,21 @@ fn rotate(inverse: bool, signs: &[f32], input: &[f32]) -> Vec<f32> {
         turn(&mut values);
     }
     values
+}
+
+/// Sums along the rows of a matrix that stands column by column, or along its columns.
+fn stored(inverse: bool, matrix: &[f32], input: &[f32]) -> Vec<f32> {
+    let n = input.len();
+    let entry = |i: usize, j: usize| if inverse { matrix[i * n + j] } else { matrix[j * n + i] };
+    (0..n).map(|i| (0..n).fold(0.0, |sum, j| sum + entry(i, j) * input[j])).collect()
+}
+
+/// A setup's own rotation.
+fn turn(inverse: bool, setup: &Setup, input: &[f32]) -> Vec<f32> {
+    match setup.kind {
+        Kind::FastHadamard => rotate(inverse, &setup.rotation, input),
+        Kind::Stored => stored(inverse, &setup.rotation, input),
+    }
 }
 
 fn dots(setup: &Setup, vector: &[f32]) -> Vec<f32> {
@@ -99,7 +114,7 @@ fn squares(values: &[f32]) -> f32 {
 }
 
 fn query_score(setup: &Setup, content: &Content, query: &[f32]) -> f32 {
-    let rotated = rotate(false, &setup.signs, query);
+    let rotated = turn(false, setup, query);
     score(setup, content, &rotated, &dots(setup, query))
 }
 
@@ -122,13 +137,15 @@ pub fn distance_sum(setup: &Setup, query: &[f32], record: &[u8]) -> Option<f32> 
 pub fn value(case: &Case) -> Option<Value> {
     Some(match case {
         Case::Apply { inverse, signs, input, .. } => Value::Floats(rotate(*inverse, signs, input)),
+        Case::StoredApply { inverse, matrix, input, .. } => {
+            Value::Floats(stored(*inverse, matrix, input))
+        }
         Case::Sketch { setup, vector, .. } => Value::Signs(
             dots(setup, vector).iter().map(|dot| if *dot >= 0.0 { 1 } else { -1 }).collect(),
         ),
-        Case::Prepare { setup, query, .. } => Value::Prepared {
-            rotated: rotate(false, &setup.signs, query),
-            projected: dots(setup, query),
-        },
+        Case::Prepare { setup, query, .. } => {
+            Value::Prepared { rotated: turn(false, setup, query), projected: dots(setup, query) }
+        }
         Case::SketchScore { setup, query, signs, norm } => Value::Float(match setup.mode {
             Mode::PolarOnly => 0.0,
             Mode::PolarWithQjl => residual(signs, *norm, &dots(setup, query)),
@@ -146,7 +163,7 @@ pub fn value(case: &Case) -> Option<Value> {
                 let (c, s) = direction(setup, *index);
                 turned.extend([r * c, r * s]);
             }
-            Value::Floats(rotate(true, &setup.signs, &turned))
+            Value::Floats(turn(true, setup, &turned))
         }
         Case::ScorePrepared { setup, rotated, projected, record, .. } => {
             Value::Float(score(setup, &content(record)?, rotated, projected))

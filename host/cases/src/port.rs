@@ -9,7 +9,7 @@
 use foldrima::{call, call_under, raw};
 
 use crate::{
-    case::{strictly_same, Case, Mode, Profile, Value},
+    case::{strictly_same, Case, Kind, Mode, Profile, Setup, Value},
     expect::Given,
     paper::{Ended, Refusal},
     record,
@@ -100,6 +100,15 @@ fn mode_code(mode: Mode) -> u8 {
         Mode::PolarOnly => 0,
         Mode::PolarWithQjl => 1,
     }
+}
+
+/// A setup's mode, and its kind as one of the numbers that say so.
+fn codes(setup: &Setup) -> (u8, u8) {
+    let kind = match setup.kind {
+        Kind::FastHadamard => 0,
+        Kind::Stored => (setup.rotation.len() as u8).max(1),
+    };
+    (mode_code(setup.mode), kind)
 }
 
 fn profile_code(profile: Profile) -> u8 {
@@ -229,26 +238,39 @@ pub fn answer(case: &Case) -> Given {
             };
             told.given(&[&out], || Value::Floats(out.found().to_vec()))
         }
+        Case::StoredApply { inverse, dim, matrix, input, out } => {
+            let mut out = Lent::new(*out, FLOAT);
+            let find = match inverse {
+                false => raw::foldrima_stored_apply,
+                true => raw::foldrima_stored_apply_inverse,
+            };
+            let (lent, count) = (input.as_ptr(), input.len());
+            let (to, room) = (out.as_mut_ptr(), out.len());
+            unsafe {
+                find(*dim, matrix.as_ptr(), matrix.len(), lent, count, to, room, number, place)
+            };
+            told.given(&[&out], || Value::Floats(out.found().to_vec()))
+        }
         Case::SetupCheck { setup } => {
-            let mode = mode_code(setup.mode);
-            unsafe { call_under!(setup, mode, foldrima_check_setup(number, place)) };
+            let codes = codes(setup);
+            unsafe { call_under!(setup, codes, foldrima_check_setup(number, place)) };
             told.given(&[], || Value::Done)
         }
         Case::Sketch { setup, vector, out } => {
-            let (mode, mut out) = (mode_code(setup.mode), Lent::new(*out, SIGN));
+            let (codes, mut out) = (codes(setup), Lent::new(*out, SIGN));
             unsafe {
-                call_under!(setup, mode, foldrima_sketch([vector], [mut out], number, place))
+                call_under!(setup, codes, foldrima_sketch([vector], [mut out], number, place))
             };
             told.given(&[&out], || Value::Signs(out.found().to_vec()))
         }
         Case::Prepare { setup, query, rotated, projected } => {
-            let mode = mode_code(setup.mode);
+            let codes = codes(setup);
             let mut rotated = Lent::new(*rotated, FLOAT);
             let mut projected = Lent::new(*projected, FLOAT);
             unsafe {
                 call_under!(
                     setup,
-                    mode,
+                    codes,
                     foldrima_prepare_query([query], [mut rotated], [mut projected], number, place)
                 )
             };
@@ -260,7 +282,7 @@ pub fn answer(case: &Case) -> Given {
         Case::SketchScore { setup, query, signs, norm } => float(&mut told, |to| unsafe {
             call_under!(
                 setup,
-                mode_code(setup.mode),
+                codes(setup),
                 foldrima_sketch_score([query], [signs], *norm, number, place, to)
             )
         }),
@@ -303,23 +325,23 @@ pub fn answer(case: &Case) -> Given {
         Case::Score { setup, query, record } => float(&mut told, |to| unsafe {
             call_under!(
                 setup,
-                mode_code(setup.mode),
+                codes(setup),
                 foldrima_inner_product_estimate([query], [record], number, place, to)
             )
         }),
         Case::Distance { setup, query, record } => float(&mut told, |to| unsafe {
             call_under!(
                 setup,
-                mode_code(setup.mode),
+                codes(setup),
                 foldrima_l2_distance_estimate([query], [record], number, place, to)
             )
         }),
         Case::Decode { setup, record, out } => {
-            let (mode, mut out) = (mode_code(setup.mode), Lent::new(*out, FLOAT));
+            let (codes, mut out) = (codes(setup), Lent::new(*out, FLOAT));
             unsafe {
                 call_under!(
                     setup,
-                    mode,
+                    codes,
                     foldrima_decode_approximate([record], [mut out], number, place)
                 )
             };
@@ -328,10 +350,11 @@ pub fn answer(case: &Case) -> Given {
         Case::ScorePrepared { setup, rotated, projected, record, .. } => {
             float(&mut told, |to| unsafe {
                 call!(foldrima_inner_product_estimate_prepared(
-                    mode_code(setup.mode),
+                    codes(setup).0,
                     setup.dim,
                     setup.bits,
                     setup.projections,
+                    codes(setup).1,
                     [setup.directions],
                     [rotated],
                     [projected],

@@ -5,7 +5,7 @@ use std::rc::Rc;
 use oracle::thin;
 
 use crate::{
-    case::{Case, Mode, Profile, Setup},
+    case::{Case, Kind, Mode, Profile, Setup, LARGEST_STORED},
     make::{Maker, Size},
     plain,
     record::{self, Parts},
@@ -29,7 +29,11 @@ impl Maker {
     /// The kept setup, or a new one from time to time.
     fn kept_setup(&mut self) -> Rc<Setup> {
         if self.uses == 0 {
-            self.uses = if self.size == Size::Small { 3 } else { 24 };
+            self.uses = match self.size {
+                Size::Small => 3,
+                Size::Full if self.others => 8,
+                Size::Full => 24,
+            };
             self.kept = Some(self.fresh_setup(0));
         }
         self.uses -= 1;
@@ -62,9 +66,11 @@ impl Maker {
 
     pub(crate) fn fresh_setup(&mut self, damaged: usize) -> Rc<Setup> {
         let damaged = self.rng.chance(damaged);
+        let stored = self.others && !self.rng.chance(15);
+        let kind = if stored { Kind::Stored } else { Kind::FastHadamard };
         let mode = self.rng.pick(&[Mode::PolarOnly, Mode::PolarWithQjl, Mode::PolarWithQjl]);
         let residual = mode == Mode::PolarWithQjl;
-        let mut dim = self.good_dim();
+        let mut dim = self.good_dim_of(kind);
         let least = if residual { 2 } else { 1 };
         let most = if self.size == Size::Small { 4 } else { 16 };
         let mut bits = (least + self.rng.below(most + 1 - least)) as u8;
@@ -75,16 +81,26 @@ impl Maker {
         }
         let good = (dim, bits, projections);
         if damaged && self.rng.chance(40) {
-            match self.rng.below(3) {
-                0 => dim = self.odd_dim(),
-                1 => bits = self.rng.pick(&[0, 1, 17, 255]),
-                _ => projections = self.rng.pick(&[0, 4097, usize::MAX]),
+            // Of a stored setup sometimes two scalars at once, so that their order shows.
+            let both = stored && self.rng.chance(30);
+            let which = self.rng.below(3);
+            if which == 0 || both {
+                dim = self.odd_dim_of(kind);
+            }
+            if which == 1 {
+                bits = self.rng.pick(&[0, 1, 17, 255]);
+            }
+            if which == 2 {
+                projections = self.rng.pick(&[0, 4097, usize::MAX]);
             }
         }
         // Parts that fit the good scalars, so that only the change offends.
         let seed = self.rng.next();
         let counted = if residual { good.2 } else { 0 };
-        let (mut signs, mut matrix) = self.parts(good.0, good.1, counted, mode, seed);
+        let (mut rotation, mut matrix) = match kind {
+            Kind::FastHadamard => self.parts(good.0, good.1, counted, mode, seed),
+            Kind::Stored => (self.stored_matrix(good.0), self.rng.vector(counted * good.0)),
+        };
         let mut directions = self.table(good.1 - residual as u8);
         // Now and then another table that is allowed; the Rust knows only the host's.
         let mut own_table = true;
@@ -96,7 +112,10 @@ impl Maker {
         }
         if damaged && (dim, bits, projections) == good {
             let before = directions.clone();
-            self.damage(&mut signs, &mut directions, &mut matrix);
+            self.damage(kind, &mut rotation, &mut directions, &mut matrix);
+            if stored && self.rng.chance(40) {
+                self.damage(kind, &mut rotation, &mut directions, &mut matrix);
+            }
             own_table = own_table && Rc::ptr_eq(&before, &directions);
         }
         Setup {
@@ -104,7 +123,8 @@ impl Maker {
             dim,
             bits,
             projections,
-            signs,
+            kind,
+            rotation,
             directions,
             matrix,
             own_table,
@@ -114,12 +134,13 @@ impl Maker {
         .with_rust()
     }
 
-    /// The largest setup, 4,096 × 4,096 at 16 bits, in every call that takes one; records
-    /// have a norm, and one has none.
+    /// The largest setups, 4,096 × 4,096 at 16 bits and 512 × 4,096 with a stored rotation, in
+    /// every call that takes one; records have a norm, and one has none.
     pub fn largest(&mut self) -> Vec<Case> {
         let (mode, dim, bits, projections) = (Mode::PolarWithQjl, 4096, 16, 4096);
         let turbo = thin::turbo(mode, dim, bits, projections, self.rng.next()).unwrap();
-        let signs = thin::turbo_signs(&turbo).unwrap();
+        let kind = Kind::FastHadamard;
+        let rotation = thin::turbo_signs(&turbo).unwrap();
         let matrix = thin::turbo_matrix(&turbo);
         let halves = thin::halves(&turbo);
         let directions = self.table(15);
@@ -130,13 +151,36 @@ impl Maker {
             dim,
             bits,
             projections,
-            signs,
-            directions,
+            kind,
+            rotation,
+            directions: directions.clone(),
             matrix,
             own_table,
             rust,
             halves,
         });
+        let mut cases = self.calls_under(setup);
+        let dim = LARGEST_STORED;
+        let setup = Setup {
+            mode,
+            dim,
+            bits,
+            projections,
+            kind: Kind::Stored,
+            rotation: self.stored_matrix(dim).iter().map(|entry| entry.clamp(-1.0, 1.0)).collect(),
+            directions,
+            matrix: (0..projections * dim).map(|_| self.rng.unit()).collect(),
+            own_table,
+            rust: None,
+            halves: None,
+        };
+        cases.extend(self.calls_under(setup.with_rust()));
+        cases
+    }
+
+    /// Each call under a large setup in residual mode.
+    fn calls_under(&mut self, setup: Rc<Setup>) -> Vec<Case> {
+        let Setup { dim, bits, projections, .. } = *setup;
         let query: Vec<f32> = (0..dim).map(|_| self.rng.unit()).collect();
         let parts = self.good_parts(dim, bits - 1, projections, true);
         let without = parts.bytes();
@@ -187,12 +231,19 @@ impl Maker {
         (signs, self.rng.vector(counted * dim))
     }
 
-    fn damage(&mut self, signs: &mut Vec<f32>, table: &mut Rc<Vec<f32>>, matrix: &mut Vec<f32>) {
+    fn damage(
+        &mut self,
+        kind: Kind,
+        rotation: &mut Vec<f32>,
+        table: &mut Rc<Vec<f32>>,
+        matrix: &mut Vec<f32>,
+    ) {
         let some = self.rng.not_finite();
         match self.rng.below(6) {
-            0 => *signs = self.turns(signs.len(), 100),
-            1 => signs.resize(self.rng.length(signs.len(), 100), 1.0),
-            2 => {
+            0 if kind == Kind::Stored => self.spoil_entries(rotation),
+            0 => *rotation = self.turns(rotation.len(), 100),
+            1 => rotation.resize(self.rng.length(rotation.len(), 100), 1.0),
+            2 if !table.is_empty() => {
                 let mut list = table.to_vec();
                 let at = self.rng.below(list.len());
                 list[at] = self.rng.pick(&[some, 1.0000001, -1.0000001, 2.0, -1.0, 1.0, -0.0]);
@@ -213,35 +264,44 @@ impl Maker {
 
     // Queries and records.
 
-    fn query(&mut self, dim: usize) -> Vec<f32> {
-        let count = self.rng.length(dim, 4);
+    /// How long lists of a setup's dimension are: where cases are written down, short also for
+    /// a dimension that is refused as too large.
+    pub(crate) fn long(&self, setup: &Setup) -> usize {
+        match self.size {
+            Size::Small => setup.dim.min(12),
+            Size::Full => setup.dim,
+        }
+    }
+
+    fn query(&mut self, setup: &Setup) -> Vec<f32> {
+        let count = self.rng.length(self.long(setup), 4);
         self.rng.vector_damaged(count, 6)
     }
 
     pub(crate) fn sketch(&mut self) -> Case {
         let setup = self.setup();
-        let vector = self.query(setup.dim);
-        Case::Sketch { out: self.rng.length(setup.counted(), 10), setup, vector }
+        let vector = self.query(&setup);
+        Case::Sketch { out: self.rng.length(setup.counted().min(8192), 10), setup, vector }
     }
 
     pub(crate) fn prepare(&mut self) -> Case {
         let setup = self.setup();
-        let query = self.query(setup.dim);
-        let rotated = self.rng.length(setup.dim, 6);
+        let query = self.query(&setup);
+        let rotated = self.rng.length(self.long(&setup), 6);
         let projected = self.rng.length(setup.counted().min(8192), 6);
         Case::Prepare { setup, query, rotated, projected }
     }
 
     pub(crate) fn sketch_score(&mut self) -> Case {
         let setup = self.setup();
-        let query = self.query(setup.dim);
+        let query = self.query(&setup);
         let count = self.rng.length(setup.counted().min(8192), 5);
         Case::SketchScore { signs: self.signs(count, 8), setup, query, norm: 1.0 }
     }
 
     pub(crate) fn scored(&mut self) -> (Rc<Setup>, Vec<f32>, Vec<u8>) {
         let setup = self.setup();
-        let query = self.query(setup.dim);
+        let query = self.query(&setup);
         let record = self.record(&setup, 20);
         (setup, query, record)
     }
@@ -273,7 +333,7 @@ impl Maker {
         let count = projections * setup.dim;
         Setup {
             projections,
-            signs: setup.signs.clone(),
+            rotation: setup.rotation.clone(),
             directions: setup.directions.clone(),
             matrix: (0..count).map(|_| self.rng.unit() * 2f32.powi(80)).collect(),
             rust: None,
@@ -302,13 +362,13 @@ impl Maker {
     pub(crate) fn score_prepared(&mut self) -> Case {
         let setup = self.setup();
         let record = self.record(&setup, 20);
-        let query = self.rng.vector(setup.dim);
+        let query = self.rng.vector(self.long(&setup));
         let ready = match &setup.rust {
             Some(Ok(turbo)) => thin::prepare_query(turbo, &query).ok(),
             _ => None,
         };
         let Some((mut rotated, mut projected)) = ready else {
-            let rotated = self.rng.vector_damaged(setup.dim, 10);
+            let rotated = self.rng.vector_damaged(self.long(&setup), 10);
             let projected = self.rng.vector(setup.counted().min(8192));
             return Case::ScorePrepared { setup, query: None, rotated, projected, record };
         };
@@ -373,6 +433,11 @@ impl Maker {
         let bits = setup.polar_bits().clamp(1, if residual { 15 } else { 16 });
         let dim = if sound { setup.dim } else { 4 };
         let m = setup.counted().clamp(1, 4096);
+        // A record of another board, which can be read and not scored.
+        if self.others && self.rng.chance(if setup.kind == Kind::Stored { 3 } else { 40 }) {
+            let other = self.board_dim();
+            return self.good_parts(other, bits, m, residual).bytes();
+        }
         if !self.rng.chance(damaged) {
             if let (Some(Ok(turbo)), true) = (&setup.rust, self.rng.chance(30)) {
                 let vector = self.rng.vector(setup.dim);
@@ -382,6 +447,23 @@ impl Maker {
             }
             return self.good_parts(dim, bits, m, residual).bytes();
         }
+        self.damaged_record(dim, bits, m, residual)
+    }
+
+    /// A record of any even dimension, under no setup; `damaged` of a hundred as above.
+    pub(crate) fn record_alone(&mut self, damaged: usize) -> Vec<u8> {
+        let residual = self.rng.chance(50);
+        let most = if self.size == Size::Small { 4 } else { 15 };
+        let bits = 1 + self.rng.below(most) as u8;
+        let (dim, m) = (self.board_dim(), self.projections(64));
+        if self.rng.chance(damaged) {
+            return self.damaged_record(dim, bits, m, residual);
+        }
+        self.good_parts(dim, bits, m, residual).bytes()
+    }
+
+    /// A record of this shape that is spoiled or has another shape.
+    fn damaged_record(&mut self, dim: usize, bits: u8, m: usize, residual: bool) -> Vec<u8> {
         match self.rng.below(10) {
             0 => {
                 let other = self.rng.pick(&[2, 4, 8]);
@@ -423,6 +505,12 @@ impl Maker {
         let mut parts = self.good_parts(dim, bits, m, residual);
         match self.rng.below(6) {
             0 => parts.dim = self.rng.pick(&[0, 1, 3, 6, 8192, u32::MAX, 4097, 4098]),
+            1 if self.others && self.rng.chance(50) => {
+                // A whole record of a dimension that is too large, or odd.
+                let other = self.rng.pick(&[4098, 4100, 5000, 8190]);
+                parts = self.good_parts(other, bits, m, residual);
+                parts.dim -= self.rng.below(2) as u32;
+            }
             1 => parts.bits = self.rng.pick(&[0, 16, 17, 255]),
             2 => parts.projections = self.rng.pick(&[0, 4097, u32::MAX]),
             3 if parts.linear() => {
@@ -458,11 +546,20 @@ impl Maker {
         parts.bytes()
     }
 
+    /// A dimension to write a record of, some of them none.
+    fn written_dim(&mut self) -> usize {
+        match self.others {
+            false => self.dim(),
+            true if self.rng.chance(8) => self.rng.pick(&[0, 1, 3, 7, 4095, 4097, 4098, 8190]),
+            true => self.board_dim(),
+        }
+    }
+
     pub(crate) fn write_record(&mut self) -> Case {
         let mode = self.rng.pick(&[Mode::PolarOnly, Mode::PolarWithQjl]);
         let residual = mode == Mode::PolarWithQjl;
-        let dim = self.dim();
-        let sound = dim.min(8192);
+        let dim = self.written_dim();
+        let sound = dim.min(if self.size == Size::Small { 12 } else { 8192 });
         let mut bits = self.bits();
         if residual && self.rng.chance(3) {
             bits = 16;
@@ -489,7 +586,7 @@ impl Maker {
         let signs = self.signs(count, 8);
         let map = (profile == Profile::BlockLinearU16) as u8 * record::LINEAR
             + residual as u8 * record::SIGNS;
-        let lens = record::payload_lens(map, dim as u32, bits.min(16), counted as u32);
+        let lens = record::payload_lens(map, sound as u32, bits.min(16), counted as u32);
         let exact = record::header_len(map) + lens.iter().sum::<u64>() as usize;
         let out = self.rng.length(exact, 8);
         let norm = None;

@@ -3,21 +3,24 @@
 //! length; a refused call writes to none of them. A record of no bytes is a withdrawn
 //! position, neither a refusal nor a value: calls that take a record answer a [`Position`],
 //! and write nothing where it is withdrawn. A record with signs may have the norm of its
-//! source, which its residual is scaled with; without one the norm is 1.0.
+//! source, which its residual is scaled with; without one the norm is 1.0. A setup rotates by
+//! signs, for boards of a power of two, or by a matrix, for any even dimension up to 512
+//! ([`RotationKind`]).
 //!
 //! The library's answers rest on the float mode that a thread starts with: round to
 //! nearest, subnormals kept. A call panics in a thread that has changed it.
 //!
 //! ```
-//! use foldrima::{refusal, Position, Refusal, Setup, TurboMode};
+//! use foldrima::{refusal, Position, Refusal, RotationKind, Setup, TurboMode};
 //!
 //! # fn main() -> Result<(), Refusal> {
 //! let signs = [1.0, 1.0]; // drawn by a generator that is seeded with `hadamard_seed`
 //! let directions = [-1.0, 0.0, 1.0, 0.0]; // cosine and sine of each `dequantize_angle`
 //! let matrix = [1.0, 0.0, 0.0, 1.0, 1.0, 1.0]; // drawn with `matrix_seed`, row by row
 //! let (mode, dim, bits, projections) = (TurboMode::PolarWithQjl, 2, 2, 3);
-//! let (signs, directions, matrix) = (&signs, &directions, &matrix);
-//! let setup = Setup { mode, dim, bits, projections, signs, directions, matrix };
+//! let (kind, rotation) = (RotationKind::FastHadamard, &signs);
+//! let (directions, matrix) = (&directions, &matrix);
+//! let setup = Setup { mode, dim, bits, projections, kind, rotation, directions, matrix };
 //! let (mut rotated, mut projected) = ([0.0; 2], [0.0; 3]);
 //! setup.prepare_query(&[1.0, 3.0], &mut rotated, &mut projected)?;
 //! let record = [2, 2, 0, 0, 0, 1, 3, 0, 0, 0, 0, 0, 0x80, 0x3F, 1, 5];
@@ -58,7 +61,7 @@ pub use record::{
     signs_part, write_record, Header,
 };
 pub use refusal::Refusal;
-pub use setup::{apply, apply_inverse, Setup};
+pub use setup::{apply, apply_inverse, stored_apply, stored_apply_inverse, Setup};
 
 /// Whether a residual sketch goes with the polar code.
 #[derive(Debug, Clone, Copy, PartialEq, Eq, Hash)]
@@ -66,6 +69,16 @@ pub use setup::{apply, apply_inverse, Setup};
 pub enum TurboMode {
     PolarOnly = 0,
     PolarWithQjl = 1,
+}
+
+/// Which rotation a setup has, and so what is lent for it.
+#[derive(Debug, Clone, Copy, PartialEq, Eq, Hash)]
+#[repr(u8)]
+pub enum RotationKind {
+    /// Signs and the Hadamard transform, for powers of two up to 4,096.
+    FastHadamard = 0,
+    /// A matrix, for even dimensions up to 512.
+    Stored = 1,
 }
 
 /// How radii are stored. `BlockLogU8` is refused by every call.

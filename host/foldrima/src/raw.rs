@@ -135,7 +135,7 @@ extern "C" {
     );
 }
 
-// Rotation.
+// Rotations.
 extern "C" {
     pub fn foldrima_apply(
         dim: usize,
@@ -152,6 +152,28 @@ extern "C" {
         dim: usize,
         signs: *const f32,
         signs_len: usize,
+        input: *const f32,
+        input_len: usize,
+        output: *mut f32,
+        output_len: usize,
+        number: *mut u32,
+        place: *mut usize,
+    );
+    pub fn foldrima_stored_apply(
+        dim: usize,
+        matrix: *const f32,
+        matrix_len: usize,
+        input: *const f32,
+        input_len: usize,
+        output: *mut f32,
+        output_len: usize,
+        number: *mut u32,
+        place: *mut usize,
+    );
+    pub fn foldrima_stored_apply_inverse(
+        dim: usize,
+        matrix: *const f32,
+        matrix_len: usize,
         input: *const f32,
         input_len: usize,
         output: *mut f32,
@@ -259,6 +281,7 @@ extern "C" {
         dim: usize,
         bits: u8,
         projections: usize,
+        kind: u8,
         directions: *const f32,
         directions_len: usize,
         rotated: *const f32,
@@ -282,8 +305,9 @@ macro_rules! under_a_setup {
                 dim: usize,
                 bits: u8,
                 projections: usize,
-                signs: *const f32,
-                signs_len: usize,
+                kind: u8,
+                rotation: *const f32,
+                rotation_len: usize,
                 directions: *const f32,
                 directions_len: usize,
                 matrix: *const f32,
@@ -377,16 +401,18 @@ macro_rules! call {
     };
 }
 
-/// The same for a function that takes a setup first; its mode is given as a number.
+/// The same for a function that takes a setup first; its mode and its rotation's kind are
+/// given as two numbers.
 #[macro_export]
 macro_rules! call_under {
-    ($setup:expr, $mode:expr, $name:ident($($rest:tt)*)) => {
+    ($setup:expr, $codes:expr, $name:ident($($rest:tt)*)) => {
         $crate::call!($name(
-            $mode,
+            $codes.0,
             $setup.dim,
             $setup.bits,
             $setup.projections,
-            [$setup.signs],
+            $codes.1,
+            [$setup.rotation],
             [$setup.directions],
             [$setup.matrix],
             $($rest)*

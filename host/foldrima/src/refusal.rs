@@ -17,7 +17,7 @@ macro_rules! refusals {
         pub const $name: u32 = $number;)*
 
         /// The name of each number, in their order.
-        pub const NAMES: [(&str, u32); 21] = [$((stringify!($name), $name)),*];
+        pub const NAMES: [(&str, u32); 22] = [$((stringify!($name), $name)),*];
 
         fn words(number: u32) -> Option<(&'static str, &'static str)> {
             match number {
@@ -32,12 +32,12 @@ refusals! {
     INVALID_BIT_WIDTH = 1, "bits outside 1 to 16, or total bits below 2 in residual mode", "the bits";
     ZERO_DIMENSION = 2, "dimension 0", "";
     ODD_DIMENSION = 3, "odd dimension", "the dimension";
-    ROTATION_FAILED = 4, "an even dimension that is no power of two, or above 4,096", "the dimension";
+    ROTATION_FAILED = 4, "an even dimension that is no power of two under Hadamard signs, or above 4,096", "the dimension";
     DIMENSION_MISMATCH = 5, "an input's length, or a record's dimension, is not the setup's", "what was found";
     OUTPUT_LENGTH = 6, "an output isn't exactly the needed length", "the needed length";
     INVALID_DIRECTION = 7, "a direction entry is not finite or outside -1 to 1", "its index";
     ZERO_PROJECTION_COUNT = 8, "in residual mode, projections 0 or above 4,096", "the count";
-    NON_FINITE_MATRIX = 9, "a matrix entry is not finite", "its index";
+    NON_FINITE_MATRIX = 9, "an entry of a matrix is not finite", "its index";
     MALFORMED_SIGN = 10, "a sign is neither -1 nor 1", "its index";
     NON_FINITE_INPUT = 11, "a value is not finite, in the vector, rotated or projected", "its index there";
     NON_FINITE_SCORE = 12, "a score or distance is not finite", "";
@@ -50,6 +50,7 @@ refusals! {
     LENGTH_OVERFLOW = 19, "count times bits exceeds the largest usize", "";
     PROFILE_MISMATCH = 20, "a record's bits or projections are not the setup's", "";
     MALFORMED_NORM = 23, "a norm is not finite or below zero", "";
+    STORED_DIMENSION = 26, "a stored rotation's dimension is above 512", "";
 }
 
 impl fmt::Display for Refusal {

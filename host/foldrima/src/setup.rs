@@ -1,8 +1,10 @@
-//! The rotation by itself, and all that is asked under a setup.
+//! The rotations by themselves, and all that is asked under a setup.
 
-use crate::{asked, call, call_under, of_record, scored, valued, Position, Refusal, TurboMode};
+use crate::{
+    asked, call, call_under, of_record, scored, valued, Position, Refusal, RotationKind, TurboMode,
+};
 
-/// Rotates the input.
+/// Rotates the input by signs and the Hadamard transform.
 pub fn apply(dim: usize, signs: &[f32], input: &[f32], output: &mut [f32]) -> Result<(), Refusal> {
     asked(|number, place| unsafe {
         call!(foldrima_apply(dim, [signs], [input], [mut output], number, place))
@@ -21,6 +23,32 @@ pub fn apply_inverse(
     })
 }
 
+/// Rotates the input by a matrix, lent column by column: the entry of row i and column j
+/// stands at j × dim + i. Each entry of the output is the sum along a row.
+pub fn stored_apply(
+    dim: usize,
+    matrix: &[f32],
+    input: &[f32],
+    output: &mut [f32],
+) -> Result<(), Refusal> {
+    asked(|number, place| unsafe {
+        call!(foldrima_stored_apply(dim, [matrix], [input], [mut output], number, place))
+    })
+}
+
+/// Rotates the input back, where the matrix is orthogonal: each entry of the output is the sum
+/// along a column.
+pub fn stored_apply_inverse(
+    dim: usize,
+    matrix: &[f32],
+    input: &[f32],
+    output: &mut [f32],
+) -> Result<(), Refusal> {
+    asked(|number, place| unsafe {
+        call!(foldrima_stored_apply_inverse(dim, [matrix], [input], [mut output], number, place))
+    })
+}
+
 /// A setup, with the parts that the host draws and works out. Every call checks it.
 #[derive(Debug, Clone, Copy)]
 pub struct Setup<'a> {
@@ -29,8 +57,12 @@ pub struct Setup<'a> {
     /// Total bits: those of an angle, and one more for the residual.
     pub bits: u8,
     pub projections: usize,
-    /// The rotation's signs, each −1.0 or 1.0.
-    pub signs: &'a [f32],
+    /// Which rotation it has: for boards of a power of two up to 4,096, or of any even
+    /// dimension up to 512.
+    pub kind: RotationKind,
+    /// The rotation's signs, each −1.0 or 1.0, or its matrix column by column, dim × dim
+    /// entries.
+    pub rotation: &'a [f32],
     /// Cosine and sine of each index's angle.
     pub directions: &'a [f32],
     /// Row by row; empty in `PolarOnly`.
@@ -38,18 +70,23 @@ pub struct Setup<'a> {
 }
 
 impl Setup<'_> {
+    /// Mode and kind as the C functions take them.
+    fn codes(&self) -> (u8, u8) {
+        (self.mode as u8, self.kind as u8)
+    }
+
     /// Whether the setup holds together.
     pub fn check(&self) -> Result<(), Refusal> {
         asked(|number, place| unsafe {
-            call_under!(self, self.mode as u8, foldrima_check_setup(number, place))
+            call_under!(self, self.codes(), foldrima_check_setup(number, place))
         })
     }
 
     /// The sketch of a vector: a sign for each projection, none in `PolarOnly`.
     pub fn sketch(&self, vector: &[f32], out: &mut [i8]) -> Result<(), Refusal> {
-        let mode = self.mode as u8;
+        let codes = self.codes();
         asked(|number, place| unsafe {
-            call_under!(self, mode, foldrima_sketch([vector], [mut out], number, place))
+            call_under!(self, codes, foldrima_sketch([vector], [mut out], number, place))
         })
     }
 
@@ -57,11 +94,11 @@ impl Setup<'_> {
     /// it isn't known; 0 in `PolarOnly`. A norm that is not finite or below zero is refused (23)
     /// in both modes.
     pub fn sketch_score(&self, query: &[f32], sketch: &[i8], norm: f32) -> Result<f32, Refusal> {
-        let mode = self.mode as u8;
+        let codes = self.codes();
         valued(|number, place, value| unsafe {
             call_under!(
                 self,
-                mode,
+                codes,
                 foldrima_sketch_score([query], [sketch], norm, number, place, value)
             )
         })
@@ -74,11 +111,11 @@ impl Setup<'_> {
         rotated: &mut [f32],
         projected: &mut [f32],
     ) -> Result<(), Refusal> {
-        let mode = self.mode as u8;
+        let codes = self.codes();
         asked(|number, place| unsafe {
             call_under!(
                 self,
-                mode,
+                codes,
                 foldrima_prepare_query([query], [mut rotated], [mut projected], number, place)
             )
         })
@@ -91,18 +128,18 @@ impl Setup<'_> {
         query: &[f32],
         record: &[u8],
     ) -> Result<Position<f32>, Refusal> {
-        let mode = self.mode as u8;
+        let codes = self.codes();
         scored(|number, place, value| unsafe {
             call_under!(
                 self,
-                mode,
+                codes,
                 foldrima_inner_product_estimate([query], [record], number, place, value)
             )
         })
     }
 
-    /// The score of a record against a prepared query; needs no signs and no matrix. A record
-    /// of no bytes is withdrawn, after the checks of all else.
+    /// The score of a record against a prepared query; needs no rotation and no matrix. A
+    /// record of no bytes is withdrawn, after the checks of all else.
     pub fn inner_product_estimate_prepared(
         &self,
         rotated: &[f32],
@@ -115,6 +152,7 @@ impl Setup<'_> {
                 self.dim,
                 self.bits,
                 self.projections,
+                self.kind as u8,
                 [self.directions],
                 [rotated],
                 [projected],
@@ -134,11 +172,11 @@ impl Setup<'_> {
         query: &[f32],
         record: &[u8],
     ) -> Result<Position<f32>, Refusal> {
-        let mode = self.mode as u8;
+        let codes = self.codes();
         scored(|number, place, value| unsafe {
             call_under!(
                 self,
-                mode,
+                codes,
                 foldrima_l2_distance_estimate([query], [record], number, place, value)
             )
         })
@@ -151,9 +189,13 @@ impl Setup<'_> {
         record: &[u8],
         out: &mut [f32],
     ) -> Result<Position<()>, Refusal> {
-        let mode = self.mode as u8;
+        let codes = self.codes();
         of_record(|number, place| unsafe {
-            call_under!(self, mode, foldrima_decode_approximate([record], [mut out], number, place))
+            call_under!(
+                self,
+                codes,
+                foldrima_decode_approximate([record], [mut out], number, place)
+            )
         })
     }
 }

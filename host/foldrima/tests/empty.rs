@@ -11,6 +11,8 @@ mod one_pair;
 const QUERY: [f32; 2] = [1.0, 3.0];
 const SKETCH: [i8; 3] = [1, -1, 1];
 const PROJECTED: [f32; 3] = [1.0, 3.0, 4.0];
+/// A stored rotation of one pair.
+const STORED: [f32; 4] = [0.6, 0.8, -0.8, 0.6];
 const MATRIX: [f32; 6] = [1.0, 0.0, 0.0, 1.0, 1.0, 1.0];
 /// P13: the record with signs (+, −, +).
 const SIGNED: [u8; 16] = [2, 2, 0, 0, 0, 1, 3, 0, 0, 0, 0, 0, 0x80, 0x3F, 1, 5];
@@ -48,8 +50,8 @@ macro_rules! ask {
     }};
 }
 
-/// Every call with each of its slices empty.
-fn all_empty(e: Empty) -> Vec<(&'static str, u32, usize)> {
+/// Every call with each of its slices empty, under a setup of this kind.
+fn all_empty(e: Empty, kind: u8) -> Vec<(&'static str, u32, usize)> {
     let mut list = Vec::new();
     let (mut size, mut float, mut other) = (0, 0.0, 0.0);
     let (mut mode, mut profile, mut bits, mut dim, mut projections) = (0, 0, 0, 0, 0);
@@ -66,6 +68,8 @@ fn all_empty(e: Empty) -> Vec<(&'static str, u32, usize)> {
     ask!(list, foldrima_encoded_bytes(1, e.from(), 0) => &mut size);
     ask!(list, foldrima_apply(2, e.from(), 0, e.from(), 0, e.to(), 0));
     ask!(list, foldrima_apply_inverse(2, e.from(), 0, e.from(), 0, e.to(), 0));
+    ask!(list, foldrima_stored_apply(2, e.from(), 0, e.from(), 0, e.to(), 0));
+    ask!(list, foldrima_stored_apply_inverse(2, e.from(), 0, e.from(), 0, e.to(), 0));
     ask!(list, foldrima_read_record(e.from(), 0)
         => &mut mode, &mut profile, &mut dim, &mut bits, &mut projections, &mut float, &mut other,
         &mut has_norm, &mut norm);
@@ -92,24 +96,28 @@ fn all_empty(e: Empty) -> Vec<(&'static str, u32, usize)> {
             0
         )
     );
-    let (s, d, m) = (e.from(), e.from(), e.from());
+    let (k, s, d, m) = (kind, e.from(), e.from(), e.from());
     let (q, v) = (e.from(), &mut float);
-    ask!(list, foldrima_check_setup(1, 2, 2, 3, s, 0, d, 0, m, 0));
-    ask!(list, foldrima_sketch(1, 2, 2, 3, s, 0, d, 0, m, 0, q, 0, e.to(), 0));
-    ask!(list, foldrima_sketch_score(1, 2, 2, 3, s, 0, d, 0, m, 0, q, 0, e.from(), 0, 1.0) => v);
-    ask!(list, foldrima_prepare_query(1, 2, 2, 3, s, 0, d, 0, m, 0, q, 0, e.to(), 0, e.to(), 0));
-    ask!(list, foldrima_inner_product_estimate(1, 2, 2, 3, s, 0, d, 0, m, 0, q, 0, e.from(), 0) => v);
-    ask!(list, foldrima_inner_product_estimate_prepared(1, 2, 2, 3, d, 0, q, 0, q, 0, e.from(), 0) => v);
-    ask!(list, foldrima_l2_distance_estimate(1, 2, 2, 3, s, 0, d, 0, m, 0, q, 0, e.from(), 0) => v);
-    ask!(list, foldrima_decode_approximate(1, 2, 2, 3, s, 0, d, 0, m, 0, e.from(), 0, e.to(), 0));
+    ask!(list, foldrima_check_setup(1, 2, 2, 3, k, s, 0, d, 0, m, 0));
+    ask!(list, foldrima_sketch(1, 2, 2, 3, k, s, 0, d, 0, m, 0, q, 0, e.to(), 0));
+    ask!(list, foldrima_sketch_score(1, 2, 2, 3, k, s, 0, d, 0, m, 0, q, 0, e.from(), 0, 1.0) => v);
+    ask!(list, foldrima_prepare_query(1, 2, 2, 3, k, s, 0, d, 0, m, 0, q, 0, e.to(), 0, e.to(), 0));
+    ask!(list, foldrima_inner_product_estimate(1, 2, 2, 3, k, s, 0, d, 0, m, 0, q, 0, e.from(), 0) => v);
+    ask!(list, foldrima_inner_product_estimate_prepared(1, 2, 2, 3, k, d, 0, q, 0, q, 0, e.from(), 0) => v);
+    ask!(list, foldrima_l2_distance_estimate(1, 2, 2, 3, k, s, 0, d, 0, m, 0, q, 0, e.from(), 0) => v);
+    ask!(
+        list,
+        foldrima_decode_approximate(1, 2, 2, 3, k, s, 0, d, 0, m, 0, e.from(), 0, e.to(), 0)
+    );
     list
 }
 
-/// Every call under a setup with slice `k` empty and the others as they should be: signs,
-/// directions, matrix, query (or the prepared one), record, sketch.
-fn one_empty(e: Empty, k: usize) -> Vec<(&'static str, u32, usize)> {
+/// Every call under a setup of this kind with slice `k` empty and the others as they should be:
+/// rotation, directions, matrix, query (or the prepared one), record, sketch.
+fn one_empty(e: Empty, kind: u8, k: usize) -> Vec<(&'static str, u32, usize)> {
     let floats = |i: usize, items: &[f32]| if i == k { (e.from(), 0) } else { slice(items) };
-    let (s, d, m) = (floats(0, SETUP.signs), floats(1, SETUP.directions), floats(2, &MATRIX));
+    let turn = if kind == 0 { SETUP.rotation } else { &STORED };
+    let (s, d, m) = (floats(0, turn), floats(1, SETUP.directions), floats(2, &MATRIX));
     let (q, p) = (floats(3, &QUERY), floats(2, &PROJECTED));
     let r = if k == 4 { (e.from(), 0) } else { slice(&SIGNED) };
     let t = if k == 5 { (e.from(), 0) } else { slice(&SKETCH) };
@@ -121,7 +129,7 @@ fn one_empty(e: Empty, k: usize) -> Vec<(&'static str, u32, usize)> {
     macro_rules! under {
         ($call:ident($($slice:ident),*; $($more:expr),*) $(=> $after:expr)?) => {
             ask!(list, $call(
-                1, 2, 2, 3, s.0, s.1, d.0, d.1, m.0, m.1 $(, $slice.0, $slice.1)* $(, $more)*
+                1, 2, 2, 3, kind, s.0, s.1, d.0, d.1, m.0, m.1 $(, $slice.0, $slice.1)* $(, $more)*
             ) $(=> $after)?)
         };
     }
@@ -133,7 +141,7 @@ fn one_empty(e: Empty, k: usize) -> Vec<(&'static str, u32, usize)> {
     under!(foldrima_l2_distance_estimate(q, r;) => v);
     under!(foldrima_decode_approximate(r; turned, 2));
     ask!(list, foldrima_inner_product_estimate_prepared(
-        1, 2, 2, 3, d.0, d.1, q.0, q.1, p.0, p.1, r.0, r.1
+        1, 2, 2, 3, kind, d.0, d.1, q.0, q.1, p.0, p.1, r.0, r.1
     ) => v);
     list
 }
@@ -142,7 +150,7 @@ fn one_empty(e: Empty, k: usize) -> Vec<(&'static str, u32, usize)> {
 /// another length or should be empty.
 fn last_empty(e: Empty) -> Vec<(&'static str, u32, usize)> {
     let mut list = Vec::new();
-    let (s, d, m) = (SETUP.signs.as_ptr(), SETUP.directions.as_ptr(), e.from());
+    let (s, d, m) = (SETUP.rotation.as_ptr(), SETUP.directions.as_ptr(), e.from());
     let (q, (r, size)) = (QUERY.as_ptr(), slice(&RECORD));
     let (mut rotated, mut float) = ([9.0; 2], 9.0);
     let (to, v) = (rotated.as_mut_ptr(), &mut float);
@@ -150,15 +158,20 @@ fn last_empty(e: Empty) -> Vec<(&'static str, u32, usize)> {
     ask!(list, foldrima_apply(2, s, 2, q, 2, e.to(), 0));
     ask!(list, foldrima_apply_inverse(2, s, 2, e.from(), 0, to, 2));
     ask!(list, foldrima_apply_inverse(2, s, 2, q, 2, e.to(), 0));
-    ask!(list, foldrima_sketch(0, 2, 1, 0, s, 2, d, 4, m, 0, q, 2, e.to(), 0));
-    ask!(list, foldrima_sketch_score(0, 2, 1, 0, s, 2, d, 4, m, 0, q, 2, e.from(), 0, 2.5) => v);
-    ask!(list, foldrima_prepare_query(0, 2, 1, 0, s, 2, d, 4, m, 0, q, 2, e.to(), 0, e.to(), 0));
-    ask!(list, foldrima_prepare_query(0, 2, 1, 0, s, 2, d, 4, m, 0, q, 2, to, 2, e.to(), 0));
-    ask!(list, foldrima_inner_product_estimate(0, 2, 1, 0, s, 2, d, 4, m, 0, q, 2, r, size) => v);
-    ask!(list, foldrima_l2_distance_estimate(0, 2, 1, 0, s, 2, d, 4, m, 0, q, 2, r, size) => v);
-    ask!(list, foldrima_decode_approximate(0, 2, 1, 0, s, 2, d, 4, m, 0, r, size, e.to(), 0));
+    let turn = STORED.as_ptr();
+    ask!(list, foldrima_stored_apply(2, turn, 4, e.from(), 0, to, 2));
+    ask!(list, foldrima_stored_apply(2, turn, 4, q, 2, e.to(), 0));
+    ask!(list, foldrima_stored_apply_inverse(2, turn, 4, e.from(), 0, to, 2));
+    ask!(list, foldrima_stored_apply_inverse(2, turn, 4, q, 2, e.to(), 0));
+    ask!(list, foldrima_sketch(0, 2, 1, 0, 0, s, 2, d, 4, m, 0, q, 2, e.to(), 0));
+    ask!(list, foldrima_sketch_score(0, 2, 1, 0, 0, s, 2, d, 4, m, 0, q, 2, e.from(), 0, 2.5) => v);
+    ask!(list, foldrima_prepare_query(0, 2, 1, 0, 0, s, 2, d, 4, m, 0, q, 2, e.to(), 0, e.to(), 0));
+    ask!(list, foldrima_prepare_query(0, 2, 1, 0, 0, s, 2, d, 4, m, 0, q, 2, to, 2, e.to(), 0));
+    ask!(list, foldrima_inner_product_estimate(0, 2, 1, 0, 0, s, 2, d, 4, m, 0, q, 2, r, size) => v);
+    ask!(list, foldrima_l2_distance_estimate(0, 2, 1, 0, 0, s, 2, d, 4, m, 0, q, 2, r, size) => v);
+    ask!(list, foldrima_decode_approximate(0, 2, 1, 0, 0, s, 2, d, 4, m, 0, r, size, e.to(), 0));
     ask!(list, foldrima_inner_product_estimate_prepared(
-        0, 2, 1, 0, d, 4, q, 2, e.from(), 0, r, size
+        0, 2, 1, 0, 0, d, 4, q, 2, e.from(), 0, r, size
     ) => v);
     ask!(list, foldrima_read_radii(r, size, e.to(), 0));
     ask!(list, foldrima_read_indices(r, size, e.to(), 0));
@@ -192,13 +205,15 @@ fn numbers(list: impl Fn(Empty) -> Vec<(&'static str, u32, usize)>) -> Vec<u32> 
 
 #[test]
 fn null_for_an_empty_slice() {
-    // Nothing packed or compressed is a value; a rotation or a setup misses its signs, and
-    // a record of no bytes is withdrawn.
+    // Nothing packed or compressed is a value; a rotation or a setup misses its signs or its
+    // matrix, and a record of no bytes is withdrawn.
     const GONE: u32 = raw::WITHDRAWN;
-    let all = numbers(all_empty);
-    assert_eq!(all[..10], [0; 10]);
-    assert_eq!(all[10..17], [5, 5, GONE, GONE, GONE, GONE, 5]);
-    assert_eq!(all[17..], [5; 8]);
+    for kind in [0, 1] {
+        let all = numbers(|e| all_empty(e, kind));
+        assert_eq!(all[..10], [0; 10]);
+        assert_eq!(all[10..19], [5, 5, 5, 5, GONE, GONE, GONE, GONE, 5]);
+        assert_eq!(all[19..], [5; 8]);
+    }
     let wanted = [
         [5, 5, 5, 5, 5, 5, 5, 0],
         [5, 5, 5, 5, 5, 5, 5, 5],
@@ -208,9 +223,11 @@ fn null_for_an_empty_slice() {
         [0, 0, 5, 0, 0, 0, 0, 0],
     ];
     for (k, wanted) in wanted.iter().enumerate() {
-        assert_eq!(numbers(|e| one_empty(e, k)), wanted, "slice {k}");
+        for kind in [0, 1] {
+            assert_eq!(numbers(|e| one_empty(e, kind, k)), wanted, "kind {kind}, slice {k}");
+        }
     }
-    let wanted = [5, 6, 5, 6, 0, 0, 6, 0, 0, 0, 6, 0, 6, 6, 0, 5, 5, 6, 6, 6, 6, 6, 6];
+    let wanted = [5, 6, 5, 6, 5, 6, 5, 6, 0, 0, 6, 0, 0, 0, 6, 0, 6, 6, 0, 5, 5, 6, 6, 6, 6, 6, 6];
     assert_eq!(numbers(last_empty), wanted);
 }
 

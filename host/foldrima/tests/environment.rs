@@ -80,7 +80,7 @@ fn the_library_alone_answers_zero() {
             let (number, place, value) = (&mut number, &mut place, &mut value);
             call_under!(
                 SETUP,
-                0,
+                (0, 0),
                 foldrima_inner_product_estimate([QUERY], [RECORD], number, place, value)
             );
         }

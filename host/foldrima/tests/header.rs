@@ -1,10 +1,10 @@
 //! The declarations of `raw.rs`, of the C header and of the port's sources are the same,
-//! and so are the numbers of refusals, of a withdrawn position, of modes and profiles, as
-//! far as header and sources stand beside this folder.
+//! and so are the numbers of refusals, of a withdrawn position, of modes, kinds and profiles,
+//! as far as header and sources stand beside this folder.
 
 use std::{collections::BTreeMap, fs, path::Path};
 
-use foldrima::raw;
+use foldrima::{raw, RotationKind};
 
 /// The types of a function's parameters, and of what it returns.
 type Signatures = BTreeMap<String, (Vec<String>, String)>;
@@ -164,6 +164,11 @@ fn the_numbers_are_the_same() {
         let cases = numbers(&codes, before, " => ");
         assert_eq!(cases.len(), count, "{before}");
         wanted.extend(cases.into_iter().map(|(name, number)| (capitals(&name), number)));
+    }
+    // No call answers with a kind: the sources only read it.
+    assert!(codes.contains("if code == 0 {\n        return RotationKind::FastHadamard;\n    }\n"));
+    for kind in [RotationKind::FastHadamard, RotationKind::Stored] {
+        wanted.insert(capitals(&format!("{kind:?}")), kind as u32);
     }
     assert_eq!(numbers(&header, "#define FOLDRIMA_", " "), wanted);
 }

@@ -15,7 +15,7 @@ fn needs<T: PartialEq + std::fmt::Debug>(answer: Result<T, Refusal>, needed: usi
 
 #[test]
 fn of_a_record() {
-    for dim in [2, 4, 8, 64] {
+    for dim in [2, 4, 6, 8, 64, 90] {
         for bits in [1, 3, 8, 15] {
             for projections in [1, 8, 9] {
                 for (profile, fixed, radii) in
@@ -57,6 +57,8 @@ fn of_every_other_output() {
     needs(foldrima::unpack_signs(&[0; 2], 9, &mut []), 9);
     needs(foldrima::apply(2, &[1.0; 2], &[1.0; 2], &mut []), 2);
     needs(foldrima::apply_inverse(2, &[1.0; 2], &[1.0; 2], &mut []), 2);
+    needs(foldrima::stored_apply(6, &[1.0; 36], &[1.0; 6], &mut []), 6);
+    needs(foldrima::stored_apply_inverse(6, &[1.0; 36], &[1.0; 6], &mut []), 6);
     needs(foldrima::compress(&[1.0; 3], Profile::F32, &mut []), 12);
     needs(foldrima::compress(&[1.0; 3], Profile::BlockLinearU16, &mut []), 6);
     let range = Range { min: 0.0, max: 1.0 };

@@ -317,7 +317,7 @@ fn in_a_sketch_score() {
     let (mut number, mut place, mut value) = (99, 99, 7.5);
     unsafe {
         let (n, p, v) = (&mut number, &mut place, &mut value);
-        call_under!(BOTH, 1, foldrima_sketch_score([QUERY], [SKETCH], -1.0, n, p, v))
+        call_under!(BOTH, (1, 0), foldrima_sketch_score([QUERY], [SKETCH], -1.0, n, p, v))
     };
     assert_eq!((number, place, value), (23, 0, 7.5));
 }

@@ -1,6 +1,9 @@
-//! The example of the README.
+//! The examples of the two README files.
 
-use foldrima::{Position, Refusal, Setup, TurboMode};
+use foldrima::{
+    record_size, write_record, Position, RadiusCodecProfileV1::F32, Refusal, RotationKind, Setup,
+    TurboMode,
+};
 use one_pair::{RECORD, SETUP};
 
 mod one_pair;
@@ -17,12 +20,39 @@ fn scores(setup: &Setup, query: &[f32], records: &[&[u8]]) -> Result<Vec<Positio
     records.iter().map(score).collect()
 }
 
-#[test]
-fn it_stands_there() {
-    let (from, own) = ("fn scores(", include_str!("readme.rs"));
+fn board(query: &[f32]) -> Result<Position<f32>, Refusal> {
+    // Any matrix is lent, column by column, usually an orthogonal one: here feature j goes to j + 1.
+    let mut rotation = vec![0.0; 90 * 90];
+    (0..90).for_each(|j| rotation[90 * j + (j + 1) % 90] = 1.0);
+    let (mode, kind) = (TurboMode::PolarOnly, RotationKind::Stored);
+    let (rotation, directions, matrix) = (&rotation, &[-1.0, 0.0, 1.0, 0.0], &[]);
+    let (dim, bits, projections) = (90, 1, 0);
+    let setup = Setup { mode, dim, bits, projections, kind, rotation, directions, matrix };
+    let mut record = vec![0; record_size(F32, dim, bits, mode, projections, None)?];
+    write_record(F32, dim, bits, mode, 0, None, &[0.5; 45], &[1; 45], &[], &mut record)?;
+    setup.inner_product_estimate(query, &record)
+}
+
+/// A function of this file, as it stands here.
+fn own(from: &str) -> &'static str {
+    let own = include_str!("readme.rs");
     let start = own.find(from).unwrap();
-    let end = start + own[start..].find("\n}\n").unwrap() + 3;
-    assert!(include_str!("../../README.md").contains(&own[start..end]));
+    &own[start..start + own[start..].find("\n}\n").unwrap() + 3]
+}
+
+#[test]
+fn they_stand_there() {
+    assert!(include_str!("../../README.md").contains(own("fn scores(")));
+    let indented: String = own("fn board(").lines().map(|line| format!("    {line}\n")).collect();
+    assert!(include_str!("../../../README.md").contains(&indented));
+}
+
+#[test]
+fn a_board_of_90_features() {
+    // Every index stands for (1, 0), so that every second feature counts: 1, 3 and so on to 89.
+    let query: Vec<f32> = (0..90).map(|i| i as f32).collect();
+    assert_eq!(board(&query), Ok(Position::Kept(0.5 * 45.0 * 45.0)));
+    assert_eq!(board(&query[..64]), Err(Refusal { number: 5, place: 64 }));
 }
 
 #[test]

@@ -1,9 +1,9 @@
 //! A refusal of each kind, with its place; outputs stay as they were. Those of norms are in
-//! `norms`.
+//! `norms`, and those of stored rotations in `boards`.
 
 use foldrima::{
-    refusal, Position, RadiusCodecProfileV1 as Profile, Range, Refusal, ScalarCodebook, Setup,
-    TurboMode as Mode,
+    refusal, Position, RadiusCodecProfileV1 as Profile, Range, Refusal, RotationKind,
+    ScalarCodebook, Setup, TurboMode as Mode,
 };
 use one_pair::RECORD;
 
@@ -18,12 +18,13 @@ const SETUP: Setup = Setup {
     dim: 2,
     bits: 2,
     projections: 3,
-    signs: &[1.0, -1.0],
+    kind: RotationKind::FastHadamard,
+    rotation: &[1.0, -1.0],
     directions: &[-1.0, 0.0, 1.0, 0.0],
     matrix: &[1.0, 0.0, 0.0, 1.0, 1.0, 1.0],
 };
 
-const ONLY: Setup = Setup { signs: &[1.0, -1.0], ..one_pair::SETUP };
+const ONLY: Setup = Setup { rotation: &[1.0, -1.0], ..one_pair::SETUP };
 
 #[test]
 fn by_whoever_sets_up() {
@@ -34,7 +35,7 @@ fn by_whoever_sets_up() {
     assert_eq!(Setup { dim: 3, ..SETUP }.check(), refused(3, 3));
     assert_eq!(Setup { dim: 6, ..SETUP }.check(), refused(4, 6));
     assert_eq!(Setup { dim: 8192, ..SETUP }.check(), refused(4, 8192));
-    assert_eq!(Setup { signs: &[1.0], ..SETUP }.check(), refused(5, 1));
+    assert_eq!(Setup { rotation: &[1.0], ..SETUP }.check(), refused(5, 1));
     assert_eq!(Setup { directions: &[1.0; 3], ..SETUP }.check(), refused(5, 3));
     assert_eq!(Setup { matrix: &[1.0; 7], ..SETUP }.check(), refused(5, 7));
     let table = [-1.0, 0.0, 1.0, 1.5];
@@ -43,7 +44,7 @@ fn by_whoever_sets_up() {
     assert_eq!(Setup { projections: 4097, ..SETUP }.check(), refused(8, 4097));
     let matrix = [1.0, 0.0, f32::NAN, 1.0, f32::INFINITY, 1.0];
     assert_eq!(Setup { matrix: &matrix, ..SETUP }.check(), refused(9, 2));
-    assert_eq!(Setup { signs: &[1.0, 0.5], ..SETUP }.check(), refused(10, 1));
+    assert_eq!(Setup { rotation: &[1.0, 0.5], ..SETUP }.check(), refused(10, 1));
     let mut out = [0xA5];
     assert_eq!(foldrima::pack_signs(&[1, -1, 0], &mut out), refused(10, 2));
     assert_eq!(foldrima::packed_len(usize::MAX / 2, 3), refused(19, 0));
@@ -90,7 +91,7 @@ fn by_the_author_of_a_query() {
     assert_eq!(bad, refused(11, 1));
     let turned = SETUP.prepare_query(&[largest, largest], &mut rotated, &mut projected);
     assert_eq!(turned, refused(11, 1));
-    let plus = Setup { signs: &[1.0, 1.0], matrix: &[2.0, 0.0, 0.0, 1.0, 1.0, 1.0], ..SETUP };
+    let plus = Setup { rotation: &[1.0, 1.0], matrix: &[2.0, 0.0, 0.0, 1.0, 1.0, 1.0], ..SETUP };
     let summed = plus.prepare_query(&[0.75 * largest, 0.0], &mut rotated, &mut projected);
     assert_eq!(summed, refused(11, 0));
     assert_eq!((rotated, projected), ([7.5; 2], [7.5; 3]));
@@ -100,7 +101,7 @@ fn by_the_author_of_a_query() {
     let mut wide = RECORD;
     wide[6..10].copy_from_slice(&largest.to_le_bytes());
     let query = [largest / 2.0, largest / 4.0];
-    let plus = Setup { signs: &[1.0, 1.0], ..ONLY };
+    let plus = Setup { rotation: &[1.0, 1.0], ..ONLY };
     assert_eq!(plus.inner_product_estimate(&query, &wide), refused(12, 0));
     assert_eq!(plus.l2_distance_estimate(&[1.0e30, 0.0], &RECORD), refused(12, 0));
     assert_eq!(plus.inner_product_estimate_prepared(&query, &[], &wide), refused(12, 0));
@@ -129,7 +130,7 @@ fn by_a_distance_whose_sum_overflows() {
     assert_eq!(setup.l2_distance_estimate(&query, &own), refused(12, 0));
     // Beside finite norms a score of plus infinity would give a sum that is cut to zero.
     let matrix = [2f32.powi(100), 0.0];
-    let row = Setup { projections: 1, signs: &[1.0, 1.0], matrix: &matrix, ..SETUP };
+    let row = Setup { projections: 1, rotation: &[1.0, 1.0], matrix: &matrix, ..SETUP };
     let signed = [2, 2, 0, 0, 0, 1, 1, 0, 0, 0, 0, 0, 0x80, 0x3F, 1, 1];
     let query = [1.75 * 2f32.powi(27), 0.0];
     assert_eq!(row.inner_product_estimate(&query, &signed), refused(12, 0));
@@ -174,7 +175,7 @@ fn by_the_writer_of_a_code() {
 #[test]
 fn in_words() {
     let said = |number, place| Refusal { number, place }.to_string();
-    for ((name, number), wanted) in refusal::NAMES.into_iter().zip((1..=20).chain([23])) {
+    for ((name, number), wanted) in refusal::NAMES.into_iter().zip((1..=20).chain([23, 26])) {
         assert_eq!(number, wanted, "{name}");
         assert!(said(number, 0).starts_with(&format!("refused ({number}): ")), "{name}");
     }
@@ -183,6 +184,7 @@ fn in_words() {
     assert_eq!(said(refusal::ZERO_DIMENSION, 0), "refused (2): dimension 0");
     assert_eq!(said(21, 5), "refused with the unknown number 21 at 5");
     assert_eq!(said(23, 0), "refused (23): a norm is not finite or below zero");
+    assert_eq!(said(26, 0), "refused (26): a stored rotation's dimension is above 512");
 }
 
 /// The radii of an accepted linear record, as read, have a range that starts higher; within

@@ -86,7 +86,7 @@ fn after_the_checks_of_a_setup() {
     // What a prepared score is not lent can't refuse it.
     let matrix = [1.0, 0.0, f32::NAN, 1.0, 1.0, 1.0];
     for (setup, refused) in [
-        (Setup { signs: &[1.0, 0.5], ..BOTH }, refused(10, 1)),
+        (Setup { rotation: &[1.0, 0.5], ..BOTH }, refused(10, 1)),
         (Setup { matrix: &matrix, ..BOTH }, refused(9, 2)),
     ] {
         assert_eq!(without_value(setup.inner_product_estimate(&QUERY, &[])), refused);
@@ -135,10 +135,18 @@ fn a_score_keeps_what_its_value_held() {
         let Setup { dim, bits, projections, directions, .. } = setup;
         let to: *mut f32 = &mut value;
         withdrawn(|n, p| unsafe {
-            call_under!(setup, mode, foldrima_inner_product_estimate([QUERY], null(), 0, n, p, to))
+            call_under!(
+                setup,
+                (mode, 0),
+                foldrima_inner_product_estimate([QUERY], null(), 0, n, p, to)
+            )
         });
         withdrawn(|n, p| unsafe {
-            call_under!(setup, mode, foldrima_l2_distance_estimate([QUERY], null(), 0, n, p, to))
+            call_under!(
+                setup,
+                (mode, 0),
+                foldrima_l2_distance_estimate([QUERY], null(), 0, n, p, to)
+            )
         });
         withdrawn(|n, p| unsafe {
             call!(foldrima_inner_product_estimate_prepared(
@@ -146,6 +154,7 @@ fn a_score_keeps_what_its_value_held() {
                 dim,
                 bits,
                 projections,
+                0,
                 [directions],
                 [QUERY],
                 [projected],
@@ -189,7 +198,7 @@ fn a_reading_keeps_what_its_header_held() {
 fn an_output_keeps_what_it_held() {
     let (mut floats, mut indices, mut signs) = ([7.5; 2], [9; 2], [9; 2]);
     withdrawn(|n, p| unsafe {
-        call_under!(SETUP, 0, foldrima_decode_approximate(null(), 0, [mut floats], n, p))
+        call_under!(SETUP, (0, 0), foldrima_decode_approximate(null(), 0, [mut floats], n, p))
     });
     withdrawn(|n, p| unsafe { call!(foldrima_read_radii(null(), 0, [mut floats], n, p)) });
     withdrawn(|n, p| unsafe { call!(foldrima_read_indices(null(), 0, [mut indices], n, p)) });
@@ -200,7 +209,7 @@ fn an_output_keeps_what_it_held() {
 #[test]
 fn no_refusal_has_its_number() {
     assert_eq!(raw::WITHDRAWN, 255);
-    assert_eq!(refusal::NAMES.len(), 21);
+    assert_eq!(refusal::NAMES.len(), 22);
     for (name, number) in refusal::NAMES {
         assert!(number != 0 && number != raw::WITHDRAWN, "{name}");
     }

@@ -1,7 +1,8 @@
 //! The nine Rust files of turbo-quant, compiled unchanged from docs/src, as the side
 //! that the port is held against. `thin` is ours: it calls them and names the error.
 //! profile.rs, wire.rs, lib.rs, schemars and nalgebra are stand-ins that only let this
-//! compile; no answer of theirs is compared. The nine are kept from rustfmt, since they
+//! compile; no answer of theirs is compared, but that nalgebra's holds a matrix column by
+//! column and hands out its rows and columns. The nine are kept from rustfmt, since they
 //! must stay as they were published.
 
 #[rustfmt::skip]

@@ -14,7 +14,7 @@ use crate::{
     polar::{PolarCode, PolarProjectedQuery, PolarQuantizer},
     qjl::{QjlProjectedQuery, QjlQuantizer, QjlSketch, QjlSketchProvenanceV1},
     radius::{CompressedRadiiV1, RadiusCodecProfileV1},
-    rotation::{FastHadamardRotation, Rotation},
+    rotation::{FastHadamardRotation, Rotation, RotationKind, StoredRotation},
     turbo::{TurboCode, TurboMode, TurboProjectedQuery, TurboQuantizer},
 };
 
@@ -150,13 +150,13 @@ pub fn rotation(dim: usize, signs: &[f32]) -> Answer<FastHadamardRotation> {
     Ok(serde_json::from_value(form).unwrap())
 }
 
-pub fn apply(rotation: &FastHadamardRotation, input: &[f32]) -> Answer<Vec<f32>> {
+pub fn apply(rotation: &impl Rotation, input: &[f32]) -> Answer<Vec<f32>> {
     let mut output = vec![0.0; rotation.dim()];
     named(rotation.apply(input, &mut output))?;
     Ok(output)
 }
 
-pub fn apply_inverse(rotation: &FastHadamardRotation, input: &[f32]) -> Answer<Vec<f32>> {
+pub fn apply_inverse(rotation: &impl Rotation, input: &[f32]) -> Answer<Vec<f32>> {
     let mut output = vec![0.0; rotation.dim()];
     named(rotation.apply_inverse(input, &mut output))?;
     Ok(output)
@@ -166,6 +166,24 @@ pub fn apply_inverse(rotation: &FastHadamardRotation, input: &[f32]) -> Answer<V
 pub fn drawn_signs(dim: usize, seed: u64) -> Answer<Vec<f32>> {
     let drawn = named(FastHadamardRotation::new(dim, seed))?;
     Ok(floats(&serde_json::to_value(drawn).unwrap()["signs"]))
+}
+
+// The stored rotation with a given matrix, through the serialised form.
+
+/// A stored rotation with this matrix, column by column, dim × dim finite entries. The Rust
+/// takes an odd dimension here too.
+pub fn stored_rotation(dim: usize, matrix: &[f32]) -> Answer<StoredRotation> {
+    let drawn = named(StoredRotation::new(dim.min(1), 0))?;
+    let mut form = serde_json::to_value(drawn).unwrap();
+    form["dim"] = json!(dim);
+    form["matrix"] = stored_matrix(dim, matrix);
+    Ok(serde_json::from_value(form).unwrap())
+}
+
+/// The matrix as rotation.rs has it in its serialised form: `as_slice` goes into `data` and
+/// `from_vec` reads it, both column by column, whatever the comment on the field says.
+fn stored_matrix(dim: usize, matrix: &[f32]) -> Value {
+    json!({ "rows": dim, "cols": dim, "data": matrix })
 }
 
 // Sketches with a given matrix, through the serialised form.
@@ -259,6 +277,19 @@ pub fn turbo(
     named(TurboQuantizer::new_with_mode(dim, bits, projections, seed, mode))
 }
 
+/// The same with a rotation of this kind. The matrix of a stored one, which is a stand-in's,
+/// is there to be replaced.
+pub fn turbo_by(
+    kind: RotationKind,
+    mode: TurboMode,
+    dim: usize,
+    bits: u8,
+    projections: usize,
+    seed: u64,
+) -> Answer<TurboQuantizer> {
+    named(TurboQuantizer::new_with_mode_and_rotation(dim, bits, projections, seed, mode, kind))
+}
+
 /// The quantizer's signs, from its own serialised form; none where it rotates by QR.
 pub fn turbo_signs(turbo: &TurboQuantizer) -> Option<Vec<f32>> {
     let form = serde_json::to_value(turbo).unwrap();
@@ -268,17 +299,29 @@ pub fn turbo_signs(turbo: &TurboQuantizer) -> Option<Vec<f32>> {
     }
 }
 
+/// The matrix of the quantizer's stored rotation, column by column, from its own serialised
+/// form; empty where it rotates by signs.
+pub fn turbo_stored_matrix(turbo: &TurboQuantizer) -> Vec<f32> {
+    let form = serde_json::to_value(turbo).unwrap();
+    floats(&form["polar"]["rotation"]["StoredQr"]["matrix"]["data"])
+}
+
 /// The quantizer's matrix, from its own serialised form; empty in `PolarOnly`.
 pub fn turbo_matrix(turbo: &TurboQuantizer) -> Vec<f32> {
     floats(&serde_json::to_value(turbo).unwrap()["qjl"]["projection_matrix"])
 }
 
-/// The same quantizer with other signs and, in residual mode, another matrix: it is
-/// serialised, changed and read back. Entries must be finite; JSON has no others.
-pub fn turbo_with(turbo: &TurboQuantizer, signs: &[f32], matrix: &[f32]) -> TurboQuantizer {
+/// The same quantizer with other signs, or another matrix of its stored rotation, and, in
+/// residual mode, another matrix: it is serialised, changed and read back. Entries must be
+/// finite; JSON has no others.
+pub fn turbo_with(turbo: &TurboQuantizer, rotation: &[f32], matrix: &[f32]) -> TurboQuantizer {
     let mut form = serde_json::to_value(turbo).unwrap();
-    if !form["polar"]["rotation"]["FastHadamard"].is_null() {
-        form["polar"]["rotation"]["FastHadamard"]["signs"] = json!(signs);
+    let turn = &mut form["polar"]["rotation"];
+    if !turn["FastHadamard"].is_null() {
+        turn["FastHadamard"]["signs"] = json!(rotation);
+    }
+    if !turn["StoredQr"].is_null() {
+        turn["StoredQr"]["matrix"] = stored_matrix(turbo.dim(), rotation);
     }
     if !form["qjl"].is_null() {
         form["qjl"]["projection_matrix"] = json!(matrix);
@@ -354,7 +397,7 @@ fn sum_with(ip: f32, code: &TurboCode, query: &[f32]) -> f32 {
 // put together here as its `inner_product_estimate_prepared` does it: the Rust's polar estimate,
 // document 02's reference for the residual, and one sum of the two.
 
-/// The two halves of a quantizer in residual mode, with its own signs and matrix.
+/// The two halves of a quantizer in residual mode, with its own rotation and matrix.
 pub struct Halves {
     pub polar: PolarQuantizer,
     pub qjl: QjlQuantizer,

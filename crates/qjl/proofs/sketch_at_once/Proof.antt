@@ -6,7 +6,8 @@ use Rattle.error.specs.Outcomes.{says}
 use Rattle.setup.specs.Lent.{lent}
 use Rattle.setup_tables.specs.Checks.{setupChecksButEntries}
 use Rattle.qjl.proofs.Answers.{shaped-ready, shaped-value}
-use Rattle.qjl.proofs.AtOnce.{at-once-left, at-once-signs}
+use Rattle.error.proofs.AtOnce.{at-once-left}
+use Rattle.qjl.proofs.AtOnce.{at-once-signs}
 use Rattle.qjl.proofs.sketch_at_once.Statement.{statement}
 use Rattle.qjl.proofs.sketch_at_once.Tie as tie
 

@@ -1,60 +1,31 @@
--- `rotation_stored::apply` answers `storedApplyOf`: after the checks it sums along the rows into the output, and a refusal leaves the output as it was.
--- Assumes nothing.
-use Prim.Native.Nat.{ℕ, _*_}
+-- `rotation_stored::apply` meets its contract: the sums are written at once, or the output is as it was and they are made check by check. Assumes nothing.
+use mathlib.Core.Path.{refl}
 use borrow.Author.Needs.{needs}
-use mathlib.Core.Path.{_≡_, sym, ap, _∙_}
-use lib.ListN.{length}
-use Rattle.error.specs.Answer.{first, accepted}
-use Rattle.error.specs.Outcomes.{says}
-use Rattle.error.proofs.Answers.{both-refused, both-value}
-use Rattle.rotation_stored.specs.Checks.{storedChecks}
-use Rattle.rotation_stored.specs.Stored.{storedRotated}
-use Rattle.rotation_stored.proofs.Accepted.{Storable, storable, stored-refused, stored-value}
+use Rattle.error.proofs.Answers.{both-value}
+use Rattle.rotation_stored.specs.Stored.{storedApplyOf}
+use Rattle.rotation_stored.proofs.AtOnce.{applied-again}
 use Rattle.rotation_stored.proofs.apply.Statement.{statement}
 use Rattle.rotation_stored.proofs.apply.Tie as tie
 
-check-requires : tie.Need-check-requires
-check-requires c κs = search needs
-
-enum-known-checked : tie.Need-enum-known-checked
-enum-known-checked c = search needs
-
--- what the check leaves, where it is done
-passed : (c : tie.After-enum-told) → first (storedChecks (c .before .before .before .before .before .before .args .dim) (c .before .before .before .before .before .before .args .matrix .now) (length (c .before .before .before .before .before .before .args .input .now)) (length (c .before .before .before .before .before .before .args .output .now))) accepted ≡ accepted
-passed c = sym (c .before .before .check .ensures) ∙ ap says (c .enum-told .given .1)
-
-fit : (c : tie.After-enum-told) → Storable (c .before .before .before .before .before .before .args .dim) (c .before .before .before .before .before .before .args .matrix .now) (length (c .before .before .before .before .before .before .args .input .now)) (length (c .before .before .before .before .before .before .args .output .now))
-fit c = storable _ _ _ _ (passed c)
-
-returns : tie.Need-returns
-returns c = both-refused _ _ (stored-refused _ _ _ _ (sym (c .before .before .before .check .ensures) ∙ ap says (c .before .checked .given .1)))
-
-enum-told : tie.Need-enum-told
-enum-told c = search needs
-
-sum-rows-requires : tie.Need-sum-rows-requires
-sum-rows-requires c κs =
-    let f = fit (c .before) in
-    let e = sym (f .input-long) in
-    (f .matrix-long ∙ ap (λ (n : ℕ). n * n) e, f .output-long ∙ e)
+apply-at-once-requires : tie.Need-apply-at-once-requires
+apply-at-once-requires c κs = search needs
 
 same-length : tie.Need-same-length
 same-length c = search needs
 
+returns : tie.Need-returns
+returns c = both-value _ _ _ (c .before .before .before .apply-at-once .ensures .made (c .if1 .taken)) refl
+
+apply-checked-requires : tie.Need-apply-checked-requires
+apply-checked-requires c κs = search needs
+
+same-length-2 : tie.Need-same-length-2
+same-length-2 c = search needs
+
 returns-2 : tie.Need-returns-2
 returns-2 c =
-    let told = c .before .before .before .before in
-    let a = told .before .before .before .before .before .before .args in
-    both-value _ _ _ (stored-value _ _ _ _ (passed told)) (c .before .before .sum-rows .ensures ∙ ap (λ (n : ℕ). storedRotated n (a .matrix .now) (a .input .now)) (fit told .input-long))
+    let a = c .before .before .before .before .before .before .before .before .before .before .before .before .args in
+    applied-again (storedApplyOf (a .dim) (a .matrix .now) (a .input .now)) _ _ (c .before .before .before .before .before .before .before .apply-at-once .ensures .kept (c .before .before .before .before .if1 .left)) (c .before .before .apply-checked .ensures)
 
 pub apply-spec : {M : Type 1} → statement M
-apply-spec =
-    tie.close
-    (tie.spec
-    check-requires
-    enum-known-checked
-    returns
-    enum-told
-    sum-rows-requires
-    same-length
-    returns-2)
+apply-spec = tie.close (tie.spec apply-at-once-requires same-length returns apply-checked-requires same-length-2 returns-2)

@@ -1,54 +1,31 @@
--- `rotation_stored::apply_inverse` answers `storedApplyInverseOf`: after the checks it projects on the columns, and a refusal leaves the output as it was.
--- Assumes nothing.
+-- `rotation_stored::apply_inverse` meets its contract: the sums are written at once, or the output is as it was and they are made check by check. Assumes nothing.
+use mathlib.Core.Path.{refl}
 use borrow.Author.Needs.{needs}
-use mathlib.Core.Path.{_≡_, sym, ap, _∙_}
-use lib.ListN.{length}
-use Rattle.error.specs.Answer.{first, accepted}
-use Rattle.error.specs.Outcomes.{says}
-use Rattle.error.proofs.Answers.{both-refused}
-use Rattle.rotation_stored.specs.Checks.{storedChecks}
-use Rattle.rotation_stored.proofs.Accepted.{stored-inverse-refused, stored-inverse-projects}
+use Rattle.error.proofs.Answers.{both-value}
+use Rattle.rotation_stored.specs.Stored.{storedApplyInverseOf}
+use Rattle.rotation_stored.proofs.AtOnce.{applied-again}
 use Rattle.rotation_stored.proofs.apply_inverse.Statement.{statement}
 use Rattle.rotation_stored.proofs.apply_inverse.Tie as tie
 
-check-requires : tie.Need-check-requires
-check-requires c κs = search needs
-
-enum-known-checked : tie.Need-enum-known-checked
-enum-known-checked c = search needs
-
--- what the check leaves, where it is done
-passed : (c : tie.After-enum-told) → first (storedChecks (c .before .before .before .before .before .before .args .dim) (c .before .before .before .before .before .before .args .matrix .now) (length (c .before .before .before .before .before .before .args .input .now)) (length (c .before .before .before .before .before .before .args .output .now))) accepted ≡ accepted
-passed c = sym (c .before .before .check .ensures) ∙ ap says (c .enum-told .given .1)
-
-returns : tie.Need-returns
-returns c = both-refused _ _ (stored-inverse-refused _ _ _ _ (sym (c .before .before .before .check .ensures) ∙ ap says (c .before .checked .given .1)))
-
-enum-told : tie.Need-enum-told
-enum-told c = search needs
-
-project-requires : tie.Need-project-requires
-project-requires c κs = search needs
+inverse-at-once-requires : tie.Need-inverse-at-once-requires
+inverse-at-once-requires c κs = search needs
 
 same-length : tie.Need-same-length
 same-length c = search needs
 
+returns : tie.Need-returns
+returns c = both-value _ _ _ (c .before .before .before .inverse-at-once .ensures .made (c .if1 .taken)) refl
+
+inverse-checked-requires : tie.Need-inverse-checked-requires
+inverse-checked-requires c κs = search needs
+
+same-length-2 : tie.Need-same-length-2
+same-length-2 c = search needs
+
 returns-2 : tie.Need-returns-2
 returns-2 c =
-    let called = c .before .before .project .ensures in
-    let told = c .before .before .before .before in
-    let a = told .before .before .before .before .before .before .args in
-    let same = stored-inverse-projects (a .dim) (a .matrix .now) (a .input .now) (length (a .output .now)) (passed told) in
-    rw same at called
+    let a = c .before .before .before .before .before .before .before .before .before .before .before .before .args in
+    applied-again (storedApplyInverseOf (a .dim) (a .matrix .now) (a .input .now)) _ _ (c .before .before .before .before .before .before .before .inverse-at-once .ensures .kept (c .before .before .before .before .if1 .left)) (c .before .before .inverse-checked .ensures)
 
 pub apply-inverse-spec : {M : Type 1} → statement M
-apply-inverse-spec =
-    tie.close
-    (tie.spec
-    check-requires
-    enum-known-checked
-    returns
-    enum-told
-    project-requires
-    same-length
-    returns-2)
+apply-inverse-spec = tie.close (tie.spec inverse-at-once-requires same-length returns inverse-checked-requires same-length-2 returns-2)

@@ -8,7 +8,7 @@ use Rattle.error.specs.Outcomes.{says}
 use Rattle.setup.specs.Lent.{lent}
 use Rattle.setup_tables.specs.Checks.{setupChecksButEntries}
 use Rattle.rounding.specs.Rows.{projected}
-use Rattle.qjl.proofs.AtOnce.{at-once-left}
+use Rattle.error.proofs.AtOnce.{at-once-left}
 use Rattle.turbo_query.proofs.Answers.{handed-same, shaped-rows, prepare-made, prepare-left}
 use Rattle.turbo_query.proofs.prepare_at_once.Statement.{statement}
 use Rattle.turbo_query.proofs.prepare_at_once.Tie as tie

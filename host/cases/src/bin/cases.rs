@@ -4,6 +4,7 @@ use std::collections::BTreeMap;
 
 use cases::{
     ask::{ask, hush},
+    boards,
     case::{same, Answer, Case, Profile, Value, CALLS},
     expect::{distance_sum, expected, sum_name, Expected},
     make::{Maker, Size},
@@ -12,18 +13,18 @@ use cases::{
     plain,
 };
 
-/// From so many cases of each call on, every class of norms must have come up.
+/// From so many cases of each call on, every class of norms and of boards must have come up.
 const ENOUGH: usize = 4000;
 
 /// Longer lines are not worth writing down.
-const LONGEST: usize = 700;
+const LONGEST: usize = 1200;
 
 const HELP: &str = "\
 cases COMMAND [--seed N] [--count N] [--call NAME]
 
   run      puts cases to the Rust and holds its answers against document 01's refusals
-           and document 02's withdrawn positions and norms
-  largest  the same at the limits of a setup, 4,096 x 4,096
+           and document 02's withdrawn positions, norms and stored rotations
+  largest  the same at the limits of a setup, 4,096 x 4,096, and 512 x 4,096 stored
   list     prints small cases with the answer that is expected
   replay   prints a few of them for each kind of answer
   differ   holds the port against what is expected; ends with 1 where one differs
@@ -206,6 +207,50 @@ impl Norms {
     }
 }
 
+/// How many cases of each class of `boards` there were, by call.
+#[derive(Default)]
+struct Boards(BTreeMap<&'static str, BTreeMap<&'static str, usize>>);
+
+impl Boards {
+    fn count(&mut self, case: &Case, wanted: &Expected) {
+        let found = boards::stored(case, wanted).into_iter().chain(boards::record(case, wanted));
+        for class in found {
+            *self.0.entry(case.call()).or_default().entry(class).or_default() += 1;
+        }
+    }
+
+    fn of(&self, call: &str, class: &str) -> usize {
+        self.0.get(call).and_then(|met| met.get(class)).copied().unwrap_or(0)
+    }
+
+    fn print(&self) {
+        for call in boards::calls().into_iter().filter(|call| self.0.contains_key(call)) {
+            let classes = boards::classes_of(call);
+            let told: Vec<String> =
+                classes.iter().map(|class| format!("{} {class}", self.of(call, class))).collect();
+            let stored: usize = boards::STORED.iter().map(|class| self.of(call, class)).sum();
+            println!("boards, {call}: {stored} stored: {}", told.join(", "));
+        }
+    }
+
+    /// Ends with 1 where a class has no case among enough of all calls.
+    fn complete(&self, options: &Options) {
+        if options.call.is_some() || options.count < ENOUGH {
+            return;
+        }
+        let missing: Vec<String> = boards::calls()
+            .into_iter()
+            .flat_map(|call| boards::classes_of(call).into_iter().map(move |class| (call, class)))
+            .filter(|(call, class)| self.of(call, class) == 0)
+            .map(|(call, class)| format!("{call}: {class}"))
+            .collect();
+        if !missing.is_empty() {
+            println!("no case of a board: {}", missing.join("; "));
+            std::process::exit(1);
+        }
+    }
+}
+
 fn main() {
     if std::env::args().skip(1).any(|word| word == "--help") {
         print!("{HELP}\ncalls: {}\n", CALLS.join(", "));
@@ -243,6 +288,7 @@ struct Ran {
     sums: Sums,
     empty: Empty,
     norms: Norms,
+    boards: Boards,
 }
 
 impl Ran {
@@ -255,6 +301,7 @@ impl Ran {
         self.sums.count(case, &wanted);
         self.empty.count(case, &wanted);
         self.norms.count(case, &wanted);
+        self.boards.count(case, &wanted);
         if let Some(differs) = plain_differs(case, &answer, end) {
             self.apart += differs as usize;
             self.held += 1;
@@ -303,13 +350,15 @@ fn run(options: &Options, calls: &[usize]) {
     ran.sums.print();
     ran.empty.print();
     ran.norms.print();
+    ran.boards.print();
     println!("{} cases, {} round trips broken", ran.total, ran.broken);
     println!("{} cases have nothing to be held against", ran.open);
     println!("plain sums held against the Rust {} times, {} differ", ran.held, ran.apart);
     ran.norms.complete(options);
+    ran.boards.complete(options);
 }
 
-/// One case of each call that takes a setup, at its limits; one gigabyte of memory.
+/// One case of each call that takes a setup, at the limits of both kinds; one gigabyte of memory.
 fn largest(options: &Options) {
     for case in Maker::new(options.seed, Size::Full).largest() {
         let answer = ask(&case);
@@ -459,6 +508,7 @@ struct Differed {
     sums: Sums,
     empty: Empty,
     norms: Norms,
+    boards: Boards,
 }
 
 #[cfg(feature = "capi")]
@@ -479,6 +529,7 @@ impl Differed {
         self.sums.count(case, &wanted);
         self.empty.count(case, &wanted);
         self.norms.count(case, &wanted);
+        self.boards.count(case, &wanted);
         self.zeros += !given.agrees_in_zeros(&wanted) as usize;
         if !given.agrees(&wanted) {
             row.wrong += 1;
@@ -525,10 +576,12 @@ fn differ(options: &Options, calls: &[usize]) {
     all.sums.print();
     all.empty.print();
     all.norms.print();
-    let Differed { total, zeros, differ, norms, .. } = all;
+    all.boards.print();
+    let Differed { total, zeros, differ, norms, boards, .. } = all;
     println!("{total} cases, {zeros} with zeros of another sign, {differ} differ");
     if differ > 0 {
         std::process::exit(1);
     }
     norms.complete(options);
+    boards.complete(options);
 }

@@ -1,6 +1,6 @@
 //! The smallest setup, and a record under it.
 
-use foldrima::{Setup, TurboMode};
+use foldrima::{RotationKind, Setup, TurboMode};
 
 /// One pair of one bit, without residual: indices 0 and 1 point along (−1, 0) and (1, 0).
 pub const SETUP: Setup = Setup {
@@ -8,7 +8,8 @@ pub const SETUP: Setup = Setup {
     dim: 2,
     bits: 1,
     projections: 0,
-    signs: &[1.0, 1.0],
+    kind: RotationKind::FastHadamard,
+    rotation: &[1.0, 1.0],
     directions: &[-1.0, 0.0, 1.0, 0.0],
     matrix: &[],
 };
