@@ -69,7 +69,7 @@
  *
  * Rotations. The kind says which rotation a setup has, and so what is lent as its rotation:
  *
- *     FastHadamard    dim signs, each -1 or 1; dim is a power of two up to 4,096 (another even one is 4)
+ *     FastHadamard    dim signs, each -1 or 1; dim is a power of two from 2 to 4,096 (another even one is 4)
  *     Stored          the dim * dim entries of a matrix, column by column: that of row i and column j stands at j * dim + i; dim is even and at most
  *                     512 (above it 26). The rotation sums along rows, and its inverse along columns: it turns back where the matrix is orthogonal,
  *                     which is not checked.

@@ -83,7 +83,6 @@ static void prepared_score(void)
 static void distance(void) { float value; foldrima_l2_distance_estimate(SETUP, TABLES, query, DIM, record, record_len, &number, &place, &value); }
 static void decode(void) { foldrima_decode_approximate(SETUP, TABLES, record, record_len, floats, DIM, &number, &place); }
 
-
 /* The same under the stored rotation. */
 static void stored_check(void) { foldrima_check_setup(STORED_SETUP, STORED_TABLES, &number, &place); }
 static void stored_sketch(void) { foldrima_sketch(STORED_SETUP, STORED_TABLES, query, LESS, sketch, DIM, &number, &place); }

@@ -1,5 +1,5 @@
 //! Cases for a comparison of the port with the Rust: made from a seed, answered by the
-//! oracle, and judged by document 01's lists of refusals.
+//! oracle, and judged by the two documents' lists of refusals.
 
 pub mod ask;
 pub mod boards;

@@ -1,6 +1,7 @@
 //! Document 01's formulas as plain f32 loops, with document 02's norm in K and its stored
-//! rotation, sums from +0.0, with the lent direction table. It answers where the Rust can't: other tables, and prepared values that were
-//! not prepared. Wherever the Rust does answer, `cases run` holds the two together.
+//! rotation, sums from +0.0, with the lent direction table. It answers where the Rust can't:
+//! other tables, and prepared values that were not prepared. Wherever the Rust does answer,
+//! `cases run` holds the two together.
 
 use crate::{
     case::{Case, Kind, Mode, Setup, Value},

@@ -61,10 +61,7 @@ fn the_serialised_matrix_is_the_lent_one() {
             let mut unit = [0.0; 6];
             let j = rng.below(6);
             unit[j] = 1.0;
-            let (turned, _) = match thin::prepare_query(&turbo, &unit) {
-                Ok(prepared) => prepared,
-                Err(_) => continue,
-            };
+            let (turned, _) = thin::prepare_query(&turbo, &unit).unwrap();
             // Zeros are added to each entry of column j, so only the zeros' signs may differ.
             assert_eq!(turned, matrix[6 * j..6 * j + 6]);
         }
@@ -124,7 +121,7 @@ fn refusals_of_a_stored_setup() {
     assert_eq!(check(wrong()), refused(8, 0));
     assert_eq!(check(Setup { projections: 1, ..wrong() }), refused(26, 0));
     let mut flawed = setup(both, 6, 1, vec![1.0; 36]);
-    (flawed.rotation[7], flawed.rotation[8], flawed.matrix[0]) = (nan, nan, nan);
+    flawed.matrix[0] = nan;
     let table = Rc::new(vec![-1.0, 0.0, 1.0, 1.5]);
     assert_eq!(
         check(Setup { rotation: vec![nan; 6], directions: Rc::new(vec![]), ..flawed }),

@@ -20,10 +20,15 @@ fn shift(dim: usize) -> Vec<f32> {
     matrix
 }
 
-/// Both ways, with one refusal for both.
+/// Both ways, with one refusal for both, and where none is due the same values, NaNs being one.
 fn both_ways(dim: usize, matrix: &[f32], input: &[f32], output: &mut [f32]) -> Result<(), Refusal> {
-    let forward = foldrima::stored_apply(dim, matrix, input, output);
+    let bits = |values: &[f32]| -> Vec<Option<u32>> {
+        values.iter().map(|x| (!x.is_nan()).then_some(x.to_bits())).collect()
+    };
+    let mut turned = output.to_vec();
+    let forward = foldrima::stored_apply(dim, matrix, input, &mut turned);
     assert_eq!(foldrima::stored_apply_inverse(dim, matrix, input, output), forward);
+    assert_eq!(bits(&turned), bits(output));
     forward
 }
 

@@ -1,7 +1,8 @@
 //! STAND-IN, not the crate of this name: Debian packages no `nalgebra`.
 //! It holds a matrix, column by column, with the calls that rotation.rs makes. Its
 //! `qr` works nothing out (Q is the identity), so what `StoredRotation::new` draws is
-//! never compared: `StoredRotation` is with a matrix that it reads from its serialised form.
+//! never compared; `StoredRotation` is compared with a matrix that it reads from its
+//! serialised form.
 
 use std::ops::{Index, IndexMut};
 
