@@ -1,7 +1,7 @@
 -- No call refuses with the number 0 or with that of a withdrawn position, and one that takes no record does not answer withdrawn. Assumes nothing.
 use Prim.Native.Nat.{ℕ, _*_, _<_}
-use mathlib.Core.Path.{_≡_, refl, sym}
-use mathlib.Core.Bool.{Bool, true, false, _&&_, true≢false}
+use mathlib.Core.Path.{_≡_, refl}
+use mathlib.Core.Bool.{Bool, true, false, _&&_}
 use mathlib.Core.List.{List, [], _∷_, _++_}
 use native.Mathlib.Omega.{arith}
 use borrow.Author.Tests.{ltb-true}
@@ -11,7 +11,7 @@ use lib.ListN.{length}
 use lib.Ieee.{Float}
 use Rattle.error.specs.Answer.{Answer, value, refused, withdrawn, Check, check, first, each, accepted}
 use Rattle.error.specs.Checks.{wrongBits, wrongRoom, wrongIndex, wrongInput, wrongScore, badIndex}
-use Rattle.error.proofs.Chains.{value-not-refused, value-not-withdrawn, first-not-withdrawn}
+use Rattle.error.proofs.Chains.{value-not-refused, value-not-withdrawn, and-true, first-not-withdrawn}
 use Rattle.bitpack.specs.Padding.{bytesFor, wrongLength, wrongPadding, validatePaddingZeroOf}
 use Rattle.bitpack.specs.Packing.{wrongOverflow, packedLenOf, packIndicesOf, unpackIndicesOf}
 use Rattle.bitpack.specs.Signs.{badSketchSign, packSignsOf, unpackSignsOf}
@@ -64,10 +64,6 @@ Numbered a = (n p : ℕ) → a ≡ refused n p → (0 < n) × (n < withdrawnNumb
 
 pub value-numbered : {A : Type 0} (x : A) → Numbered (value x)
 value-numbered x n p e = value-not-refused e
-
-and-true : (a b : Bool) → (a && b) ≡ true → (a ≡ true) × (b ≡ true)
-and-true true b e = (refl, e)
-and-true false b e = absurd (true≢false (sym e))
 
 pub first-numbered : {A : Type 0} (cs : List Check) (a : Answer A) → between cs ≡ true → Numbered a → Numbered (first cs a)
 first-numbered [] a t end n p e = end n p e

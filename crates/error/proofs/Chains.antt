@@ -2,7 +2,7 @@
 -- of the chain offends. Assumes nothing.
 use Prim.Native.Nat.{ℕ}
 use mathlib.Core.Path.{_≡_, refl, sym, _∙_}
-use mathlib.Core.Bool.{Bool, true, false, _||_}
+use mathlib.Core.Bool.{Bool, true, false, _||_, _&&_, true≢false}
 use mathlib.Core.List.{List, [], _∷_, _++_}
 use native.Mathlib.Omega.{arith}
 use Rattle.error.specs.Answer.{Answer, value, refused, withdrawn, Check, check, first, accepted, done}
@@ -17,6 +17,11 @@ value-not-withdrawn e = let z : _≡_ {A = ℕ} 0 1 = cc in absurd (omega arith)
 
 pub refused-not-withdrawn {ℓ} : {A : Type 0} {X : Type ℓ} {n p : ℕ} → _≡_ {A = Answer A} (refused n p) withdrawn → X
 refused-not-withdrawn e = let z : _≡_ {A = ℕ} 0 1 = cc in absurd (omega arith)
+
+-- both of two tests hold
+pub and-true : (a b : Bool) → (a && b) ≡ true → (a ≡ true) × (b ≡ true)
+and-true true b e = (refl, e)
+and-true false b e = absurd (true≢false (sym e))
 
 -- neither of two tests holds
 pub or-false : (a b : Bool) → (a || b) ≡ false → (a ≡ false) × (b ≡ false)

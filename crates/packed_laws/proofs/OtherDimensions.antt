@@ -12,6 +12,7 @@ use lib.ListN.{length}
 use lib.Ieee.{Float}
 use Rattle.error.specs.Answer.{Answer, value, refused, Check, check, unless, first}
 use Rattle.error.specs.Checks.{wrongRoom}
+use Rattle.error.proofs.Chains.{and-true}
 use Rattle.radius.specs.Codec.{badProfile, wrongProfile}
 use Rattle.setup.specs.Checks.{wrongProjections}
 use Rattle.setup.specs.Setups.{counted}
@@ -29,10 +30,6 @@ use Rattle.packed_laws.proofs.Refused.{Other, refused-here}
 
 abbrev dimensionWith : {A : Type 0} → Check → ℕ → Answer A → Answer A
 dimensionWith four dim a = first (check (eqb dim 0) 2 0 ∷ check (eqb (dim % 2) 1) 3 dim ∷ four ∷ []) a
-
-and-true : (a b : Bool) → a && b ≡ true → (a ≡ true) × (b ≡ true)
-and-true true b e = (refl, e)
-and-true false b e = absurd (true≢false (sym e))
 
 module _ {A : Type 0} (dim : ℕ) (a : Answer A) where
   dimension-kept : isMoved dim ≡ false → dimensionWith (wrongRecordDimension dim) dim a ≡ dimensionWith (wrongRecordPower dim) dim a

@@ -4,21 +4,19 @@ use mathlib.Core.Path.{_≡_, sym, ap, _∙_}
 use mathlib.Core.Bool.{false}
 use mathlib.Core.List.{List}
 use borrow.Author.Tests.{eqb-true, ltb-false, not-false}
-use lib.ListN.{length, getD, length-map}
+use lib.ListN.{length, getD}
 use lib.Ieee.{Float, nan}
 use Rattle.error.specs.Answer.{value, refused, first, accepted}
 use Rattle.error.specs.Checks.{badValue}
 use Rattle.error.proofs.Chains.{first-passes, first-passed, first-refused}
 use Rattle.error.proofs.Places.{each-clear}
-use Rattle.rounding.specs.Butterfly.{from}
 use Rattle.rounding.specs.Rows.{projected}
-use Rattle.rounding.specs.Sums.{dot}
+use Rattle.rounding.proofs.Butterflies.{length-tabled}
 use Rattle.rounding.proofs.Rows.{length-projected}
-use Rattle.rounding.proofs.Running.{length-from}
 use Rattle.qjl_rows.specs.Projection.{projectOf}
 use Rattle.qjl_rows.proofs.Answers.{project-ready}
 use Rattle.rotation_stored.specs.Checks.{storedChecks}
-use Rattle.rotation_stored.specs.Stored.{rowOf, storedRotated, storedUnrotated, storedApplyOf, storedApplyInverseOf}
+use Rattle.rotation_stored.specs.Stored.{storedRotated, storedUnrotated, storedApplyOf, storedApplyInverseOf}
 
 pub record Storable (n : ℕ) (matrix : List Float) (long room : ℕ) : Type 0 where
   pub small : n ≤ 512
@@ -42,7 +40,7 @@ storable n matrix long room e =
 
 pub length-stored : (n : ℕ) (matrix xs : List Float) → length (storedRotated n matrix xs) ≡ n
 unfolding storedRotated
-length-stored n matrix xs = length-map (from 0 n) (λ i. dot (rowOf n matrix i) xs) ∙ length-from 0 n
+length-stored n matrix xs = length-tabled _ 0 n
 
 pub length-unstored : (n : ℕ) (matrix xs : List Float) → length (storedUnrotated n matrix xs) ≡ n
 unfolding storedUnrotated

@@ -1,42 +1,36 @@
 -- Rows of a matrix that is lent column by column, and their sums side by side: `taken-start` when no column is through, `taken-one` and `taken-four` for the next
 -- columns, and `taken-end` when all are. Assumes nothing.
-use Prim.Native.Nat.{ℕ, zero, suc, _+_, _*_, _≤_, _<_}
+use Prim.Native.Nat.{ℕ, suc, _+_, _*_, _≤_, _<_}
 use mathlib.Core.Path.{_≡_, sym, ap, subst, _∙_}
-use mathlib.Core.List.{List, map}
-use native.Mathlib.Nat.{add-assoc, add-zero, zero-add, suc-mul, mul-le-mul-right, not-suc-le-zero, le-of-suc-le-suc, le-refl}
+use mathlib.Core.List.{List}
+use native.Mathlib.Nat.{add-assoc, zero-add, suc-mul, mul-le-mul-right, le-refl}
 use native.Mathlib.Omega.{arith}
-use lib.ListN.{length, getD, length-map}
+use lib.ListN.{length, getD}
 use lib.Seq.{ext-getD}
 use lib.Ieee.{Float, nan, binary32, add, mul}
 use Rattle.float.specs.Constants.{posZero}
 use Rattle.lists.specs.Inner.{Filled}
-use Rattle.rounding.specs.Butterfly.{from}
 use Rattle.rounding.specs.Inner.{SoFar}
 use Rattle.rounding.specs.Sums.{dot}
-use Rattle.rounding.proofs.Running.{length-from, dot-start, dot-more, dot-end}
+use Rattle.rounding.proofs.Butterflies.{length-tabled, tabled-at}
+use Rattle.rounding.proofs.Running.{dot-start, dot-more, dot-end}
 use Rattle.rotation_stored.specs.Stored.{rowOf, storedRotated}
 use Rattle.rotation_stored.specs.Inner.{Taken}
 use Rattle.rotation_stored.proofs.Accepted.{length-stored}
 
 -- ---- what a row is
 
-getD-from : (f : ℕ → Float) (start n k : ℕ) → k < n → getD (map f (from start n)) k nan ≡ f (start + k)
-unfolding from
-getD-from f start zero k l = absurd (not-suc-le-zero l)
-getD-from f start (suc n) zero l = ap f (sym (add-zero start))
-getD-from f start (suc n) (suc k) l = getD-from f (suc start) n k (le-of-suc-le-suc l) ∙ ap f (omega arith)
-
 pub length-row : (n : ℕ) (matrix : List Float) (i : ℕ) → length (rowOf n matrix i) ≡ n
 unfolding rowOf
-length-row n matrix i = length-map (from 0 n) _ ∙ length-from 0 n
+length-row n matrix i = length-tabled _ 0 n
 
 pub row-entry : (n : ℕ) (matrix : List Float) (i j : ℕ) → j < n → getD (rowOf n matrix i) j nan ≡ getD matrix (j * n + i) nan
 unfolding rowOf
-row-entry n matrix i j l = getD-from (λ k. getD matrix (k * n + i) nan) 0 n j l ∙ ap (λ (k : ℕ). getD matrix (k * n + i) nan) (zero-add j)
+row-entry n matrix i j l = tabled-at (λ k. getD matrix (k * n + i) nan) 0 n nan j l ∙ ap (λ (k : ℕ). getD matrix (k * n + i) nan) (zero-add j)
 
 pub stored-entry : (n : ℕ) (matrix xs : List Float) (i : ℕ) → i < n → getD (storedRotated n matrix xs) i nan ≡ dot (rowOf n matrix i) xs
 unfolding storedRotated
-stored-entry n matrix xs i l = getD-from (λ k. dot (rowOf n matrix k) xs) 0 n i l ∙ ap (λ (k : ℕ). dot (rowOf n matrix k) xs) (zero-add i)
+stored-entry n matrix xs i l = tabled-at (λ k. dot (rowOf n matrix k) xs) 0 n nan i l ∙ ap (λ (k : ℕ). dot (rowOf n matrix k) xs) (zero-add i)
 
 -- ---- the sums, column by column
 

@@ -21,7 +21,7 @@ unfolding from
 length-tabled f n zero = refl
 length-tabled f n (suc count) = ap suc (length-tabled f (suc n) count)
 
-tabled-at : {A : Type 0} (f : ℕ → A) (n count : ℕ) (d : A) (i : ℕ) → i < count → getD (map f (from n count)) i d ≡ f (n + i)
+pub tabled-at : {A : Type 0} (f : ℕ → A) (n count : ℕ) (d : A) (i : ℕ) → i < count → getD (map f (from n count)) i d ≡ f (n + i)
 unfolding from
 tabled-at f n zero d i h = absurd (not-suc-le-zero h)
 tabled-at f n (suc count) d zero h = ap f (sym (add-zero n))

@@ -1,13 +1,13 @@
 -- What the checks of a setup's scalars say where none offends. Assumes nothing.
 use Prim.Native.Nat.{ℕ, _-_, _%_, _≤_, _<_}
-use mathlib.Core.Path.{_≡_, refl}
-use mathlib.Core.Bool.{Bool, true, false, not, _||_}
+use mathlib.Core.Path.{_≡_}
+use mathlib.Core.Bool.{false, not, _||_}
 use native.Mathlib.Omega.{arith}
 use borrow.Author.Tests.{ltb-false, eqb-true, eqb-false, not-false}
 use lib.Count.{ones}
 use lib.Dec.{ltb, eqb}
 use Rattle.error.specs.Answer.{first, accepted}
-use Rattle.error.proofs.Chains.{first-passes}
+use Rattle.error.proofs.Chains.{or-false, first-passes}
 use Rattle.rotation.proofs.Accepted.{Power}
 use Rattle.setup.specs.declared.Setup.{Setup}
 use Rattle.setup.specs.declared.TurboMode.{TurboMode}
@@ -17,16 +17,6 @@ use Rattle.setup.specs.declared.RotationKind.the-variants.{FastHadamard,
 use Rattle.setup.specs.Setups.{byMode}
 use Rattle.setup.specs.Checks.{badRotationDimension, scalarChecks}
 use Rattle.setup.proofs.Usable.{Usable}
-
--- ---- tests
-
-neither-first : (a b : Bool) → (a || b) ≡ false → a ≡ false
-neither-first true b e = cc
-neither-first false b e = refl
-
-neither-second : (a b : Bool) → (a || b) ≡ false → b ≡ false
-neither-second true b e = cc
-neither-second false b e = e
 
 -- ---- the bits and the projections, by mode
 
@@ -44,22 +34,22 @@ bits-residual PolarWithQjl b e r = let l = ltb-false 16 b e in omega (arith, l)
 
 projections-most : (m : TurboMode) (p : ℕ) → byMode m false (eqb p 0 || ltb 4096 p) ≡ false → byMode m 0 p ≤ 4096
 projections-most PolarOnly p e = omega arith
-projections-most PolarWithQjl p e = ltb-false 4096 p (neither-second (eqb p 0) (ltb 4096 p) e)
+projections-most PolarWithQjl p e = ltb-false 4096 p (or-false (eqb p 0) (ltb 4096 p) e .1)
 
 projections-residual : (m : TurboMode) (p : ℕ) → byMode m false (eqb p 0 || ltb 4096 p) ≡ false → m ≡ PolarWithQjl → 0 < byMode m 0 p
 projections-residual PolarOnly p e r = let z : _≡_ {A = ℕ} 0 1 = cc in omega (arith, z)
-projections-residual PolarWithQjl p e r = let l = eqb-false p 0 (neither-first (eqb p 0) (ltb 4096 p) e) in omega (arith, l)
+projections-residual PolarWithQjl p e r = let l = eqb-false p 0 (or-false (eqb p 0) (ltb 4096 p) e .0) in omega (arith, l)
 
 -- ---- the dimension, by rotation
 
 dimension-most : (k : RotationKind) (n : ℕ) → badRotationDimension k n ≡ false → n ≤ 4096
-dimension-most FastHadamard n e = ltb-false 4096 n (neither-second (not (eqb (ones n) 1)) (ltb 4096 n) e)
+dimension-most FastHadamard n e = ltb-false 4096 n (or-false (not (eqb (ones n) 1)) (ltb 4096 n) e .1)
 dimension-most Stored n e = let l = ltb-false 512 n e in omega (arith, l)
 
 dimension-power : (k : RotationKind) (n : ℕ) → badRotationDimension k n ≡ false → k ≡ FastHadamard → Power n
 dimension-power FastHadamard n e is =
     record {
-      bit = eqb-true (ones n) 1 (not-false _ (neither-first (not (eqb (ones n) 1)) (ltb 4096 n) e));
+      bit = eqb-true (ones n) 1 (not-false _ (or-false (not (eqb (ones n) 1)) (ltb 4096 n) e .0));
       small = dimension-most FastHadamard n e;
     }
 dimension-power Stored n e is = absurd (let z : _≡_ {A = ℕ} 0 1 = cc in omega (arith, z))
@@ -84,9 +74,9 @@ scalars-usable s e =
       even = omega (arith, even);
       hadamard = dimension-power (s .kind) (s .dim) dimension;
       stored = dimension-stored (s .kind) (s .dim) dimension;
-      least-bits = bits-least (s .mode) (s .bits) (neither-first (ltb (s .bits) (byMode (s .mode) 1 2)) (ltb 16 (s .bits)) bits);
-      most-bits = bits-most (s .mode) (s .bits) (neither-second (ltb (s .bits) (byMode (s .mode) 1 2)) (ltb 16 (s .bits)) bits);
+      least-bits = bits-least (s .mode) (s .bits) (or-false (ltb (s .bits) (byMode (s .mode) 1 2)) (ltb 16 (s .bits)) bits .0);
+      most-bits = bits-most (s .mode) (s .bits) (or-false (ltb (s .bits) (byMode (s .mode) 1 2)) (ltb 16 (s .bits)) bits .1);
       most-projections = projections-most (s .mode) (s .projections) projections;
-      residual-bits = bits-residual (s .mode) (s .bits) (neither-second (ltb (s .bits) (byMode (s .mode) 1 2)) (ltb 16 (s .bits)) bits);
+      residual-bits = bits-residual (s .mode) (s .bits) (or-false (ltb (s .bits) (byMode (s .mode) 1 2)) (ltb 16 (s .bits)) bits .1);
       residual-projections = projections-residual (s .mode) (s .projections) projections;
     }
