@@ -37,7 +37,7 @@ module _ (base room : ℕ) (out out' : List ℕ) (i n y : ℕ) (sized : length o
 
 -- ---- four indices of a word, eight of b bytes
 
-power-four : (bits : ℕ) → 2 ^ (4 * bits) ≡ (2 ^ bits) ^ 4
+pub power-four : (bits : ℕ) → 2 ^ (4 * bits) ≡ (2 ^ bits) ^ 4
 power-four bits = ap (λ (m : ℕ). 2 ^ m) (mul-comm 4 bits) ∙ power-power bits 4
 
 -- the lowest four indices do not see what stands above n bits
@@ -50,7 +50,7 @@ four-out : (bits word rest : ℕ) → 4 * bits ≤ 64 → (word + 2 ^ 64 * rest)
 four-out bits word rest h = rw (← power-four bits) (shift-out (4 * bits) 64 h word rest)
 
 -- eight indices are as many bytes as an index has bits
-eight-bytes : (bits : ℕ) → (2 ^ bits) ^ 4 * (2 ^ bits) ^ 4 ≡ 256 ^ bits
+pub eight-bytes : (bits : ℕ) → (2 ^ bits) ^ 4 * (2 ^ bits) ^ 4 ≡ 256 ^ bits
 eight-bytes bits =
     let double : 4 * bits + 4 * bits ≡ 8 * bits = omega arith in
     rw (← power-four bits) (sym (pow-add 2 (4 * bits) (4 * bits)) ∙ ap (λ (m : ℕ). 2 ^ m) double ∙ power-power 8 bits)

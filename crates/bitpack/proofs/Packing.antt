@@ -2,12 +2,12 @@
 use Prim.Native.Nat.{ℕ, _+_, _-_, _*_, _/_, _^_, _≤_, _<_}
 use mathlib.Core.Path.{_≡_, sym, ap, _∙_}
 use mathlib.Core.List.{List, _++_, append-assoc}
-use native.Mathlib.Nat.{add-zero, mul-zero, zero-add, sub-zero, one-mul, mul-le-mul-right}
+use native.Mathlib.Nat.{add-zero, mul-zero, zero-add, one-mul, mul-le-mul-right}
 use native.Mathlib.Omega.{arith}
 use lib.ListN.{length, getD, take, drop}
 use Rattle.digits.specs.Digits.{number, digits}
 use Rattle.digits.proofs.Laws.{length-digits}
-use Rattle.bitpack.specs.Inner.{Packable}
+use Rattle.bitpack.specs.Inner.{Packable, Gathered}
 use Rattle.lists.proofs.Stores.{length-store, take-store}
 use Rattle.bitpack.proofs.Digits.{number-drop, number-end}
 use Rattle.bitpack.proofs.Windows.{shift-in, shift-in-fits, shift-out-fits, word-out}
@@ -22,14 +22,15 @@ pub record Packed (indices : List ℕ) (bits room : ℕ) (out : List ℕ) (acc h
   pub rest : digits 256 room (number (2 ^ bits) indices) ≡ take k out ++ digits 256 (room - k) (acc + 2 ^ held * number (2 ^ bits) (drop i indices))
 
 module _ (indices : List ℕ) (bits room : ℕ) (asked : Packable indices bits room) where
-  pub pack-start : (out : List ℕ) → length out ≡ room → Packed indices bits room out 0 0 0 0
-  pack-start out h = record {
-    sized = h;
-    within = omega arith;
+  -- k groups of eight are packed, and nothing is held
+  pub pack-start : (out : List ℕ) (k : ℕ) → Gathered indices bits room out k → Packed indices bits room out 0 0 (8 * k) (k * bits)
+  pack-start out k eights = record {
+    sized = eights .sized;
+    within = eights .within;
     small = omega arith;
     fits = omega arith;
     count = omega arith;
-    rest = simp (sub-zero, zero-add, one-mul);
+    rest = eights .rest ∙ simp (zero-add, one-mul);
   }
 
   module _ (out : List ℕ) (acc held i k : ℕ) (inv : Packed indices bits room out acc held i k) (more : i < length indices) where

@@ -5,12 +5,13 @@ use mathlib.Core.List.{List, _++_, append-nil}
 use native.Mathlib.Nat.{add-mul-mod-self-left, add-mul-div-left, mod-eq-of-lt, div-eq-of-lt, lt-of-lt-of-le, sub-zero, zero-add, pow-succ'}
 use native.Mathlib.Omega.{arith}
 use lib.Pow.{pow-mono}
-use lib.ListN.{length, getD, take, drop, set, length-set}
-use lib.Seq.{take-all}
+use lib.ListN.{length, getD, take, drop, set, length-set, length-drop}
+use lib.Seq.{take-all, take-add, drop-drop, length-take-le}
 use Rattle.digits.specs.Digits.{number, digits}
-use Rattle.digits.proofs.Laws.{digits-none}
+use Rattle.digits.proofs.Laws.{digits-none, number-append}
 use Rattle.bitpack.specs.Padding.{bytesFor}
 use Rattle.lists.proofs.Stores.{store-next}
+use Rattle.bitpack_signs.specs.Inner.{SignsPacked}
 use Rattle.bitpack.proofs.Digits.{digits-next, number-drop, number-run, number-end, write-end}
 
 -- ---- bits read from the last one down
@@ -42,12 +43,6 @@ module _ (bits : List ℕ) where
 
 -- ---- the loop that packs
 
--- k bytes are written, of eight signs each
-pub record SignsPacked (bits : List ℕ) (room : ℕ) (out : List ℕ) (k : ℕ) : Type 0 where
-  pub sized : length out ≡ room
-  pub within : 8 * k ≤ length bits
-  pub rest : digits 256 room (number 2 bits) ≡ take k out ++ digits 256 (room - k) (number 2 (drop (8 * k) bits))
-
 module _ (bits : List ℕ) (n room : ℕ) (counted : length bits ≡ n) (exact : room ≡ bytesFor n) where
   pub signs-start : (out : List ℕ) → length out ≡ room → SignsPacked bits room out 0
   signs-start out h = record { sized = h; within = omega arith; rest = simp sub-zero }
@@ -69,18 +64,25 @@ module _ (bits : List ℕ) (n room : ℕ) (counted : length bits ≡ n) (exact :
       pub signs-room : k < room
       signs-room = omega (arith, more, exact)
 
-      pub signs-turn : (a b : ℕ) → a ≡ number 2 (take 4 (drop (8 * k) bits)) → b ≡ number 2 (take 4 (drop (8 * k + 4) bits)) → a < 16 → b < 16 → SignsPacked bits room (set out k (a + 16 * b)) (k + 1)
-      signs-turn a b low high smallA smallB =
+      -- the next byte has the next eight bits
+      pub signs-byte : (v : ℕ) → v ≡ number 2 (take 8 (drop (8 * k) bits)) → v < 256 → SignsPacked bits room (set out k v) (k + 1)
+      signs-byte v e small =
           let next : ℕ = number 2 (drop (8 * (k + 1)) bits) in
-          let at : 8 * k + 4 + 4 ≡ 8 * (k + 1) = omega arith in
-          let first4 = number-run 2 bits (8 * k) 4 (omega (arith, signs-inside, counted)) in
-          let then4 = number-run 2 bits (8 * k + 4) 4 (omega (arith, signs-inside, counted)) ∙ ap (λ (m : ℕ). number 2 (take 4 (drop (8 * k + 4) bits)) + 2 ^ 4 * number 2 (drop m bits)) at in
-          let both : number 2 (drop (8 * k) bits) ≡ a + 16 * b + 256 * next = omega (arith, first4, then4, low, high) in
+          let at : 8 * k + 8 ≡ 8 * (k + 1) = omega arith in
+          let run = number-run 2 bits (8 * k) 8 (omega (arith, signs-inside, counted)) ∙ ap (λ (m : ℕ). number 2 (take 8 (drop (8 * k) bits)) + 2 ^ 8 * number 2 (drop m bits)) at in
+          let whole : number 2 (drop (8 * k) bits) ≡ v + 256 * next = omega (arith, run, e) in
           record {
             sized = simp length-set (inv .sized);
             within = omega (arith, more, counted);
-            rest = step (a + 16 * b) next signs-room (omega arith) both;
+            rest = step v next signs-room small whole;
           }
+
+      pub signs-turn : (a b : ℕ) → a ≡ number 2 (take 4 (drop (8 * k) bits)) → b ≡ number 2 (take 4 (drop (8 * k + 4) bits)) → a < 16 → b < 16 → SignsPacked bits room (set out k (a + 16 * b)) (k + 1)
+      signs-turn a b low high smallA smallB =
+          let halves = take-add 4 4 (drop (8 * k) bits) ∙ ap (λ (l : List ℕ). take 4 (drop (8 * k) bits) ++ take 4 l) (drop-drop 4 (8 * k) bits) in
+          let long : length (take 4 (drop (8 * k) bits)) ≡ 4 = length-take-le 4 (drop (8 * k) bits) (rw length-drop (omega (arith, signs-inside, counted))) in
+          let both = ap (number 2) halves ∙ number-append 2 (take 4 (drop (8 * k) bits)) (take 4 (drop (8 * k + 4) bits)) ∙ ap (λ (m : ℕ). number 2 (take 4 (drop (8 * k) bits)) + 2 ^ m * number 2 (take 4 (drop (8 * k + 4) bits))) long in
+          signs-byte (a + 16 * b) (omega (arith, both, low, high)) (omega arith)
 
     -- the last byte, or none
     module _ (done : n / 8 ≤ k) where

@@ -6,6 +6,7 @@ use error::OUTPUT_LENGTH;
 use error::Outcome;
 ghost use Prim.Native.Nat.{_+_, _-_, _*_, _<_, _≤_};
 ghost use mathlib.Core.Path.{_≡_};
+ghost use mathlib.Core.Bool.{cond};
 ghost use mathlib.Core.List.{_++_, map};
 ghost use lib.ListN.{length, take, drop};
 ghost use Rattle.error.specs.Answer.{done, after, clear};
@@ -13,6 +14,7 @@ ghost use Rattle.error.specs.Outcomes.{says};
 ghost use Rattle.digits.specs.Digits.{number, digits};
 ghost use Rattle.bitpack.specs.Padding.{bytesFor};
 ghost use Rattle.bitpack.specs.Signs.{badSketchSign, bitOfSign, signOfBit, packSignsOf, firstBadSketchSignOf, unpackSignsOf};
+ghost use Rattle.bitpack_signs.specs.Inner.{Block, SignsPacked};
 
 // Packs signs, each -1 or 1, into exactly the bytes that they need: bit 1 is +1, bit 0 is -1.
 pub fn pack_signs(signs: &[i8], out: &mut [u8]) -> Outcome
@@ -75,6 +77,17 @@ fn no_sign(sign: i8) -> bool
     sign != -1
 }
 
+// 1 for a number that is neither -1 nor 1, and else 0. A byte is what several numbers at a time can be judged by.
+fn stray(sign: i8) -> u8
+    ensures { λ r. ⌜ r ≡ cond (badSketchSign sign) 1 0 ⌝ }
+{
+    if sign == 1 {
+        0
+    } else {
+        if sign == -1 { 0 } else { 1 }
+    }
+}
+
 // Whether every number is -1 or 1. The pass goes to the end, so that it is done for several numbers at a time.
 fn all_signs(signs: &[i8]) -> bool
     ensures { λ r. ⌜ r ≡ clear badSketchSign (now (signs .entry)) ⌝ }
@@ -82,7 +95,7 @@ fn all_signs(signs: &[i8]) -> bool
     let mut ok = true;
     let mut i = 0;
     while i < signs.len() {
-        if no_sign(signs[i]) {
+        if stray(signs[i]) != 0 {
             ok = false;
         }
         i += 1;
@@ -124,7 +137,7 @@ fn pack_sign_bytes(signs: &[i8], out: &mut [u8])
     ensures { λ r. ⌜ now (out .exit) ≡ digits 256 (length (now (out .entry))) (number 2 (map bitOfSign (now (signs .entry)))) ⌝ }
 {
     let full = signs.len() / 8;
-    let mut k = 0;
+    let mut k = pack_blocks(signs, out);
     while k < full {
         out[k] = get_signs(signs, 8 * k) + 16 * get_signs(signs, 8 * k + 4);
         k += 1;
@@ -132,6 +145,55 @@ fn pack_sign_bytes(signs: &[i8], out: &mut [u8])
     if k < out.len() {
         out[k] = get_last_signs(signs, 8 * k);
     }
+}
+
+// Writes as many blocks of 256 signs as there are, each in 32 bytes, and answers how many bytes those are.
+fn pack_blocks(signs: &[i8], out: &mut [u8]) -> usize
+    requires { ⌜ length (now out) ≡ bytesFor (length (now signs)) ⌝ }
+    ensures { λ r. ⌜ SignsPacked (map bitOfSign (now (signs .entry))) (length (now (out .entry))) (now (out .exit)) r ⌝ }
+{
+    let mut k = 0;
+    while 256 <= signs.len() - 8 * k {
+        let bits = block_bits(signs, 8 * k);
+        let mut j = 0;
+        while j < 32 {
+            out[k + j] = bits_byte(&bits, 8 * j);
+            j += 1;
+        }
+        k += 32;
+    }
+    k
+}
+
+// The bits of the 256 signs at `at`.
+fn block_bits(signs: &[i8], at: usize) -> [u8; 256]
+    requires { ⌜ at + 256 ≤ length (now signs) ⌝ }
+    ensures { λ r. ⌜ r ≡ take 256 (drop at (map bitOfSign (now (signs .entry)))) ⌝ }
+{
+    let mut bits = no_bits();
+    let mut i = 0;
+    while i < 256 {
+        bits[i] = bit(signs[at + i]);
+        i += 1;
+    }
+    bits
+}
+
+// A block of bits that are all 0.
+fn no_bits() -> [u8; 256]
+    ensures { λ r. ⌜ length r ≡ 256 ⌝ }
+{
+    [0u8; 256]
+}
+
+// The eight bits at `at`, as a byte. One product moves the bits of four bytes side by side, here those of two words at once.
+fn bits_byte(bits: &[u8; 256], at: usize) -> u8
+    requires { ⌜ (at + 8 ≤ 256) × Block (now bits) ⌝ }
+    ensures { λ r. ⌜ r ≡ number 2 (take 8 (drop at (now (bits .entry)))) ⌝ }
+{
+    let low = digits::word_of(bits[at], bits[at + 1], bits[at + 2], bits[at + 3]) as u64;
+    let high = digits::word_of(bits[at + 4], bits[at + 5], bits[at + 6], bits[at + 7]) as u64;
+    ((low + 16 * high) * 0x0102_0408 / 0x0100_0000 % 256) as u8
 }
 
 // The bits of the four signs at `at`, as a number.

@@ -186,12 +186,12 @@ fn check_lengths(setup: Setup, rotation: &[f32], directions: &[f32], matrix: &[f
     Outcome::Done
 }
 
-// The check of the projection matrix's entries: one pass, and a search for the place only where some entry is not finite.
+// The check of the projection matrix's entries: one pass by sums, since there are many, and a search for the place only where some entry is not finite.
 fn check_entries(matrix: &[f32], rows: usize, columns: usize) -> Outcome
     requires { ⌜ rows * columns ≡ length (now matrix) ⌝ }
     ensures { λ r. ⌜ says r ≡ first (entryChecks (now (matrix .entry))) accepted ⌝ }
 {
-    if error::all_finite(matrix) {
+    if finite_sums::all_finite(matrix) {
         return Outcome::Done;
     }
     Outcome::Refused {

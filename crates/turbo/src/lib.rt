@@ -13,6 +13,7 @@ use packed::Reading;
 use setup::Setup;
 use setup::TurboMode;
 ghost use mathlib.Core.Path.{_≡_};
+ghost use mathlib.Core.Bool.{true};
 ghost use lib.ListN.{length};
 ghost use Rattle.error.specs.Answer.{value, first, accepted};
 ghost use Rattle.error.specs.Outcomes.{says, saysScore};
@@ -26,7 +27,7 @@ ghost use Rattle.turbo_opening.specs.Inner.{openedOf};
 ghost use Rattle.turbo.specs.Scoring.{recordScore};
 ghost use Rattle.turbo.specs.Estimates.{innerProductEstimateOf, saysPhased, innerProductEstimatePhasedOf, preparedChecks, innerProductEstimatePreparedOf, lengthsAndValues};
 ghost use Rattle.turbo.specs.Distance.{l2DistanceEstimateOf};
-ghost use Rattle.turbo.specs.Inner.{RadiiInFront, RadiiLeft, joined, recordScoreOf};
+ghost use Rattle.turbo.specs.Inner.{RadiiInFront, RadiiLeft, joined, recordScoreOf, valueChecks, Fitting, Turned, Clean};
 ghost use Rattle.turbo.specs.Order.{Demand};
 ghost use Rattle.turbo.specs.Prepared.{Prepared};
 
@@ -148,7 +149,7 @@ fn measure(
     }
 }
 
-// What `measure` answers and leaves, under a setup whose scalars have passed.
+// What `measure` answers and leaves, under a setup whose scalars have passed: the query is turned in room for as many values as it has.
 fn measure_query(
     setup: Setup,
     rotation: &[f32],
@@ -164,28 +165,138 @@ fn measure_query(
 {
     let dim = setup.dim;
     let rows = setup::counted_projections(setup);
-    let mut rotated = zeros();
-    let mut projected = zeros();
-    let prepared = turbo_query::prepare_query(
+    if 256 < dim || 256 < rows {
+        let mut rotated = zeros();
+        let mut projected = zeros();
+        return measure_within(
+            setup,
+            rotation,
+            directions,
+            matrix,
+            query,
+            bytes,
+            radii,
+            &mut rotated[0..dim],
+            &mut projected[0..rows],
+        );
+    }
+    let mut rotated = few_zeros();
+    let mut projected = few_zeros();
+    measure_within(
         setup,
         rotation,
         directions,
         matrix,
         query,
-        &mut rotated[0..dim],
-        &mut projected[0..rows],
-    );
-    if let Outcome::Refused { number, place } = prepared {
-        return Phased::BeforeReading { number, place };
-    }
-    record_score(
-        setup,
-        directions,
-        &rotated[0..dim],
-        &projected[0..rows],
         bytes,
         radii,
+        &mut rotated[0..dim],
+        &mut projected[0..rows],
     )
+}
+
+// What `measure` answers and leaves, with room of just their lengths for the query rotated and projected.
+fn measure_within(
+    setup: Setup,
+    rotation: &[f32],
+    directions: &[f32],
+    matrix: &[f32],
+    query: &[f32],
+    bytes: &[u8],
+    radii: &mut [f32],
+    rotated: &mut [f32],
+    projected: &mut [f32],
+) -> Phased
+    requires { ⌜ (first (scalarChecks setup) accepted ≡ accepted) × ((length (now radii) ≡ 2048) × Fitting setup (length (now rotated)) (length (now projected))) ⌝ }
+    ensures said { λ r. ⌜ saysPhased r ≡ innerProductEstimatePhasedOf setup (lent (now (rotation .entry)) (now (directions .entry)) (now (matrix .entry))) (now (query .entry)) (now (bytes .entry)) ⌝ }
+    ensures left { λ r. ⌜ RadiiLeft r (now (bytes .entry)) (now (radii .exit)) ⌝ }
+{
+    let turned = turn(setup, rotation, directions, matrix, query, rotated, projected);
+    if let Outcome::Refused { number, place } = turned {
+        return Phased::BeforeReading { number, place };
+    }
+    record_score(setup, directions, rotated, projected, bytes, radii)
+}
+
+// The query rotated and projected into room of just their lengths, and all its checks. Finite values tell that nothing of the query offends; else it goes check by
+// check.
+fn turn(
+    setup: Setup,
+    rotation: &[f32],
+    directions: &[f32],
+    matrix: &[f32],
+    query: &[f32],
+    rotated: &mut [f32],
+    projected: &mut [f32],
+) -> Outcome
+    requires { ⌜ Fitting setup (length (now rotated)) (length (now projected)) ⌝ }
+    ensures { λ r. ⌜ Turned setup (lent (now (rotation .entry)) (now (directions .entry)) (now (matrix .entry))) (now (query .entry)) (says r) (now (rotated .exit)) (now (projected .exit)) ⌝ }
+{
+    let turned = turbo_turn::turn_query(
+        setup,
+        rotation,
+        directions,
+        matrix,
+        query,
+        rotated,
+        projected,
+    );
+    if is_clean(turned, rotated, projected) {
+        return Outcome::Done;
+    }
+    turn_checked(
+        setup,
+        rotation,
+        directions,
+        matrix,
+        query,
+        rotated,
+        projected,
+    )
+}
+
+// The same, check by check.
+fn turn_checked(
+    setup: Setup,
+    rotation: &[f32],
+    directions: &[f32],
+    matrix: &[f32],
+    query: &[f32],
+    rotated: &mut [f32],
+    projected: &mut [f32],
+) -> Outcome
+    requires { ⌜ Fitting setup (length (now rotated)) (length (now projected)) ⌝ }
+    ensures { λ r. ⌜ Turned setup (lent (now (rotation .entry)) (now (directions .entry)) (now (matrix .entry))) (now (query .entry)) (says r) (now (rotated .exit)) (now (projected .exit)) ⌝ }
+{
+    let checked = qjl::check_vector(setup, rotation, directions, matrix, query);
+    if let Outcome::Refused { number, place } = checked {
+        return Outcome::Refused { number, place };
+    }
+    turbo_turn::turn_query(
+        setup,
+        rotation,
+        directions,
+        matrix,
+        query,
+        rotated,
+        projected,
+    );
+    check_values(rotated, projected)
+}
+
+// Whether a call was done and all values of both lists are finite.
+fn is_clean(outcome: Outcome, rotated: &[f32], projected: &[f32]) -> bool
+    ensures { λ r. ⌜ (r ≡ true → Clean (says outcome) (now (rotated .entry)) (now (projected .entry))) ⌝ }
+{
+    match outcome {
+        Outcome::Done => {
+            if !error::all_finite(rotated) {
+                return false;
+            }
+            error::all_finite(projected)
+        }
+        Outcome::Refused { number, place } => false,
+    }
 }
 
 // The score of a record under a setup whose scalars have passed, by a query that is rotated and projected.
@@ -307,6 +418,13 @@ fn check_lengths_and_values(setup: Setup, rotated: &[f32], projected: &[f32]) ->
             place: projected.len(),
         };
     }
+    check_values(rotated, projected)
+}
+
+// The values of the query rotated, then those of the query projected.
+fn check_values(rotated: &[f32], projected: &[f32]) -> Outcome
+    ensures { λ r. ⌜ says r ≡ first (valueChecks (now (rotated .entry)) (now (projected .entry))) accepted ⌝ }
+{
     let rotated_place = error::first_non_finite(rotated);
     if rotated_place < rotated.len() {
         return Outcome::Refused {
@@ -327,6 +445,11 @@ fn check_lengths_and_values(setup: Setup, rotated: &[f32], projected: &[f32]) ->
 // Room for a rotated or a projected query, of at most 4,096 values.
 fn zeros() -> [f32; 4096] {
     [0.0f32; 4096]
+}
+
+// The same for at most 256.
+fn few_zeros() -> [f32; 256] {
+    [0.0f32; 256]
 }
 
 // Room for the radii of a record, of which there are at most 2,048.

@@ -4,10 +4,11 @@ use mathlib.Core.Path.{_≡_, refl, sym, ap, _∙_, subst}
 use mathlib.Core.Bool.{true, false}
 use mathlib.Core.List.{List, [], _∷_, _++_}
 use borrow.Author.Tests.{eqb-true, not-true, not-false, eq-eqb, ne-eqb, ltb-false}
+use lib.Dec.{ltb}
 use lib.ListN.{length}
 use lib.Ieee.{Float}
 use Rattle.error.specs.Answer.{Answer, value, refused, first, each, place, accepted, done, after, clear}
-use Rattle.error.proofs.Chains.{first-passed, first-refused, first-passes, first-done, append-passed, append-refused, append-left}
+use Rattle.error.proofs.Chains.{first-passed, first-refused, first-passes, first-done, first-append, append-passed, append-refused, append-left}
 use Rattle.error.proofs.Answers.{done-refused, after-refused, after-value}
 use Rattle.error.proofs.Places.{each-offends, each-passes}
 use Rattle.float.specs.Copying.{copyIntoOf}
@@ -15,18 +16,20 @@ use Rattle.float.proofs.Copying.{copy-into-same}
 use Rattle.setup.specs.Lent.{Lent}
 use Rattle.setup.specs.declared.Setup.{Setup}
 use Rattle.setup.specs.Setups.{countedProjectionsOf}
-use Rattle.setup_tables.specs.Checks.{entryChecks, setupChecks, setupChecksButEntries}
-use Rattle.setup_tables.proofs.Accepted.{but-entries-usable, but-entries-long, but-entries-rest}
+use Rattle.setup_tables.specs.Checks.{entryChecks, setupChecksButEntries}
+use Rattle.setup_tables.proofs.Accepted.{but-entries-usable, but-entries-long}
 use Rattle.setup_rotation.specs.Rotations.{turnChecks}
 use Rattle.setup_rotation.proofs.Turnable.{setup-turnable}
-use Rattle.error.specs.Checks.{wrongInput, badValue}
+use Rattle.error.specs.Checks.{wrongInput, wrongRoom, badValue}
 use Rattle.qjl_rows.specs.Inner.{Rowed}
-use Rattle.qjl_rows.proofs.FiniteSums.{matrix-finite}
+use Rattle.rounding.proofs.Rows.{length-projected}
 use Rattle.error.specs.Inner.{AtOnce}
 use Rattle.qjl.specs.Sketch.{vectorChecks}
 use Rattle.qjl.proofs.Answers.{vector-rowed, vector-passed}
-use Rattle.error.proofs.AtOnce.{at-once-left, at-once-made}
-use Rattle.turbo_query.specs.Query.{rotatedQuery, projectedQuery, prepareRotatedOf, prepareProjectedOf}
+use Rattle.error.proofs.AtOnce.{at-once-made}
+use Rattle.turbo_turn.specs.Turning.{turnedChecks}
+use Rattle.turbo_turn.proofs.Turned.{turned-long, turned-rooms, turned-length, turned-matrix, turned-query}
+use Rattle.turbo_query.specs.Query.{rotatedQuery, projectedQuery, finiteChecks, queryChecks, prepareChecks, prepareRotatedOf, prepareProjectedOf}
 use Rattle.turbo_query.specs.Inner.{handedChecks, Handed, Queryable}
 
 -- ---- the checks of what is handed over
@@ -109,15 +112,6 @@ module _ (s : Setup) (l : Lent) (query : List Float) (passed : first (setupCheck
   pub shaped-rows : {rows : ℕ} → rows ≡ countedProjectionsOf s → Queryable s rows (l .rotation) (l .matrix) query
   shaped-rows e = subst (λ (m : ℕ). Queryable s m (l .rotation) (l .matrix) query) (sym e) shaped-queryable
 
-  -- where what is handed over passes too, every projection is finite, and so is every entry of the matrix
-  shaped-passed : (room space : ℕ) → clear badValue query ≡ true
-      → first (handedChecks (s .dim) (countedProjectionsOf s) (rotatedQuery s l query) (projectedQuery s l query) room space) accepted ≡ accepted
-      → first (vectorChecks s l query) accepted ≡ accepted
-  shaped-passed room space whole handed =
-      let k = first-passes (handedChecks (s .dim) (countedProjectionsOf s) (rotatedQuery s l query) (projectedQuery s l query) room space) tt handed in
-      let entries : first (setupChecks s l) accepted ≡ accepted = but-entries-rest s l passed ∙ simp (matrix-finite (s .dim) (countedProjectionsOf s) (l .matrix) query shaped-rowed (k .1 .0)) in
-      vector-passed s l query {i = place badValue query} entries long refl (ltb-false _ _ (not-true _ whole))
-
 -- ---- a query that has passed its checks
 
 module _ (s : Setup) (l : Lent) (query : List Float) (passed : first (vectorChecks s l query) accepted ≡ accepted) where
@@ -166,36 +160,45 @@ module _ (s : Setup) (l : Lent) (query rotated projected : List Float) where
         × (projected ≡ after (prepareProjectedOf s l query (length rotated) (length projected)) projected))
     prepare-refused = (sym (done-refused _ rotated-refused), (sym (after-refused _ rotated rotated-refused), sym (after-refused _ projected projected-refused)))
 
--- ---- preparing at once, or not at all
+-- ---- a query that is rotated and projected, all finite
 
-module _ (s : Setup) (l : Lent) (query rotated projected : List Float) {said : Answer (Unit {0})} {new also : List Float}
-    (h : Handed (s .dim) (countedProjectionsOf s) (rotatedQuery s l query) (projectedQuery s l query) rotated projected said new also) where
-  pub prepare-made : first (setupChecksButEntries s l) accepted ≡ accepted → length query ≡ s .dim → clear badValue query ≡ true → said ≡ accepted
+module _ (s : Setup) (l : Lent) (query : List Float) (room space : ℕ) (passed : first (turnedChecks s l query room space) accepted ≡ accepted)
+    (turned : clear badValue (rotatedQuery s l query) ≡ true) (cast : clear badValue (projectedQuery s l query) ≡ true) where
+  -- no check of the query offends
+  pub turned-queried : {A : Type 0} (a : Answer A) → first (queryChecks s l query) a ≡ a
+  turned-queried a =
+      let whole = ltb-false _ _ (not-true _ (turned-query s l query room space passed turned)) in
+      let vector = vector-passed s l query {i = place badValue query} (turned-matrix s l query room space passed cast) (turned-long s l query room space passed) refl whole in
+      let one : ltb (place badValue (rotatedQuery s l query)) (length (rotatedQuery s l query)) ≡ false = not-true _ turned in
+      let two : ltb (place badValue (projectedQuery s l query)) (length (projectedQuery s l query)) ≡ false = not-true _ cast in
+      first-append (vectorChecks s l query) (finiteChecks s l query) a ∙ first-passed (vectorChecks s l query) (first (finiteChecks s l query) a) vector ∙ simp (one, two)
+
+  -- nor does that of the outputs
+  turned-prepared : {A : Type 0} (a : Answer A) → first (prepareChecks s l query room space) a ≡ a
+  turned-prepared a =
+      let rooms = turned-rooms s l query room space passed in
+      first-append (queryChecks s l query) (wrongRoom room (s .dim) ∷ wrongRoom space (countedProjectionsOf s) ∷ []) a ∙ turned-queried _ ∙ simp (eq-eqb room (s .dim) (rooms .0), eq-eqb space (countedProjectionsOf s) (rooms .1))
+
+module _ (s : Setup) (l : Lent) (query turned sums rotated projected : List Float) (even : length turned ≡ length rotated) (also-even : length sums ≡ length projected) where
+  -- the outputs are as long as the memory that they are copied from
+  pub prepare-made : {between others new also : List Float} → first (turnedChecks s l query (length turned) (length sums)) accepted ≡ accepted
+      → between ≡ rotatedQuery s l query → others ≡ projectedQuery s l query → clear badValue between ≡ true → clear badValue others ≡ true
+      → new ≡ copyIntoOf between rotated → also ≡ copyIntoOf others projected
       → AtOnce (prepareRotatedOf s l query (length rotated) (length projected)) rotated true new
       × AtOnce (prepareProjectedOf s l query (length rotated) (length projected)) projected true also
-  prepare-made passed long whole is =
-      let cs = handedChecks (s .dim) (countedProjectionsOf s) (rotatedQuery s l query) (projectedQuery s l query) (length rotated) (length projected) in
-      let handed : first cs accepted ≡ accepted = sym (h .answer) ∙ is in
-      let all = shaped-passed s l query passed long (length rotated) (length projected) whole handed in
-      let one = first-passed cs (value (rotatedQuery s l query)) handed in
-      let two = first-passed cs (value (projectedQuery s l query)) handed in (
-        at-once-made _ rotated new (rotated-passed s l query rotated projected all ∙ one ∙ ap value (sym (h .rotated-after ∙ after-value _ rotated one))),
-        at-once-made _ projected also (projected-passed s l query rotated projected all ∙ two ∙ ap value (sym (h .projected-after ∙ after-value _ projected two))),
-      )
-
-  -- a refusal has written nothing
-  pub prepare-left : {number place : ℕ} → said ≡ refused number place
-      → AtOnce (prepareRotatedOf s l query (length rotated) (length projected)) rotated false new
-      × AtOnce (prepareProjectedOf s l query (length rotated) (length projected)) projected false also
-  prepare-left is =
-      let cs = handedChecks (s .dim) (countedProjectionsOf s) (rotatedQuery s l query) (projectedQuery s l query) (length rotated) (length projected) in
-      let stopped = sym (h .answer) ∙ is in (
-        at-once-left _ rotated new (h .rotated-after ∙ after-refused _ rotated (first-refused cs (value (rotatedQuery s l query)) stopped)),
-        at-once-left _ projected also (h .projected-after ∙ after-refused _ projected (first-refused cs (value (projectedQuery s l query)) stopped)),
+  unfolding prepareRotatedOf prepareProjectedOf
+  prepare-made {between} {others} passed e f clean pure n m =
+      let finite = subst (λ (xs : List Float). clear badValue xs ≡ true) e clean in
+      let sound = subst (λ (xs : List Float). clear badValue xs ≡ true) f pure in
+      let rooms = turned-rooms s l query (length turned) (length sums) passed in
+      let held : first (turnedChecks s l query (length rotated) (length projected)) accepted ≡ accepted = rw (← even, ← also-even) passed in
+      let long = ap length e ∙ turned-length s l query (length turned) (length sums) passed ∙ sym (rooms .0) ∙ even in
+      let wide = ap length f ∙ length-projected (s .dim) (countedProjectionsOf s) (l .matrix) query ∙ sym (rooms .1) ∙ also-even in (
+        at-once-made _ rotated _ (turned-prepared s l query (length rotated) (length projected) held finite sound _ ∙ ap value (sym (n ∙ copy-into-same between rotated long ∙ e))),
+        at-once-made _ projected _ (turned-prepared s l query (length rotated) (length projected) held finite sound _ ∙ ap value (sym (m ∙ copy-into-same others projected wide ∙ f))),
       )
 
 module _ (s : Setup) (l : Lent) (query : List Float) where
-  -- what a call says and leaves, of outputs that held these
   -- what is answered and left in both outputs, by the definitions
   abbrev Outputs : List Float → List Float → Answer (Unit {0}) → List Float → List Float → Type 0
   Outputs rotated projected said new also =

@@ -53,8 +53,7 @@ pub fn prepare_query(
     )
 }
 
-// Writes both outputs where nothing offends, and else answers false with neither written. A finite projection has finite terms only, so the matrix needs no pass of
-// its own.
+// Writes both outputs where nothing offends, and else answers false with neither written. A few values want no more than a few zeros.
 fn prepare_at_once(
     setup: Setup,
     rotation: &[f32],
@@ -67,22 +66,75 @@ fn prepare_at_once(
     ensures rotated { λ r. ⌜ AtOnce (prepareRotatedOf setup (lent (now (rotation .entry)) (now (directions .entry)) (now (matrix .entry))) (now (query .entry)) (length (now (rotated .entry))) (length (now (projected .entry)))) (now (rotated .entry)) r (now (rotated .exit)) ⌝ }
     ensures projected { λ r. ⌜ AtOnce (prepareProjectedOf setup (lent (now (rotation .entry)) (now (directions .entry)) (now (matrix .entry))) (now (query .entry)) (length (now (rotated .entry))) (length (now (projected .entry)))) (now (projected .entry)) r (now (projected .exit)) ⌝ }
 {
-    let checked = setup_tables::check_but_entries(setup, rotation, directions, matrix);
-    if let Outcome::Refused { number, place } = checked {
+    let dim = rotated.len();
+    let rows = projected.len();
+    if 4096 < dim {
         return false;
     }
-    let dim = setup.dim;
-    let rows = setup::counted_projections(setup);
-    if query.len() != dim {
+    if 4096 < rows {
         return false;
     }
-    if !error::all_finite(query) {
+    if dim <= 256 {
+        if rows <= 256 {
+            let mut turned = few_zeros();
+            let mut sums = few_zeros();
+            return prepare_within(
+                setup,
+                rotation,
+                directions,
+                matrix,
+                query,
+                &mut turned[0..dim],
+                &mut sums[0..rows],
+                rotated,
+                projected,
+            );
+        }
+    }
+    let mut turned = zeros();
+    let mut sums = zeros();
+    prepare_within(
+        setup,
+        rotation,
+        directions,
+        matrix,
+        query,
+        &mut turned[0..dim],
+        &mut sums[0..rows],
+        rotated,
+        projected,
+    )
+}
+
+// Writes both outputs where nothing offends, by way of memory of the same lengths, and else answers false with neither written. Finite values have come of a finite
+// query, rotation and matrix only, so none of these needs a pass of its own.
+fn prepare_within(
+    setup: Setup,
+    rotation: &[f32],
+    directions: &[f32],
+    matrix: &[f32],
+    query: &[f32],
+    turned: &mut [f32],
+    sums: &mut [f32],
+    rotated: &mut [f32],
+    projected: &mut [f32],
+) -> bool
+    requires { ⌜ (length (now turned) ≡ length (now rotated)) × (length (now sums) ≡ length (now projected)) ⌝ }
+    ensures rotated { λ r. ⌜ AtOnce (prepareRotatedOf setup (lent (now (rotation .entry)) (now (directions .entry)) (now (matrix .entry))) (now (query .entry)) (length (now (rotated .entry))) (length (now (projected .entry)))) (now (rotated .entry)) r (now (rotated .exit)) ⌝ }
+    ensures projected { λ r. ⌜ AtOnce (prepareProjectedOf setup (lent (now (rotation .entry)) (now (directions .entry)) (now (matrix .entry))) (now (query .entry)) (length (now (rotated .entry))) (length (now (projected .entry)))) (now (projected .entry)) r (now (projected .exit)) ⌝ }
+{
+    let written = turbo_turn::turn_query(setup, rotation, directions, matrix, query, turned, sums);
+    if let Outcome::Refused { number, place } = written {
         return false;
     }
-    let handed = prepare(setup, rows, rotation, matrix, query, rotated, projected);
-    if let Outcome::Refused { number, place } = handed {
+    if !error::all_finite(turned) {
         return false;
     }
+    if !error::all_finite(sums) {
+        return false;
+    }
+    float::copy_into(turned, rotated);
+    float::copy_into(sums, projected);
     true
 }
 
@@ -201,4 +253,9 @@ fn check_handed(rotated: &[f32], projected: &[f32], room: usize, space: usize) -
 // Room for the rotated query, or for its projections: at most 4,096 values.
 fn zeros() -> [f32; 4096] {
     [0.0f32; 4096]
+}
+
+// Room for a few of them.
+fn few_zeros() -> [f32; 256] {
+    [0.0f32; 256]
 }

@@ -1,10 +1,11 @@
 -- `signs::all_signs` meets its contract, by the laws of `Sweep`. Assumes nothing.
-use Prim.Native.Nat.{_-_}
-use mathlib.Core.Path.{sym, ap, _∙_}
+use Prim.Native.Nat.{ℕ, _-_}
+use mathlib.Core.Path.{_≡_, refl, sym, ap, _∙_}
+use mathlib.Core.Bool.{Bool, true, false, cond}
 use mathlib.Core.Logic.{⊎-elim}
 use native.Mathlib.Omega.{arith}
 use denote.Ref.{now}
-use lib.IntN.{pos}
+use lib.IntN.{ℤ, pos}
 use lib.ListN.{length}
 use Rattle.bitpack.specs.Signs.{badSketchSign}
 use Rattle.error.proofs.Sweep.{swept-start, swept-pass, swept-spot, swept-end, Swept}
@@ -21,11 +22,11 @@ abbrev μ-loop : tie.MeasureT-loop
 loop-holds : tie.Need-loop-holds Inv-loop μ-loop
 loop-holds c = swept-start badSketchSign _
 
-shared-slice-copy-out-no-sign : tie.Need-shared-slice-copy-out-no-sign Inv-loop μ-loop
-shared-slice-copy-out-no-sign c = omega arith
+shared-slice-copy-out-stray : tie.Need-shared-slice-copy-out-stray Inv-loop μ-loop
+shared-slice-copy-out-stray c = omega arith
 
-no-sign-requires : tie.Need-no-sign-requires Inv-loop μ-loop
-no-sign-requires c κs = tt
+stray-requires : tie.Need-stray-requires Inv-loop μ-loop
+stray-requires c κs = tt
 
 add-i : tie.Need-add-i Inv-loop μ-loop
 add-i c = omega arith
@@ -33,14 +34,23 @@ add-i c = omega arith
 loop-less : tie.Need-loop-less Inv-loop μ-loop
 loop-less c = omega arith
 
+-- the byte of a number that offends, and of one that does not
+stray-one : (bad : Bool) → (_≡_ {A = ℕ} (cond bad 1 0) 0 → ⊥) → bad ≡ true
+stray-one true h = refl
+stray-one false h = absurd (h refl)
+
+stray-none : (bad : Bool) → _≡_ {A = ℕ} (cond bad 1 0) 0 → bad ≡ false
+stray-none true h = absurd (omega (arith, h))
+stray-none false h = refl
+
 loop-again : tie.Need-loop-again Inv-loop μ-loop
 loop-again c =
     let a = c .before .before .before .before .before .args in
     let s = c .before .before .before .before .loop in
-    let judged = c .before .no-sign .ensures ∙ ap badSketchSign (signed-at (now (a .signs)) (s .i) (c .before .before .no-sign-arg .given)) in
+    let judged = c .before .stray .ensures ∙ ap (λ (z : ℤ). cond (badSketchSign z) 1 0) (signed-at (now (a .signs)) (s .i) (c .before .before .stray-arg .given)) in
     ⊎-elim
-    (λ w. rw (w .1) (swept-spot badSketchSign (now (a .signs)) (s .i) (s .ok) (pos 0) (omega arith) (sym judged ∙ w .0 .taken) (s .inv)))
-    (λ w. rw (w .1) (swept-pass badSketchSign (now (a .signs)) (s .i) (s .ok) (pos 0) (omega arith) (sym judged ∙ w .0 .left) (s .inv)))
+    (λ w. rw (w .1) (swept-spot badSketchSign (now (a .signs)) (s .i) (s .ok) (pos 0) (omega arith) (stray-one _ (rw judged at (w .0 .taken))) (s .inv)))
+    (λ w. rw (w .1) (swept-pass badSketchSign (now (a .signs)) (s .i) (s .ok) (pos 0) (omega arith) (stray-none _ (sym judged ∙ w .0 .left)) (s .inv)))
     (c .if1 .came)
 
 returns : tie.Need-returns Inv-loop μ-loop
@@ -48,4 +58,4 @@ returns c = swept-end badSketchSign _ _ _ (omega arith) (c .before .loop .inv)
 
 pub all-signs-spec : {M : Type 1} → statement M
 all-signs-spec =
-    tie.close (tie.spec Inv-loop μ-loop loop-holds shared-slice-copy-out-no-sign no-sign-requires add-i loop-less loop-again returns)
+    tie.close (tie.spec Inv-loop μ-loop loop-holds shared-slice-copy-out-stray stray-requires add-i loop-less loop-again returns)

@@ -1,0 +1,2 @@
+mod FiniteTurn
+pub mod Turned
