@@ -46,7 +46,7 @@ use Rattle.packed.proofs.Withdrawn.{unless-refused}
 use Rattle.packed_size.specs.Size.{neededFor, codeChecks, recordSizeOf}
 use Rattle.packed_writing.specs.Writing.{fieldChecks, valueChecks, writeRecordOf}
 use Rattle.turbo_query.specs.Query.{queryChecks, prepareChecks, prepareRotatedOf}
-use Rattle.turbo.specs.Scoring.{recordScore, readingChecks}
+use Rattle.turbo_record.specs.Scoring.{recordScore, readingChecks}
 use Rattle.turbo.specs.Estimates.{estimate, whereScored, innerProductEstimateOf, preparedChecks, innerProductEstimatePreparedOf}
 use Rattle.turbo_distance.specs.Distance.{distanceSum, cutAtZero, wrongSum, distanceBySum}
 use Rattle.turbo.specs.Distance.{l2DistanceEstimateOf}

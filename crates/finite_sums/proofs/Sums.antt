@@ -1,7 +1,7 @@
 -- Sums that take one value more: where the new sum is finite, so are the old sum and the value. Assumes nothing.
 use Prim.Native.Nat.{ℕ, _+_, _≤_, _<_}
 use mathlib.Core.Path.{_≡_, refl, sym, ap, subst}
-use mathlib.Core.Bool.{Bool, true, false, not}
+use mathlib.Core.Bool.{true, not}
 use mathlib.Core.List.{List}
 use native.Mathlib.Omega.{arith}
 use native.Mathlib.Decide.{decLt, ℕ-discrete}
@@ -9,6 +9,7 @@ use lib.Dec.{T}
 use lib.ListN.{length, getD, set, length-set}
 use lib.Seq.{getD-set-same, getD-set-other}
 use lib.Ieee.{Float, nan, binary32, add}
+use lib.Ieee.Bits.{is-true}
 use lib.Ieee.Scale.{finite}
 use Rattle.error.specs.Answer.{clear}
 use Rattle.error.specs.Checks.{badValue}
@@ -27,10 +28,6 @@ among-joined values from mid to left right k l h = elim (decLt k mid) [ yes b �
 
 pub among-clear : (values : List Float) → Among values 0 (length values) → clear badValue values ≡ true
 among-clear values all = ap not (each-none badValue values nan (λ i l. finite-passes _ (is-true _ (all i (omega arith) l))))
-  where
-    is-true : (b : Bool) → T b → b ≡ true
-    is-true true t = refl
-    is-true false t = absurd t
 
 -- ---- one sum
 

@@ -5,3 +5,4 @@ pub mod Payloads
 pub mod Withdrawn
 pub mod Accepted
 pub mod Examples
+pub mod Frame

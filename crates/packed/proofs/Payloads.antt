@@ -18,7 +18,8 @@ use Rattle.radius.specs.Radii.{badRadius}
 use Rattle.packed.specs.Fields.{mapOf, hasRange, profileOf, boundsOf, projectionsOf, normOf}
 use Rattle.packed.specs.Layout.{pairsOf, indicesUsed, recordLength, radiiBytes, indicesBytes, signsBytes}
 use Rattle.packed.specs.Radii.{badBoundsFor}
-use Rattle.packed.specs.Reading.{radiiOf, paddingChecks, payloadChecks}
+use Rattle.packed.specs.Reading.{radiiOf, paddingChecks}
+use Rattle.packed.specs.Inner.{frameChecks, radiiChecks}
 use Rattle.packed.proofs.Parts.{length-indices, length-signs}
 
 -- as many radii as pairs
@@ -36,24 +37,32 @@ unfolding validatePaddingZeroOf
 padding-only packed used h = simp (eq-eqb _ _ h)
 
 module _ (bytes : List ℕ) where
-  pub payload-size : (length bytes ≡ recordLength bytes → ⊥) → first (payloadChecks bytes) accepted ≡ refused 13 (length bytes)
-  payload-size h = simp (ne-eqb _ _ h)
+  -- ---- the whole length, the range and the norm
+
+  pub frame-size : (length bytes ≡ recordLength bytes → ⊥) → first (frameChecks bytes) accepted ≡ refused 13 (length bytes)
+  frame-size h = simp (ne-eqb _ _ h)
 
   module _ (sized : length bytes ≡ recordLength bytes) where
-    pub payload-bounds : badBoundsFor (profileOf (mapOf bytes)) (boundsOf bytes) ≡ true → first (payloadChecks bytes) accepted ≡ refused 17 0
-    payload-bounds h = simp (eq-eqb _ _ sized, h)
+    pub frame-bounds : badBoundsFor (profileOf (mapOf bytes)) (boundsOf bytes) ≡ true → first (frameChecks bytes) accepted ≡ refused 17 0
+    frame-bounds h = simp (eq-eqb _ _ sized, h)
 
     module _ (bounds : badBoundsFor (profileOf (mapOf bytes)) (boundsOf bytes) ≡ false) where
-      pub payload-norm : badRadius (normOf bytes) ≡ true → first (payloadChecks bytes) accepted ≡ refused 23 0
-      payload-norm h = simp (eq-eqb _ _ sized, bounds, h)
+      pub frame-norm : badRadius (normOf bytes) ≡ true → first (frameChecks bytes) accepted ≡ refused 23 0
+      frame-norm h = simp (eq-eqb _ _ sized, bounds, h)
 
-      module _ (norm : badRadius (normOf bytes) ≡ false) {bad : ℕ} (found : bad ≡ place badRadius (radiiOf bytes)) where
-        pub payload-radius : bad < pairsOf bytes → first (payloadChecks bytes) accepted ≡ refused 16 bad
-        payload-radius h = rw (eq-eqb _ _ sized, bounds, norm, ← found, length-radiiOf, lt-ltb _ _ h)
+      pub frame-sound : badRadius (normOf bytes) ≡ false → first (frameChecks bytes) accepted ≡ accepted
+      frame-sound h = simp (eq-eqb _ _ sized, bounds, h)
 
-        pub payload-rest : pairsOf bytes ≤ bad → first (payloadChecks bytes) accepted ≡ first (paddingChecks bytes) accepted
-        payload-rest all = rw (eq-eqb _ _ sized, bounds, norm, ← found, length-radiiOf, le-ltb _ _ all)
+  -- ---- the radii
 
+  module _ {bad : ℕ} (found : bad ≡ place badRadius (radiiOf bytes)) where
+    pub payload-radius : bad < pairsOf bytes → first (radiiChecks bytes) accepted ≡ refused 16 bad
+    payload-radius h = rw (← found, length-radiiOf, lt-ltb _ _ h)
+
+    pub payload-rest : pairsOf bytes ≤ bad → first (radiiChecks bytes) accepted ≡ first (paddingChecks bytes) accepted
+    payload-rest all = rw (← found, length-radiiOf, le-ltb _ _ all)
+
+  module _ (sized : length bytes ≡ recordLength bytes) where
     -- ---- the padding
 
     pub padding-indices : {n p : ℕ} → validatePaddingZeroOf (indicesBytes bytes) (indicesUsed bytes) ≡ refused n p → first (paddingChecks bytes) accepted ≡ refused n p

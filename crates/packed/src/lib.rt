@@ -25,8 +25,8 @@ ghost use Rattle.float.specs.Bytes.{ofLeBytes};
 ghost use Rattle.packed.specs.Fields.{mapOf, hasNorm, profileOf, modeOf, boundsOf, projectionsOf, normOf};
 ghost use Rattle.packed.specs.Layout.{headerLength, headerOf};
 ghost use Rattle.packed.specs.Radii.{badBounds, badBoundsFor};
-ghost use Rattle.packed.specs.Reading.{saysReading, badMap, badRecordDimension, badPolarBits, shapeChecks, headerChecks, paddingChecks, payloadChecks, readRecordOf};
-ghost use Rattle.packed.specs.Inner.{Whole};
+ghost use Rattle.packed.specs.Reading.{saysReading, badMap, badRecordDimension, badPolarBits, shapeChecks, headerChecks, paddingChecks, readRecordOf};
+ghost use Rattle.packed.specs.Inner.{Whole, frameChecks, radiiChecks, readFrameOf, peekRecordOf};
 
 // The norm that a record is written with: none, or one that is stored.
 pub enum SourceNorm {
@@ -72,17 +72,32 @@ pub enum Reading {
 pub fn read_record(bytes: &[u8]) -> Reading
     ensures { λ r. ⌜ saysReading r ≡ readRecordOf (now (bytes .entry)) ⌝ }
 {
-    if bytes.len() == 0 {
-        return Reading::Withdrawn;
+    match read_frame(bytes) {
+        Reading::Read(header) => {
+            if let Outcome::Refused { number, place } = check_payloads(bytes, header) {
+                return Reading::Refused { number, place };
+            }
+            Reading::Read(header)
+        }
+        Reading::Refused { number, place } => Reading::Refused { number, place },
+        Reading::Withdrawn => Reading::Withdrawn,
     }
-    if let Outcome::Refused { number, place } = check_header(bytes) {
-        return Reading::Refused { number, place };
+}
+
+// Reads a record with no look at its radii: the answer is the reader's where no radius offends.
+pub fn peek_record(bytes: &[u8]) -> Reading
+    ensures { λ r. ⌜ saysReading r ≡ peekRecordOf (now (bytes .entry)) ⌝ }
+{
+    match read_frame(bytes) {
+        Reading::Read(header) => {
+            if let Outcome::Refused { number, place } = check_padding(bytes, header) {
+                return Reading::Refused { number, place };
+            }
+            Reading::Read(header)
+        }
+        Reading::Refused { number, place } => Reading::Refused { number, place },
+        Reading::Withdrawn => Reading::Withdrawn,
     }
-    let found = header_of(bytes);
-    if let Outcome::Refused { number, place } = check_payloads(bytes, found) {
-        return Reading::Refused { number, place };
-    }
-    Reading::Read(found)
 }
 
 // The checks of a dimension and of polar bits, in reading and in writing.
@@ -121,6 +136,23 @@ pub fn header_length(map: u8) -> usize
     ensures { λ r. ⌜ r ≡ headerLength map ⌝ }
 {
     6 + 8 * (map % 2) as usize + 4 * (map / 2 % 2) as usize + 4 * (map / 4 % 2) as usize
+}
+
+// The header of a record, where nothing offends but perhaps a payload.
+fn read_frame(bytes: &[u8]) -> Reading
+    ensures { λ r. ⌜ saysReading r ≡ readFrameOf (now (bytes .entry)) ⌝ }
+{
+    if bytes.len() == 0 {
+        return Reading::Withdrawn;
+    }
+    if let Outcome::Refused { number, place } = check_header(bytes) {
+        return Reading::Refused { number, place };
+    }
+    let found = header_of(bytes);
+    if let Outcome::Refused { number, place } = check_frame(bytes, found) {
+        return Reading::Refused { number, place };
+    }
+    Reading::Read(found)
 }
 
 // The checks of the header but for its range and its norm.
@@ -197,13 +229,11 @@ fn header_of(bytes: &[u8]) -> Header
     }
 }
 
-// The checks of the whole length, the range, the norm and the payloads.
-fn check_payloads(bytes: &[u8], header: Header) -> Outcome
-    requires { ⌜ (header ≡ headerOf (now bytes)) × (first (headerChecks (now bytes)) accepted ≡ accepted) ⌝ }
-    ensures { λ r. ⌜ says r ≡ first (payloadChecks (now (bytes .entry))) accepted ⌝ }
+// The checks of the whole length, the range and the norm.
+fn check_frame(bytes: &[u8], header: Header) -> Outcome
+    requires { ⌜ header ≡ headerOf (now bytes) ⌝ }
+    ensures { λ r. ⌜ says r ≡ first (frameChecks (now (bytes .entry))) accepted ⌝ }
 {
-    let radii = header.radii_start;
-    let indices = header.indices_start;
     if bytes.len() != header.end {
         return Outcome::Refused {
             number: MALFORMED_LENGTH,
@@ -226,6 +256,18 @@ fn check_payloads(bytes: &[u8], header: Header) -> Outcome
             place: 0,
         };
     }
+    Outcome::Done
+}
+
+// The checks of the payloads: the radii, then the padding.
+fn check_payloads(bytes: &[u8], header: Header) -> Outcome
+    requires { ⌜ Whole (now bytes) header ⌝ }
+    ensures { λ r. ⌜ says r ≡ first (radiiChecks (now (bytes .entry))) accepted ⌝ }
+{
+    let radii = header.radii_start;
+    let indices = header.indices_start;
+    let profile = header.profile;
+    let range = header.range;
     let bad = radius_reading::first_bad_payload(&bytes[radii..indices], profile, range);
     if bad < header.dim / 2 {
         return Outcome::Refused {

@@ -3,7 +3,7 @@ use Prim.Native.Nat.{ℕ, _-_, _*_, _≤_}
 use mathlib.Core.Path.{_≡_, sym, ap, _∙_}
 use mathlib.Core.Bool.{true, false}
 use mathlib.Core.List.{List, _++_}
-use borrow.Author.Tests.{eqb-true, eq-eqb, ne-eqb}
+use borrow.Author.Tests.{eq-eqb, ne-eqb}
 use lib.Dec.{eqb}
 use lib.ListN.{length, take}
 use lib.Ieee.{Float}
@@ -26,9 +26,6 @@ module _ (n : ℕ) (matrix query : List Float) (room : ℕ) where
   pub project-value : length query ≡ n → eqb (length matrix) (room * n) ≡ true → projectOf n matrix query room ≡ value (projected n room matrix query)
   unfolding projectOf
   project-value h e = simp (eq-eqb (length query) n h, e)
-
-  pub project-rowed : length query ≡ n → eqb (length matrix) (room * n) ≡ true → Rowed n matrix query room
-  project-rowed h e = record { query-long = h; matrix-long = eqb-true (length matrix) (room * n) e }
 
   -- where the query has a row's length, and the matrix as many rows as the output has entries, it is the projections
   pub project-ready : {m : ℕ} → room ≡ m → Rowed n matrix query m → projectOf n matrix query room ≡ value (projected n room matrix query)

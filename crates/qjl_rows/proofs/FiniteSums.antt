@@ -16,7 +16,8 @@ use Rattle.error.proofs.Places.{each-clear, each-none}
 use Rattle.rounding.proofs.Partial.{dot-finite}
 use Rattle.error.specs.Checks.{badValue}
 use Rattle.error.proofs.Finite.{finite-passes, passes-finite}
-use Rattle.qjl_rows.specs.Inner.{Rowed, onRow}
+use Rattle.qjl_sums.specs.Inner.{onRow}
+use Rattle.qjl_rows.specs.Inner.{Rowed}
 use Rattle.rounding.proofs.Rows.{length-projected, projected-row}
 use Rattle.rounding.specs.Rows.{projected}
 

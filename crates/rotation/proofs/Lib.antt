@@ -1,9 +1,7 @@
-pub mod Blocks
-pub mod Stages
-pub mod Ordered
 pub mod Powers
 pub mod Accepted
 pub mod Applied
 pub mod SignValues
 pub mod ErrorBound
 pub mod Examples
+pub mod Roots

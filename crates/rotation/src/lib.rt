@@ -10,17 +10,15 @@ use error::Outcome;
 use error::ROTATION_FAILED;
 use error::ZERO_DIMENSION;
 ghost use mathlib.Core.Path.{_≡_};
-ghost use Prim.Native.Nat.{_+_, _*_, _^_, _≤_};
+ghost use Prim.Native.Nat.{_≤_};
+ghost use lib.Count.{ones};
 ghost use lib.ListN.{length};
-ghost use lib.Ieee.{binary32, add, sub};
 ghost use Rattle.error.specs.Answer.{first, accepted, done, after};
 ghost use Rattle.error.specs.Outcomes.{says};
-ghost use Rattle.rounding.specs.Butterfly.{stage, stages};
 ghost use Rattle.rounding.specs.Sums.{products};
-ghost use Rattle.float.specs.Constants.{posZero};
 ghost use Rattle.rotation.specs.Checks.{badSign, firstBadSignOf, badPower, signChecks, rotationChecks};
-ghost use Rattle.rotation.specs.Rotation.{inverseRoot, scaled, hadamardOf, applyOf, applyInverseOf};
-ghost use Rattle.rotation.specs.Inner.{BlockDone, Stepped, Transformable};
+ghost use Rattle.rotation.specs.Rotation.{inverseRoot, scaled, hadamardOf, unrotated, applyOf, applyInverseOf};
+ghost use Rattle.rotation.specs.Inner.{Transformable};
 
 // Whether a dimension is no power of two, or above 4,096.
 pub fn outside_powers(dim: usize) -> bool
@@ -43,14 +41,12 @@ fn is_bad_sign(sign: f32) -> bool
 pub fn first_bad_sign(signs: &[f32]) -> usize
     ensures { λ r. ⌜ r ≡ firstBadSignOf (now (signs .entry)) ⌝ }
 {
-    let mut i = 0;
-    while i < signs.len() {
-        if is_bad_sign(signs[i]) {
-            return i;
+    if signs.len() <= 4096 {
+        if bad_signs(signs) == 0 {
+            return signs.len();
         }
-        i += 1;
     }
-    i
+    find_bad_sign(signs)
 }
 
 // The rotation of the input into the output: signs, butterflies, scale.
@@ -77,8 +73,20 @@ pub fn apply_inverse(dim: usize, signs: &[f32], input: &[f32], output: &mut [f32
         return Outcome::Refused { number, place };
     }
     float::copy_into(input, output);
-    hadamard(output, dim);
-    flip(output, signs);
+    turn_back(output, signs, dim);
+    Outcome::Done
+}
+
+// The inverse rotation of the values, in place.
+pub fn apply_inverse_within(dim: usize, signs: &[f32], values: &mut [f32]) -> Outcome
+    ensures { λ r. ⌜ says r ≡ done (applyInverseOf dim (now (signs .entry)) (now (values .entry)) (length (now (values .entry)))) ⌝ }
+    ensures { λ _. ⌜ now (values .exit) ≡ after (applyInverseOf dim (now (signs .entry)) (now (values .entry)) (length (now (values .entry)))) (now (values .entry)) ⌝ }
+{
+    let checked = check(dim, signs, values.len(), values.len());
+    if let Outcome::Refused { number, place } = checked {
+        return Outcome::Refused { number, place };
+    }
+    turn_back(values, signs, dim);
     Outcome::Done
 }
 
@@ -143,47 +151,34 @@ fn check_signs(dim: usize, signs: &[f32]) -> Outcome
     Outcome::Done
 }
 
-// The butterflies with step h of one block, the 2 h entries from start on.
-fn block(values: &mut [f32], start: usize, h: usize)
-    requires { ⌜ start + 2 * h ≤ length (now values) ⌝ }
-    ensures { λ _. ⌜ BlockDone h start (now (values .entry)) (now (values .exit)) ⌝ }
+// How many signs are neither -1 nor 1. The pass goes to the end and counts in 32 bits, so that it is done for several signs at a time.
+fn bad_signs(signs: &[f32]) -> u32
+    requires { ⌜ length (now signs) ≤ 4096 ⌝ }
+    ensures { λ r. ⌜ (r ≡ 0 → length (now (signs .entry)) ≡ firstBadSignOf (now (signs .entry))) ⌝ }
 {
-    let mut offset = 0;
-    while offset < h {
-        let low = start + offset;
-        let high = low + h;
-        let a = values[low];
-        let b = values[high];
-        values[low] = a + b;
-        values[high] = a - b;
-        offset += 1;
+    let mut bad = 0u32;
+    let mut i = 0;
+    while i < signs.len() {
+        if is_bad_sign(signs[i]) {
+            bad += 1;
+        }
+        i += 1;
     }
+    bad
 }
 
-// The butterflies with step h, in place.
-fn butterflies(values: &mut [f32], h: usize)
-    requires { ⌜ Stepped h (length (now values)) ⌝ }
-    ensures { λ _. ⌜ now (values .exit) ≡ stage (add binary32) (sub binary32) posZero h (now (values .entry)) ⌝ }
+// The index of the first sign that is neither -1 nor 1, found one by one, or how many signs there are.
+fn find_bad_sign(signs: &[f32]) -> usize
+    ensures { λ r. ⌜ r ≡ firstBadSignOf (now (signs .entry)) ⌝ }
 {
-    let mut start = 0;
-    while start < values.len() {
-        block(values, start, h);
-        start = start + 2 * h;
+    let mut i = 0;
+    while i < signs.len() {
+        if is_bad_sign(signs[i]) {
+            return i;
+        }
+        i += 1;
     }
-}
-
-// All stages of butterflies, in place: `count` of them, with steps 1, 2, 4 and on.
-fn transform(values: &mut [f32], count: u32)
-    requires { ⌜ (count ≤ 12) × (length (now values) ≡ 2 ^ count) ⌝ }
-    ensures { λ _. ⌜ now (values .exit) ≡ stages (add binary32) (sub binary32) posZero count 1 (now (values .entry)) ⌝ }
-{
-    let mut step = 1;
-    let mut left = count;
-    while 0 < left {
-        butterflies(values, step);
-        step = 2 * step;
-        left = left - 1;
-    }
+    i
 }
 
 // Each value times the factor, in place.
@@ -221,12 +216,27 @@ fn flip_into(input: &[f32], signs: &[f32], output: &mut [f32])
     }
 }
 
-// 1 / sqrt(dim), root and quotient each rounded once.
+// 1 / sqrt(dim), root and quotient each rounded once, for each power of two up to 4,096.
 fn inverse_root(dim: usize) -> f32
-    requires { ⌜ dim ≤ 4096 ⌝ }
+    requires { ⌜ (ones dim ≡ 1) × (dim ≤ 4096) ⌝ }
     ensures { λ r. ⌜ r ≡ inverseRoot dim ⌝ }
 {
-    1.0 / float::sqrt(dim as f32)
+    let roots = [
+        1.0f32,
+        0.70710677,
+        0.5,
+        0.35355338,
+        0.25,
+        0.17677669,
+        0.125,
+        0.088388346,
+        0.0625,
+        0.044194173,
+        0.03125,
+        0.022097087,
+        0.015625,
+    ];
+    roots[usize::trailing_zeros(dim) as usize]
 }
 
 // The normalized transform of dim values, in place.
@@ -234,6 +244,15 @@ fn hadamard(values: &mut [f32], dim: usize)
     requires { ⌜ Transformable dim (length (now values)) ⌝ }
     ensures { λ _. ⌜ now (values .exit) ≡ hadamardOf dim (now (values .entry)) ⌝ }
 {
-    transform(values, usize::trailing_zeros(dim));
+    rotation_stages::transform(values, usize::trailing_zeros(dim));
     scale_by(values, inverse_root(dim));
+}
+
+// The inverse rotation of dim values, in place, where nothing offends.
+fn turn_back(values: &mut [f32], signs: &[f32], dim: usize)
+    requires { ⌜ Transformable dim (length (now values)) × (length (now signs) ≡ length (now values)) ⌝ }
+    ensures { λ _. ⌜ now (values .exit) ≡ unrotated dim (now (signs .entry)) (now (values .entry)) ⌝ }
+{
+    hadamard(values, dim);
+    flip(values, signs);
 }

@@ -11,7 +11,7 @@ use Rattle.rounding.specs.Sums.{running, products}
 use Rattle.rounding.proofs.Finite.{add-finite, mul-finite}
 
 -- a running sum that ends finite was finite where it began
-running-start : (acc : Float) (vs : List Float) → T (finite (running acc vs)) → T (finite acc)
+pub running-start : (acc : Float) (vs : List Float) → T (finite (running acc vs)) → T (finite acc)
 unfolding running
 running-start acc [] t = t
 running-start acc (v ∷ vs) t = add-finite binary32 acc v (running-start (add binary32 acc v) vs t) .0

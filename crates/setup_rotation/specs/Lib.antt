@@ -1,1 +1,2 @@
 pub mod Rotations
+pub mod Inner

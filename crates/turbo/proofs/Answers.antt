@@ -3,6 +3,7 @@ use Prim.Native.Nat.{ℕ, _≤_, _<_}
 use mathlib.Core.Path.{_≡_, refl, sym, ap, _∙_}
 use mathlib.Core.Bool.{true, false}
 use mathlib.Core.List.{List, [], _∷_, _++_}
+use native.Mathlib.Omega.{arith}
 use borrow.Author.Tests.{eq-eqb, ne-eqb}
 use lib.ListN.{length}
 use lib.Ieee.{Float, binary32, add}
@@ -25,15 +26,20 @@ use Rattle.setup_tables.specs.Checks.{tableChecks, setupChecks, directionChecks
 use Rattle.qjl_residual.specs.Residual.{residualOf}
 use Rattle.qjl.specs.Sketch.{vectorChecks}
 use Rattle.packed.specs.Fields.{normOf}
-use Rattle.packed.specs.Reading.{unlessWithdrawn, radiiOf, signsOf}
-use Rattle.packed.proofs.Withdrawn.{unless-none, unless-some, unless-value, unless-refused, unless-withdrawn}
+use Rattle.packed.specs.declared.Header.{Header}
+use Rattle.packed.specs.Layout.{pairsOf, headerOf}
+use Rattle.packed.specs.Reading.{unlessWithdrawn, recordChecks, readRecordOf, readRadiiOf, radiiOf, signsOf}
+use Rattle.packed.proofs.Accepted.{read-header}
+use Rattle.packed.proofs.Parts.{header-pairs}
+use Rattle.packed_values.proofs.Scratch.{read-pairs-most}
+use Rattle.packed.proofs.Withdrawn.{unless-none, unless-some, unless-value, unless-refused, unless-withdrawn, read-passed}
 use Rattle.turbo_order.specs.Account.{hadamardAccount, storedAccount}
 use Rattle.turbo_order.specs.Scores.{accountOf, scoreFrom, scoreOf}
 use Rattle.turbo_order.proofs.Within.{polarPart}
 use Rattle.turbo_query.specs.Query.{rotatedQuery, projectedQuery, finiteChecks, queryChecks, prepareChecks, prepareRotatedOf, prepareProjectedOf}
 use Rattle.turbo_opening.specs.Opening.{contentOf}
-use Rattle.turbo.specs.Scoring.{recordScore, readingChecks, sinceReading}
-use Rattle.turbo.specs.Inner.{joined, recordScoreOf, valueChecks}
+use Rattle.turbo_record.specs.Scoring.{recordScore, readingChecks, sinceReading, recordScoreOf}
+use Rattle.turbo.specs.Inner.{joined, valueChecks}
 use Rattle.turbo.specs.Estimates.{innerProductEstimatePhasedOf, estimate, whereScored, innerProductEstimateOf, preparedChecks, innerProductEstimatePreparedOf, lengthsAndValues}
 use Rattle.turbo_distance.specs.Distance.{distanceFromScoreOf}
 use Rattle.turbo.specs.Distance.{l2DistanceEstimateOf}
@@ -225,3 +231,15 @@ module _ (s : Setup) (l : Lent) (query : List Float) (bytes : List ℕ) where
   distance-scored e =
       behind-scored (distanceFromScoreOf query (radiiOf bytes) (estimate s l query bytes)) e
       ∙ ap (distanceFromScoreOf query (radiiOf bytes)) (scored-estimate s l query bytes e)
+
+-- ---- the radii of a record that is read, in room of their number
+
+module _ (bytes : List ℕ) {header : Header} (read : readRecordOf bytes ≡ value header) where
+  pub pairs-most : pairsOf bytes ≤ 2048
+  pairs-most = omega (arith, header-pairs bytes (read-header bytes read), read-pairs-most bytes read)
+
+  pub radii-read : {room : ℕ} → room ≡ pairsOf bytes → readRadiiOf bytes room ≡ value (radiiOf bytes)
+  unfolding readRadiiOf
+  radii-read {room} e =
+      let passed = read-passed bytes read in
+      unless-some bytes _ (passed .0) ∙ append-passed (recordChecks bytes) (wrongRoom room (pairsOf bytes) ∷ []) (headerOf bytes) (value (radiiOf bytes)) (passed .1) ∙ simp (eq-eqb room (pairsOf bytes) e)

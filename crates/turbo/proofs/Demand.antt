@@ -33,8 +33,9 @@ use Rattle.turbo_query.specs.Query.{finiteChecks, queryChecks}
 use Rattle.turbo_opening.specs.Opening.{contentOf, openChecks}
 use Rattle.turbo_opening.specs.Inner.{openedOf}
 use Rattle.turbo_opening.proofs.Answers.{opened-accepted, opened-dim, opened-projections}
-use Rattle.turbo.specs.Scoring.{readingChecks}
+use Rattle.turbo_record.specs.Scoring.{sinceReading}
 use Rattle.turbo.specs.Estimates.{estimate, innerProductEstimateOf}
+use Rattle.turbo.proofs.Since.{since-open, since-pairs, since-value, since-finite}
 use Rattle.turbo.specs.Order.{IsScored, atScale, exactOf, boundFor, Demand}
 
 -- ---- a record that is scored
@@ -48,32 +49,22 @@ module _ (s : Setup) (l : Lent) (query : List Float) (bytes : List ℕ) {x : Flo
   scored-vector : first (vectorChecks s l query) accepted ≡ accepted
   scored-vector = append-left (vectorChecks s l query) (finiteChecks s l query) accepted scored-query
 
-  -- the record has bytes, and the checks from its reading on pass
-  scored-rest : (isWithdrawn bytes ≡ false) × (first (readingChecks s bytes (estimate s l query bytes)) (value (estimate s l query bytes)) ≡ value x)
+  -- from its reading on the record is answered a value
+  scored-since : sinceReading s bytes (estimate s l query bytes) (value (estimate s l query bytes)) ≡ value x
   unfolding innerProductEstimateOf
-  scored-rest = unless-value bytes (first (readingChecks s bytes (estimate s l query bytes)) (value (estimate s l query bytes))) (first-ends (queryChecks s l query) _ scored)
+  scored-since = first-ends (queryChecks s l query) _ scored
 
-  -- the record is opened, which needs every check of the reader
   pub scored-open : openedOf s bytes ≡ value (headerOf bytes)
-  unfolding openedOf
-  scored-open =
-      unless-some bytes _ (scored-rest .0)
-      ∙ first-passed (openChecks s bytes) (value (headerOf bytes)) (append-left (openChecks s bytes) (wrongScore (estimate s l query bytes) ∷ []) (value (estimate s l query bytes)) (scored-rest .1))
+  scored-open = since-open s bytes (estimate s l query bytes) scored-since
 
-  -- two coordinates for each radius
   pub scored-pairs : 2 * length (radiiOf bytes) ≡ s .dim
-  scored-pairs = omega (arith, length-radiiOf bytes, opened-accepted s bytes scored-open .even, opened-dim s bytes scored-open)
+  scored-pairs = since-pairs s bytes (estimate s l query bytes) scored-since
 
-  -- what is answered is the record's score
   pub scored-estimate : estimate s l query bytes ≡ x
-  scored-estimate = first-value (readingChecks s bytes (estimate s l query bytes)) (estimate s l query bytes) (scored-rest .1)
+  scored-estimate = since-value s bytes (estimate s l query bytes) scored-since
 
-  -- '12: a score .. is not finite' is not answered
   pub scored-finite : T (finite (estimate s l query bytes))
-  scored-finite =
-      let last = append-right (openChecks s bytes) (wrongScore (estimate s l query bytes) ∷ []) (value (estimate s l query bytes)) (scored-rest .1) in
-      let known = not-false (finite (estimate s l query bytes)) (first-passes (wrongScore (estimate s l query bytes) ∷ []) (estimate s l query bytes) last .0) in
-      rw known tt
+  scored-finite = since-finite s bytes (estimate s l query bytes) scored-since
 
   module _ (rotation-fit : AllFit (l .rotation)) (directions-fit : AllFit (l .directions)) (matrix-fit : AllFit (l .matrix)) (query-fit : AllFit query) where
     scored-sound : Sound (s .dim) (accountOf s l query)

@@ -1,6 +1,6 @@
-pub mod Scoring
 pub mod Demand
 pub mod Answers
 pub mod Turned
+pub mod Since
+pub mod Hidden
 pub mod Prepared
-pub mod Front

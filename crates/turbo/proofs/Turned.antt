@@ -22,7 +22,8 @@ use Rattle.turbo_turn.specs.Turning.{spaceChecks, turnedChecks, turnRotatedOf, 
 use Rattle.turbo_turn.proofs.Turned.{space-passed, turned-done, turned-rotated, turned-projected}
 use Rattle.turbo_query.specs.Query.{rotatedQuery, projectedQuery, finiteChecks, queryChecks}
 use Rattle.turbo_query.proofs.Answers.{turned-queried}
-use Rattle.turbo.specs.Inner.{recordScoreOf, valueChecks, Turned, Clean}
+use Rattle.turbo.specs.Inner.{valueChecks, Turned, Clean}
+use Rattle.turbo_record.specs.Scoring.{recordScoreOf}
 use Rattle.turbo.specs.Estimates.{innerProductEstimatePhasedOf}
 use Rattle.turbo.proofs.Answers.{phased-passed}
 

@@ -17,7 +17,7 @@ use Rattle.turbo_query.specs.Query.{queryChecks}
 use Rattle.turbo_opening.specs.Opening.{contentOf}
 use Rattle.turbo.specs.declared.Phased.{Phased}
 use Rattle.turbo.specs.declared.Phased.the-variants.{Score, BeforeReading, FromReading, Withdrawn}
-use Rattle.turbo.specs.Scoring.{recordScore, sinceReading}
+use Rattle.turbo_record.specs.Scoring.{recordScore, sinceReading}
 
 -- ---- by a query
 

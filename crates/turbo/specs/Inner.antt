@@ -3,39 +3,21 @@ use Prim.Native.Nat.{ℕ}
 use mathlib.Core.Path.{_≡_}
 use mathlib.Core.Bool.{true}
 use mathlib.Core.List.{List, [], _∷_}
-use lib.ListN.{length, take}
 use lib.Ieee.{Float}
 use Rattle.error.specs.Answer.{Answer, value, refused, withdrawn, Check, first, each, accepted, clear}
 use Rattle.error.specs.Checks.{badValue}
 use Rattle.setup.specs.Lent.{Lent}
 use Rattle.setup.specs.Setups.{countedProjectionsOf}
+use Rattle.setup.specs.Checks.{scalarChecks}
+use Rattle.setup_tables.specs.Checks.{directionChecks}
 use Rattle.turbo_query.specs.Query.{rotatedQuery, projectedQuery, queryChecks}
 use Rattle.setup.specs.declared.Setup.{Setup}
-use Rattle.packed.specs.Reading.{radiiOf}
-use Rattle.turbo.specs.declared.Phased.{Phased}
-use Rattle.turbo.specs.declared.Phased.the-variants.{Score, BeforeReading, FromReading, Withdrawn}
-use Rattle.turbo.specs.Scoring.{recordScore, sinceReading}
-
--- The radii of a record stand in front of the memory that was lent for them, `radii`.
-abbrev pub RadiiInFront : List ℕ → List Float → Type 0
-RadiiInFront bytes radii = take (length (radiiOf bytes)) radii ≡ radiiOf bytes
-
--- They do where a score is answered; else nothing is said.
-abbrev pub RadiiLeft : Phased → List ℕ → List Float → Type 0
-RadiiLeft (Score x) bytes radii = RadiiInFront bytes radii
-RadiiLeft (BeforeReading n p) bytes radii = Unit {0}
-RadiiLeft (FromReading n p) bytes radii = Unit {0}
-RadiiLeft Withdrawn bytes radii = Unit {0}
 
 -- This is an answer without the phase of its refusal.
 abbrev pub joined : {A : Type 0} → Answer (Answer A) → Answer A
 joined (value a) = a
 joined (refused n p) = refused n p
 joined withdrawn = withdrawn
-
--- This is the answer from record reading on, by a query that is rotated and projected.
-unfoldable pub recordScoreOf : Setup → List Float → List Float → List Float → List ℕ → Answer Float
-recordScoreOf s directions rotated projected bytes = sinceReading s bytes (recordScore s directions rotated projected bytes) (value (recordScore s directions rotated projected bytes))
 
 -- 'rotated 11, projected 11': the values of the query rotated, then those of the query projected.
 abbrev pub valueChecks : List Float → List Float → List Check
@@ -56,3 +38,10 @@ pub record Clean (said : Answer (Unit {0})) (rotated projected : List Float) : T
   pub done-said : said ≡ accepted
   pub rotated-clean : clear badValue rotated ≡ true
   pub projected-clean : clear badValue projected ≡ true
+
+-- The scalars and the directions pass, and the lengths of a prepared query are the setup's.
+pub record Lengths (s : Setup) (directions : List Float) (rotated projected : ℕ) : Type 0 where
+  pub scalars : first (scalarChecks s) accepted ≡ accepted
+  pub table : first (directionChecks s directions) accepted ≡ accepted
+  pub rotated-long : rotated ≡ s .dim
+  pub projected-long : projected ≡ countedProjectionsOf s

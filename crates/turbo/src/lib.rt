@@ -1,17 +1,12 @@
 // Scores of a record, by a query or by a prepared one, and the distance of a record from a query.
 // Ported from turbo-quant/src/turbo.rs and changed: the setup is lent and checked at each call, the code is a record's bytes, and an error is a number
 // and a place; of a withdrawn position no score is answered.
-// A header holds a `radius::Range`, so crates.txt names that crate beside those whose calls are made.
 
 use error::DIMENSION_MISMATCH;
 use error::NON_FINITE_INPUT;
-use error::NON_FINITE_SCORE;
 use error::Outcome;
 use error::Scored;
-use packed::Header;
-use packed::Reading;
 use setup::Setup;
-use setup::TurboMode;
 ghost use mathlib.Core.Path.{_≡_};
 ghost use mathlib.Core.Bool.{true};
 ghost use lib.ListN.{length};
@@ -19,15 +14,12 @@ ghost use Rattle.error.specs.Answer.{value, first, accepted};
 ghost use Rattle.error.specs.Outcomes.{says, saysScore};
 ghost use Rattle.setup.specs.Lent.{lent};
 ghost use Rattle.setup.specs.Checks.{scalarChecks};
-ghost use Rattle.polar.specs.Polar.{polarSumOf};
-ghost use Rattle.qjl_residual.specs.Residual.{residualOf};
-ghost use Rattle.packed.specs.Fields.{projectionsOf, normOf};
-ghost use Rattle.packed.specs.Reading.{readRecordOf, radiiOf, indicesOf, signsOf};
-ghost use Rattle.turbo_opening.specs.Inner.{openedOf};
-ghost use Rattle.turbo.specs.Scoring.{recordScore};
+ghost use Rattle.packed.specs.Layout.{pairsOf, headerOf};
+ghost use Rattle.packed.specs.Reading.{readRecordOf, radiiOf};
+ghost use Rattle.turbo_distance.specs.Distance.{distanceFromScoreOf};
 ghost use Rattle.turbo.specs.Estimates.{innerProductEstimateOf, saysPhased, innerProductEstimatePhasedOf, preparedChecks, innerProductEstimatePreparedOf, lengthsAndValues};
 ghost use Rattle.turbo.specs.Distance.{l2DistanceEstimateOf};
-ghost use Rattle.turbo.specs.Inner.{RadiiInFront, RadiiLeft, joined, recordScoreOf, valueChecks, Fitting, Turned, Clean};
+ghost use Rattle.turbo.specs.Inner.{joined, valueChecks, Fitting, Turned, Clean, Lengths};
 ghost use Rattle.turbo.specs.Order.{Demand};
 ghost use Rattle.turbo.specs.Prepared.{Prepared};
 
@@ -67,16 +59,10 @@ pub fn inner_product_estimate_phased(
 ) -> Phased
     ensures { λ r. ⌜ saysPhased r ≡ innerProductEstimatePhasedOf setup (lent (now (rotation .entry)) (now (directions .entry)) (now (matrix .entry))) (now (query .entry)) (now (bytes .entry)) ⌝ }
 {
-    let mut radii = no_radii();
-    measure(
-        setup,
-        rotation,
-        directions,
-        matrix,
-        query,
-        bytes,
-        &mut radii,
-    )
+    match setup::check_scalars(setup) {
+        Outcome::Done => measure_query(setup, rotation, directions, matrix, query, bytes),
+        Outcome::Refused { number, place } => Phased::BeforeReading { number, place },
+    }
 }
 
 // The estimated inner product by a query that is prepared, which needs neither what the rotation is lent nor the matrix. A withdrawn position is told
@@ -91,12 +77,17 @@ pub fn inner_product_estimate_prepared(
     ensures said { λ r. ⌜ saysScore r ≡ innerProductEstimatePreparedOf setup (now (directions .entry)) (now (rotated .entry)) (now (projected .entry)) (now (bytes .entry)) ⌝ }
     ensures ordered { λ r. ⌜ Prepared setup (now (directions .entry)) (now (rotated .entry)) (now (projected .entry)) ⌝ }
 {
+    if is_fitting(setup, directions, rotated.len(), projected.len()) {
+        let scored = turbo_record::record_score(setup, directions, rotated, projected, bytes);
+        if let Scored::Score(score) = scored {
+            return Scored::Score(score);
+        }
+    }
     let checked = check_prepared(setup, directions, rotated, projected);
     if let Outcome::Refused { number, place } = checked {
         return Scored::Refused { number, place };
     }
-    let mut radii = no_radii();
-    without_phase(record_score(setup, directions, rotated, projected, bytes, &mut radii))
+    turbo_record::record_score(setup, directions, rotated, projected, bytes)
 }
 
 // The estimated squared distance of a query from the vector that a record stands for; of a withdrawn position that it is withdrawn, where scoring says so.
@@ -110,46 +101,24 @@ pub fn l2_distance_estimate(
 ) -> Scored
     ensures { λ r. ⌜ saysScore r ≡ l2DistanceEstimateOf setup (lent (now (rotation .entry)) (now (directions .entry)) (now (matrix .entry))) (now (query .entry)) (now (bytes .entry)) ⌝ }
 {
-    let pairs = setup.dim / 2;
-    let mut radii = no_radii();
-    match without_phase(measure(
-        setup,
-        rotation,
-        directions,
-        matrix,
-        query,
-        bytes,
-        &mut radii,
-    )) {
-        Scored::Score(score) => {
-            turbo_distance::distance_from_score(query, &radii[0..pairs], score)
-        }
+    match inner_product_estimate(setup, rotation, directions, matrix, query, bytes) {
+        Scored::Score(score) => distance_by(query, bytes, setup.dim / 2, score),
         Scored::Refused { number, place } => Scored::Refused { number, place },
         Scored::Withdrawn => Scored::Withdrawn,
     }
 }
 
-// The score by a query; beside a score, the radii of the record are left in front of the room that is lent for them.
-fn measure(
-    setup: Setup,
-    rotation: &[f32],
-    directions: &[f32],
-    matrix: &[f32],
-    query: &[f32],
-    bytes: &[u8],
-    radii: &mut [f32],
-) -> Phased
-    requires { ⌜ length (now radii) ≡ 2048 ⌝ }
-    ensures said { λ r. ⌜ saysPhased r ≡ innerProductEstimatePhasedOf setup (lent (now (rotation .entry)) (now (directions .entry)) (now (matrix .entry))) (now (query .entry)) (now (bytes .entry)) ⌝ }
-    ensures left { λ r. ⌜ RadiiLeft r (now (bytes .entry)) (now (radii .exit)) ⌝ }
+// The distance by the score and by the radii of a record that is read, of which there are so many.
+fn distance_by(query: &[f32], bytes: &[u8], pairs: usize, score: f32) -> Scored
+    requires { ⌜ (readRecordOf (now bytes) ≡ value (headerOf (now bytes))) × (pairs ≡ pairsOf (now bytes)) ⌝ }
+    ensures { λ r. ⌜ saysScore r ≡ distanceFromScoreOf (now (query .entry)) (radiiOf (now (bytes .entry))) score ⌝ }
 {
-    match setup::check_scalars(setup) {
-        Outcome::Done => measure_query(setup, rotation, directions, matrix, query, bytes, radii),
-        Outcome::Refused { number, place } => Phased::BeforeReading { number, place },
-    }
+    let mut radii = no_radii();
+    packed_values::read_radii(bytes, &mut radii[0..pairs]);
+    turbo_distance::distance_from_score(query, &radii[0..pairs], score)
 }
 
-// What `measure` answers and leaves, under a setup whose scalars have passed: the query is turned in room for as many values as it has.
+// What `inner_product_estimate_phased` answers under a setup whose scalars have passed: the query is turned in room for as many values as it has.
 fn measure_query(
     setup: Setup,
     rotation: &[f32],
@@ -157,11 +126,9 @@ fn measure_query(
     matrix: &[f32],
     query: &[f32],
     bytes: &[u8],
-    radii: &mut [f32],
 ) -> Phased
-    requires { ⌜ (first (scalarChecks setup) accepted ≡ accepted) × (length (now radii) ≡ 2048) ⌝ }
-    ensures said { λ r. ⌜ saysPhased r ≡ innerProductEstimatePhasedOf setup (lent (now (rotation .entry)) (now (directions .entry)) (now (matrix .entry))) (now (query .entry)) (now (bytes .entry)) ⌝ }
-    ensures left { λ r. ⌜ RadiiLeft r (now (bytes .entry)) (now (radii .exit)) ⌝ }
+    requires { ⌜ first (scalarChecks setup) accepted ≡ accepted ⌝ }
+    ensures { λ r. ⌜ saysPhased r ≡ innerProductEstimatePhasedOf setup (lent (now (rotation .entry)) (now (directions .entry)) (now (matrix .entry))) (now (query .entry)) (now (bytes .entry)) ⌝ }
 {
     let dim = setup.dim;
     let rows = setup::counted_projections(setup);
@@ -175,7 +142,6 @@ fn measure_query(
             matrix,
             query,
             bytes,
-            radii,
             &mut rotated[0..dim],
             &mut projected[0..rows],
         );
@@ -189,13 +155,12 @@ fn measure_query(
         matrix,
         query,
         bytes,
-        radii,
         &mut rotated[0..dim],
         &mut projected[0..rows],
     )
 }
 
-// What `measure` answers and leaves, with room of just their lengths for the query rotated and projected.
+// The same, with room of just their lengths for the query rotated and projected.
 fn measure_within(
     setup: Setup,
     rotation: &[f32],
@@ -203,19 +168,17 @@ fn measure_within(
     matrix: &[f32],
     query: &[f32],
     bytes: &[u8],
-    radii: &mut [f32],
     rotated: &mut [f32],
     projected: &mut [f32],
 ) -> Phased
-    requires { ⌜ (first (scalarChecks setup) accepted ≡ accepted) × ((length (now radii) ≡ 2048) × Fitting setup (length (now rotated)) (length (now projected))) ⌝ }
-    ensures said { λ r. ⌜ saysPhased r ≡ innerProductEstimatePhasedOf setup (lent (now (rotation .entry)) (now (directions .entry)) (now (matrix .entry))) (now (query .entry)) (now (bytes .entry)) ⌝ }
-    ensures left { λ r. ⌜ RadiiLeft r (now (bytes .entry)) (now (radii .exit)) ⌝ }
+    requires { ⌜ (first (scalarChecks setup) accepted ≡ accepted) × Fitting setup (length (now rotated)) (length (now projected)) ⌝ }
+    ensures { λ r. ⌜ saysPhased r ≡ innerProductEstimatePhasedOf setup (lent (now (rotation .entry)) (now (directions .entry)) (now (matrix .entry))) (now (query .entry)) (now (bytes .entry)) ⌝ }
 {
     let turned = turn(setup, rotation, directions, matrix, query, rotated, projected);
     if let Outcome::Refused { number, place } = turned {
         return Phased::BeforeReading { number, place };
     }
-    record_score(setup, directions, rotated, projected, bytes, radii)
+    from_reading(turbo_record::record_score(setup, directions, rotated, projected, bytes))
 }
 
 // The query rotated and projected into room of just their lengths, and all its checks. Finite values tell that nothing of the query offends; else it goes check by
@@ -299,90 +262,33 @@ fn is_clean(outcome: Outcome, rotated: &[f32], projected: &[f32]) -> bool
     }
 }
 
-// The score of a record under a setup whose scalars have passed, by a query that is rotated and projected.
-fn record_score(
-    setup: Setup,
-    directions: &[f32],
-    rotated: &[f32],
-    projected: &[f32],
-    bytes: &[u8],
-    radii: &mut [f32],
-) -> Phased
-    requires { ⌜ (first (scalarChecks setup) accepted ≡ accepted) × (length (now radii) ≡ 2048) ⌝ }
-    ensures said { λ r. ⌜ saysPhased r ≡ value (recordScoreOf setup (now (directions .entry)) (now (rotated .entry)) (now (projected .entry)) (now (bytes .entry))) ⌝ }
-    ensures left { λ r. ⌜ RadiiLeft r (now (bytes .entry)) (now (radii .exit)) ⌝ }
+// An answer from record reading on, with its phase.
+fn from_reading(scored: Scored) -> Phased
+    ensures { λ r. ⌜ saysPhased r ≡ value (saysScore scored) ⌝ }
 {
-    match turbo_opening::open_record(setup, bytes) {
-        Reading::Read(header) => {
-            let score = opened_score(setup, directions, rotated, projected, bytes, header, radii);
-            if float::is_finite(score) {
-                return Phased::Score(score);
-            }
-            Phased::FromReading {
-                number: NON_FINITE_SCORE,
-                place: 0,
-            }
-        }
-        Reading::Refused { number, place } => Phased::FromReading { number, place },
-        Reading::Withdrawn => Phased::Withdrawn,
+    match scored {
+        Scored::Score(score) => Phased::Score(score),
+        Scored::Refused { number, place } => Phased::FromReading { number, place },
+        Scored::Withdrawn => Phased::Withdrawn,
     }
 }
 
-// The score of a record that is opened, by the header that was read from it: the polar sum, and with a residual the sum of both.
-fn opened_score(
-    setup: Setup,
-    directions: &[f32],
-    rotated: &[f32],
-    projected: &[f32],
-    bytes: &[u8],
-    header: Header,
-    radii: &mut [f32],
-) -> f32
-    requires { ⌜ (openedOf setup (now bytes) ≡ value header) × (length (now radii) ≡ 2048) ⌝ }
-    ensures scored { λ r. ⌜ r ≡ recordScore setup (now (directions .entry)) (now (rotated .entry)) (now (projected .entry)) (now (bytes .entry)) ⌝ }
-    ensures left { λ _. ⌜ RadiiInFront (now (bytes .entry)) (now (radii .exit)) ⌝ }
+// Whether the checks of a prepared query pass but for those of its values.
+fn is_fitting(setup: Setup, directions: &[f32], rotated: usize, projected: usize) -> bool
+    ensures { λ r. ⌜ (r ≡ true → Lengths setup (now (directions .entry)) rotated projected) ⌝ }
 {
-    let polar = polar_part(directions, rotated, bytes, header, radii);
-    let mode = setup.mode;
-    match mode {
-        TurboMode::PolarOnly => polar,
-        TurboMode::PolarWithQjl => polar + residual_part(projected, bytes, header),
+    let scalars = setup::check_scalars(setup);
+    if let Outcome::Refused { number, place } = scalars {
+        return false;
     }
-}
-
-// The polar sum of a record, by the header that was read from it.
-fn polar_part(
-    directions: &[f32],
-    rotated: &[f32],
-    bytes: &[u8],
-    header: Header,
-    radii: &mut [f32],
-) -> f32
-    requires { ⌜ (readRecordOf (now bytes) ≡ value header) × (length (now radii) ≡ 2048) ⌝ }
-    ensures summed { λ r. ⌜ r ≡ polarSumOf (now (rotated .entry)) (now (directions .entry)) (indicesOf (now (bytes .entry))) (radiiOf (now (bytes .entry))) ⌝ }
-    ensures left { λ _. ⌜ RadiiInFront (now (bytes .entry)) (now (radii .exit)) ⌝ }
-{
-    let pairs = header.dim / 2;
-    let mut indices = no_indices();
-    packed_values::radii_at(bytes, header, &mut radii[0..pairs]);
-    packed_values::indices_at(bytes, header, &mut indices[0..pairs]);
-    polar::polar_sum(rotated, directions, &indices[0..pairs], &radii[0..pairs])
-}
-
-// The residual of a record, by the header that was read from it, with the record's own norm.
-fn residual_part(projected: &[f32], bytes: &[u8], header: Header) -> f32
-    requires { ⌜ readRecordOf (now bytes) ≡ value header ⌝ }
-    ensures { λ r. ⌜ r ≡ residualOf (projectionsOf (now (bytes .entry))) (normOf (now (bytes .entry))) (now (projected .entry)) (signsOf (now (bytes .entry))) ⌝ }
-{
-    let projections = header.projections;
-    let mut signs = no_signs();
-    packed_values::signs_at(bytes, header, &mut signs[0..projections]);
-    qjl_residual::residual(
-        projections as u16,
-        header.norm,
-        projected,
-        &signs[0..projections],
-    )
+    let table = setup_tables::check_directions(setup, directions);
+    if let Outcome::Refused { number, place } = table {
+        return false;
+    }
+    if rotated != setup.dim {
+        return false;
+    }
+    projected == setup::counted_projections(setup)
 }
 
 // The checks of a prepared query: the scalars of the setup and its directions, both lengths, and that every value is finite.
@@ -467,14 +373,4 @@ fn without_phase(phased: Phased) -> Scored
         Phased::FromReading { number, place } => Scored::Refused { number, place },
         Phased::Withdrawn => Scored::Withdrawn,
     }
-}
-
-// Room for the indices of a record, of which there are at most 2,048.
-fn no_indices() -> [u16; 2048] {
-    [0u16; 2048]
-}
-
-// Room for the signs of a record, of which there are at most 4,096.
-fn no_signs() -> [i8; 4096] {
-    [0i8; 4096]
 }

@@ -27,7 +27,7 @@ use Rattle.turbo_opening.specs.Opening.{matchChecks, openRecordOf}
 use Rattle.turbo_opening.proofs.Answers.{opened-dim}
 use Rattle.turbo_decode.specs.Decode.{decoded, decodeApproximateOf}
 use Rattle.turbo_distance.specs.Distance.{distanceFromScoreOf}
-use Rattle.turbo.specs.Scoring.{recordScore}
+use Rattle.turbo_record.specs.Scoring.{recordScore}
 use Rattle.turbo.specs.Estimates.{lengthsAndValues, innerProductEstimateOf, innerProductEstimatePhasedOf, innerProductEstimatePreparedOf}
 use Rattle.turbo.specs.Distance.{l2DistanceEstimateOf}
 use Rattle.turbo.specs.Order.{IsScored}

@@ -16,7 +16,7 @@ use Rattle.packed.proofs.Withdrawn.{some-bytes, unless-some}
 use Rattle.turbo_query.specs.Query.{queryChecks}
 use Rattle.turbo_opening.specs.Opening.{openChecks, openRecordOf}
 use Rattle.turbo_decode.specs.Decode.{decodeChecks, decodeApproximateOf}
-use Rattle.turbo.specs.Scoring.{recordScore, readingChecks}
+use Rattle.turbo_record.specs.Scoring.{recordScore, readingChecks}
 use Rattle.turbo.specs.Estimates.{estimate, innerProductEstimateOf, innerProductEstimatePhasedOf, preparedChecks, innerProductEstimatePreparedOf}
 use Rattle.turbo.specs.Distance.{l2DistanceEstimateOf}
 use Rattle.turbo.specs.Order.{IsScored}

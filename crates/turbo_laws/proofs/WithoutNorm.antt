@@ -33,7 +33,7 @@ use Rattle.packed.specs.declared.Header.{Header}
 use Rattle.packed.specs.Layout.{headerOf}
 use Rattle.turbo_opening.specs.Opening.{matchChecks, openRecordOf}
 use Rattle.turbo_distance.specs.Distance.{distanceFromScoreOf}
-use Rattle.turbo.specs.Scoring.{recordScore, sinceReading}
+use Rattle.turbo_record.specs.Scoring.{recordScore, sinceReading}
 use Rattle.setup_tables.specs.Checks.{setupChecks}
 use Rattle.turbo_decode.specs.Decode.{decoded, decodeApproximateOf}
 use Rattle.turbo.specs.Estimates.{estimate, innerProductEstimateOf, innerProductEstimatePhasedOf, preparedChecks, innerProductEstimatePreparedOf}

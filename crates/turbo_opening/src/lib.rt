@@ -52,7 +52,7 @@ fn hold_against(setup: Setup, bytes: &[u8]) -> Reading
 }
 
 // Whether a record's bits or projections are not the setup's.
-fn other_match(setup: Setup, bits: u8, projections: usize) -> bool
+pub fn other_match(setup: Setup, bits: u8, projections: usize) -> bool
     ensures { λ r. ⌜ r ≡ badMatch setup bits projections ⌝ }
 {
     bits != setup::polar_bits(setup) || projections != setup::counted_projections(setup)

@@ -46,9 +46,13 @@ pub struct Sketch {
     pub vector: Vec<f32>,
 }
 
-/// One setup with a query and a code: dimension 256, 8 bits, 64 projections.
+/// A setup with a query, a code and its record. Where the radii are linear, the code has them as
+/// they are restored from the record, so that both sides score the same ones.
 pub struct Turbo {
     pub quantizer: TurboQuantizer,
+    pub dim: usize,
+    pub bits: u8,
+    pub projections: usize,
     pub signs: Vec<f32>,
     pub directions: Vec<f32>,
     pub matrix: Vec<f32>,
@@ -70,7 +74,12 @@ pub struct Inputs {
     pub rotations: Vec<Turn>,
     pub stored: Vec<StoredTurn>,
     pub sketches: Vec<Sketch>,
+    /// Dimension 256, 8 bits, 64 projections.
     pub turbo: Turbo,
+    /// The same with a dimension of 4,096 and 256 projections; with 12 bits; with linear radii.
+    pub large: Turbo,
+    pub fine: Turbo,
+    pub linear: Turbo,
 }
 
 fn vector(rng: &mut Rng, count: usize) -> Vec<f32> {
@@ -114,8 +123,11 @@ impl Inputs {
             compressed,
             rotations: rotations.into(),
             sketches: sketches.into(),
-            turbo: turbo(&mut rng, seed),
+            turbo: turbo(&mut rng, seed, (256, 8, 64), RadiusCodecProfileV1::F32),
             stored: [90, 300, 512].map(|dim| stored(&mut rng, dim)).into(),
+            large: turbo(&mut rng, seed, (4096, 8, 256), RadiusCodecProfileV1::F32),
+            fine: turbo(&mut rng, seed, (256, 12, 64), RadiusCodecProfileV1::F32),
+            linear: turbo(&mut rng, seed, (256, 8, 64), linear),
         }
     }
 }
@@ -126,20 +138,26 @@ fn stored(rng: &mut Rng, dim: usize) -> StoredTurn {
     StoredTurn { rotation, matrix, input: vector(rng, dim) }
 }
 
-fn turbo(rng: &mut Rng, seed: u64) -> Turbo {
-    let (dim, bits, projections) = (256, 8, 64);
+/// A setup of this dimension, total bits and projections, with radii of this profile.
+fn turbo(
+    rng: &mut Rng,
+    seed: u64,
+    (dim, bits, projections): (usize, u8, usize),
+    profile: RadiusCodecProfileV1,
+) -> Turbo {
     let mode = TurboMode::PolarWithQjl;
     let quantizer = thin::turbo(mode, dim, bits, projections, seed).unwrap();
     let query = vector(rng, dim);
     let code = thin::encode(&quantizer, &vector(rng, dim)).unwrap();
-    let packed = PackedTurboCode::from_turbo(&code, RadiusCodecProfileV1::F32).unwrap();
+    let packed = PackedTurboCode::from_turbo(&code, profile).unwrap();
+    let linear = profile == RadiusCodecProfileV1::BlockLinearU16;
     let (rotated, projected) = thin::prepare_query(&quantizer, &query).unwrap();
     let record = record::Parts {
-        map: record::SIGNS,
+        map: record::SIGNS + linear as u8 * record::LINEAR,
         dim: dim as u32,
         bits: bits - 1,
-        min: 0.0,
-        max: 0.0,
+        min: packed.polar_code.radii.min,
+        max: packed.polar_code.radii.max,
         projections: projections as u32,
         norm: 1.0,
         radii: packed.polar_code.radii.payload.clone(),
@@ -153,10 +171,13 @@ fn turbo(rng: &mut Rng, seed: u64) -> Turbo {
         matrix: thin::turbo_matrix(&quantizer),
         prepared: thin::prepared(&quantizer, &query).unwrap(),
         quantizer,
+        dim,
+        bits,
+        projections,
         query,
         rotated,
         projected,
-        code,
+        code: packed.unpack().unwrap(),
         packed,
         record,
     }

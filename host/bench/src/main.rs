@@ -16,9 +16,9 @@ mod port {
     }
 }
 
-use std::{hint::black_box, time::Duration};
+use std::{borrow::Cow, hint::black_box, time::Duration};
 
-use inputs::Inputs;
+use inputs::{Inputs, Turbo};
 use oracle::rotation::Rotation;
 
 /// A call to be timed, again and again.
@@ -55,6 +55,37 @@ impl<'a> Rows<'a> {
             self.add(name, call(input));
         }
     }
+
+    /// Rows of calls under one setup, by the starts of their names; `packed` has the Rust unpack
+    /// its packed code first.
+    fn under<const N: usize>(&mut self, turbo: &'a Turbo, packed: bool, names: [&'static str; N]) {
+        let rust = &turbo.quantizer;
+        let code = move || match packed {
+            true => Cow::Owned(black_box(&turbo.packed).unpack().unwrap()),
+            false => Cow::Borrowed(black_box(&turbo.code)),
+        };
+        for name in names {
+            match () {
+                () if name.starts_with("prepared score") => self.add(name, move || {
+                    let query = black_box(&turbo.prepared);
+                    rust.inner_product_estimate_prepared(&code(), query).unwrap()
+                }),
+                () if name.starts_with("prepare") => {
+                    self.add(name, || rust.prepare_query(black_box(&turbo.query)).unwrap())
+                }
+                () if name.starts_with("score") => self.add(name, move || {
+                    rust.inner_product_estimate(&code(), black_box(&turbo.query)).unwrap()
+                }),
+                () if name.starts_with("distance") => self.add(name, move || {
+                    rust.l2_distance_estimate(&code(), black_box(&turbo.query)).unwrap()
+                }),
+                () if name.starts_with("decode") => {
+                    self.add(name, move || rust.decode_approximate(&code()).unwrap())
+                }
+                () => unreachable!("{name}"),
+            }
+        }
+    }
 }
 
 fn rows(inputs: &Inputs) -> Vec<Row<'_>> {
@@ -86,6 +117,13 @@ fn rows(inputs: &Inputs) -> Vec<Row<'_>> {
         let mut output = vec![0.0f32; turn.input.len()];
         move || {
             turn.rotation.apply(black_box(&turn.input), &mut output).unwrap();
+            black_box(&output);
+        }
+    });
+    rows.each(&["inverse 256", "inverse 4096"], &inputs.rotations, |turn| {
+        let mut output = vec![0.0f32; turn.input.len()];
+        move || {
+            turn.rotation.apply_inverse(black_box(&turn.input), &mut output).unwrap();
             black_box(&output);
         }
     });
@@ -121,32 +159,30 @@ fn rows(inputs: &Inputs) -> Vec<Row<'_>> {
         }
     });
 
-    let (turbo, rust) = (&inputs.turbo, &inputs.turbo.quantizer);
-    rows.add("prepare query", || rust.prepare_query(black_box(&turbo.query)).unwrap());
-    rows.add("score", || {
-        rust.inner_product_estimate(black_box(&turbo.code), black_box(&turbo.query)).unwrap()
-    });
-    rows.add("prepared score", || {
-        let (code, query) = (black_box(&turbo.code), black_box(&turbo.prepared));
-        rust.inner_product_estimate_prepared(code, query).unwrap()
-    });
-    rows.add("distance", || {
-        rust.l2_distance_estimate(black_box(&turbo.code), black_box(&turbo.query)).unwrap()
-    });
-    rows.add("decode", || rust.decode_approximate(black_box(&turbo.code)).unwrap());
-
+    // A code that is unpacked already.
+    rows.under(
+        &inputs.turbo,
+        false,
+        ["prepare query", "score", "prepared score", "distance", "decode"],
+    );
     // The port scores from a record's bytes; the Rust's nearest form is a packed code.
-    let code = || black_box(&turbo.packed).unpack().unwrap();
-    rows.add("score, packed", move || {
-        rust.inner_product_estimate(&code(), black_box(&turbo.query)).unwrap()
-    });
-    rows.add("prepared score, packed", move || {
-        rust.inner_product_estimate_prepared(&code(), black_box(&turbo.prepared)).unwrap()
-    });
-    rows.add("distance, packed", move || {
-        rust.l2_distance_estimate(&code(), black_box(&turbo.query)).unwrap()
-    });
-    rows.add("decode, packed", move || rust.decode_approximate(&code()).unwrap());
+    let names = ["score, packed", "prepared score, packed", "distance, packed", "decode, packed"];
+    rows.under(&inputs.turbo, true, names);
+    let names = [
+        "prepare 4096 x 256",
+        "score 4096 x 256",
+        "prepared score 4096 x 256",
+        "distance 4096 x 256",
+        "decode 4096 x 256",
+    ];
+    rows.under(&inputs.large, false, names);
+    let names =
+        ["score, 12 bits", "prepared score, 12 bits", "distance, 12 bits", "decode, 12 bits"];
+    rows.under(&inputs.fine, false, names);
+    // The Rust scores linear radii only as floats: here a code that has them restored already, and
+    // as `.., packed` the packed code that it restores them from, as the port does each time.
+    rows.under(&inputs.linear, false, ["prepared score, linear", "decode, linear"]);
+    rows.under(&inputs.linear, true, ["prepared score, linear, packed", "decode, linear, packed"]);
     rows.rows
 }
 
@@ -183,12 +219,15 @@ fn summary(mut times: Vec<f64>) -> (f64, f64, f64) {
 fn target(row: &str) -> f64 {
     let starts = |names: &[&str]| names.iter().any(|name| row.starts_with(name));
     match () {
-        () if starts(&["pack signs", "unpack signs", "sketch score"]) => 1.0,
+        () if starts(&["pack signs", "decompress"]) => 4.0,
+        () if starts(&["unpack signs", "compress"]) => 5.0,
         () if starts(&["pack", "unpack"]) => 10.0,
-        () if starts(&["prepared score"]) => 4.0,
-        () if starts(&["sketch", "project"]) => 3.0,
-        () if starts(&["score", "decode", "stored"]) => 2.0,
-        () => 1.0,
+        () if starts(&["prepared score"]) => 6.0,
+        () if starts(&["prepare", "score", "distance", "sketch score"]) => 3.5,
+        () if starts(&["apply", "inverse"]) => 3.5,
+        () if starts(&["sketch", "project", "stored"]) => 3.0,
+        () if starts(&["decode"]) => 2.0,
+        () => unreachable!("{row}"),
     }
 }
 
@@ -228,7 +267,7 @@ fn main() {
             true => format!("missed: {:.0} % of it", 100.0 * ratio / target),
             false => "met".into(),
         };
-        println!(" {ratio:.2} | {wide:.0} % | {target:.0} | {met} |");
+        println!(" {ratio:.2} | {wide:.0} % | {target} | {met} |");
     }
     #[cfg(feature = "capi")]
     {

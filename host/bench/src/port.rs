@@ -26,9 +26,9 @@ fn sketch_setup(wide: &Sketch) -> Setup<'_> {
 fn turbo_setup(turbo: &Turbo) -> Setup<'_> {
     Setup {
         mode: TurboMode::PolarWithQjl,
-        dim: 256,
-        bits: 8,
-        projections: 64,
+        dim: turbo.dim,
+        bits: turbo.bits,
+        projections: turbo.projections,
         kind: RotationKind::FastHadamard,
         rotation: &turbo.signs,
         directions: &turbo.directions,
@@ -63,6 +63,15 @@ pub fn call<'a>(row: &str, inputs: &'a Inputs) -> Option<Call<'a>> {
         return Some(Box::new(move || {
             let input = black_box(&turn.input);
             foldrima::apply(input.len(), &turn.signs, input, &mut out).unwrap();
+            black_box(&out);
+        }));
+    }
+    if let Some(i) = at(&["inverse 256", "inverse 4096"]) {
+        let turn = &inputs.rotations[i];
+        let mut out = vec![0.0; turn.input.len()];
+        return Some(Box::new(move || {
+            let input = black_box(&turn.input);
+            foldrima::apply_inverse(input.len(), &turn.signs, input, &mut out).unwrap();
             black_box(&out);
         }));
     }
@@ -115,7 +124,6 @@ pub fn call<'a>(row: &str, inputs: &'a Inputs) -> Option<Call<'a>> {
 }
 
 fn single<'a>(row: &str, inputs: &'a Inputs) -> Option<Call<'a>> {
-    let turbo = &inputs.turbo;
     let linear = RadiusCodecProfileV1::BlockLinearU16;
     Some(match row {
         "pack signs 4096" => {
@@ -150,33 +158,48 @@ fn single<'a>(row: &str, inputs: &'a Inputs) -> Option<Call<'a>> {
                 black_box(&out);
             })
         }
-        "prepare query" => {
-            let (mut rotated, mut projected) = (vec![0.0; 256], vec![0.0; 64]);
-            Box::new(move || {
-                let query = black_box(&turbo.query);
-                turbo_setup(turbo).prepare_query(query, &mut rotated, &mut projected).unwrap();
-                black_box((&rotated, &projected));
-            })
-        }
-        "score" | "score, packed" => Box::new(move || {
-            let (query, record) = (black_box(&turbo.query), black_box(&turbo.record));
-            let score = turbo_setup(turbo).inner_product_estimate(query, record);
-            black_box(score.unwrap().kept().unwrap());
-        }),
-        "prepared score" | "prepared score, packed" => Box::new(move || {
+        _ => return under(row, inputs),
+    })
+}
+
+/// The calls under one setup of `Turbo`, by the starts of their names, which tell the setup too.
+fn under<'a>(row: &str, inputs: &'a Inputs) -> Option<Call<'a>> {
+    let has = |words: &str| row.contains(words);
+    let turbo = match () {
+        () if has("4096 x 256") => &inputs.large,
+        () if has("12 bits") => &inputs.fine,
+        () if has("linear") => &inputs.linear,
+        () => &inputs.turbo,
+    };
+    let starts = |name: &str| row.starts_with(name);
+    Some(match () {
+        () if starts("prepared score") => Box::new(move || {
             let (rotated, projected) = (black_box(&turbo.rotated), &turbo.projected);
             let record = black_box(&turbo.record);
             let setup = turbo_setup(turbo);
             let score = setup.inner_product_estimate_prepared(rotated, projected, record);
             black_box(score.unwrap().kept().unwrap());
         }),
-        "distance" | "distance, packed" => Box::new(move || {
+        () if starts("prepare") => {
+            let (mut rotated, mut projected) = (vec![0.0; turbo.dim], vec![0.0; turbo.projections]);
+            Box::new(move || {
+                let query = black_box(&turbo.query);
+                turbo_setup(turbo).prepare_query(query, &mut rotated, &mut projected).unwrap();
+                black_box((&rotated, &projected));
+            })
+        }
+        () if starts("score") => Box::new(move || {
+            let (query, record) = (black_box(&turbo.query), black_box(&turbo.record));
+            let score = turbo_setup(turbo).inner_product_estimate(query, record);
+            black_box(score.unwrap().kept().unwrap());
+        }),
+        () if starts("distance") => Box::new(move || {
             let (query, record) = (black_box(&turbo.query), black_box(&turbo.record));
             let distance = turbo_setup(turbo).l2_distance_estimate(query, record);
             black_box(distance.unwrap().kept().unwrap());
         }),
-        "decode" | "decode, packed" => {
-            let mut out = vec![0.0; 256];
+        () if starts("decode") => {
+            let mut out = vec![0.0; turbo.dim];
             Box::new(move || {
                 let record = black_box(&turbo.record);
                 let done = turbo_setup(turbo).decode_approximate(record, &mut out);
@@ -184,7 +207,7 @@ fn single<'a>(row: &str, inputs: &'a Inputs) -> Option<Call<'a>> {
                 black_box(&out);
             })
         }
-        _ => return None,
+        () => return None,
     })
 }
 

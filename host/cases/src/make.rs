@@ -7,6 +7,7 @@ use oracle::thin;
 
 use crate::{
     case::{Case, Kind, Profile, Setup, CALLS, OTHER_BOARDS, TAKE_A_RECORD},
+    hidden::HIDDEN,
     norms::Norms,
     rng::Rng,
 };
@@ -34,6 +35,8 @@ pub struct Maker {
     cutter: Option<Box<Maker>>,
     /// Makes the cases of boards of other dimensions, for the same end.
     boards: Option<Box<Maker>>,
+    /// Makes the cases of `hidden`, for the same end; none where cases are written down.
+    hidden: Option<Box<Maker>>,
     /// Whether this is such a maker: most setups have a stored rotation, and records any even
     /// dimension.
     pub(crate) others: bool,
@@ -45,8 +48,12 @@ pub struct Maker {
 
 impl Maker {
     pub fn new(seed: u64, size: Size) -> Self {
-        let boards = Self::with_cutter(seed.rotate_left(16) ^ 0x5702, size, true);
-        Self { boards: Some(Box::new(boards)), ..Self::with_cutter(seed, size, false) }
+        let boards = Some(Box::new(Self::with_cutter(seed.rotate_left(16) ^ 0x5702, size, true)));
+        let hidden = match size {
+            Size::Small => None,
+            Size::Full => Some(Box::new(Self::alone(seed.rotate_left(24) ^ 0x41DE, size))),
+        };
+        Self { boards, hidden, ..Self::with_cutter(seed, size, false) }
     }
 
     fn with_cutter(seed: u64, size: Size, others: bool) -> Self {
@@ -66,18 +73,21 @@ impl Maker {
             damaged: 4,
             cutter: None,
             boards: None,
+            hidden: None,
             others: false,
             norms,
             normed: false,
         }
     }
 
-    /// The next case of the call with this place in `CALLS`. Of a hundred cases with a setup or
-    /// a record twenty are of boards of other dimensions. Of a hundred records ten are cut
-    /// to no bytes, a withdrawn position, and two to 1 to 5; there two of five setups are
-    /// damaged, and queries and outputs as ever. The others get their norms (`norms`).
+    /// The next case of the call with this place in `CALLS`. Of a hundred cases of its calls
+    /// twenty-five are of `hidden`. Of a hundred others with a setup or a record twenty are of boards of
+    /// other dimensions. Of a hundred records ten are cut to no bytes, a withdrawn position, and
+    /// two to 1 to 5; there two of five setups are damaged, and queries and outputs as ever. The
+    /// others get their norms (`norms`).
     pub fn make(&mut self, call: usize) -> Case {
-        if let Some(case) = self.other_board(call).or_else(|| self.cut(call)) {
+        let case = self.hidden(call).or_else(|| self.other_board(call));
+        if let Some(case) = case.or_else(|| self.cut(call)) {
             return case;
         }
         self.normed = false;
@@ -86,6 +96,11 @@ impl Maker {
             self.norms.put(&mut case);
         }
         case
+    }
+
+    fn hidden(&mut self, call: usize) -> Option<Case> {
+        let hidden = self.hidden.as_mut().filter(|_| HIDDEN.contains(&CALLS[call]))?;
+        hidden.rng.chance(25).then(|| hidden.hide(call))
     }
 
     fn other_board(&mut self, call: usize) -> Option<Case> {
@@ -531,7 +546,7 @@ impl Maker {
     }
 
     /// The product of two reflections, rounded: dense, and no row is its column.
-    fn orthogonal(&mut self, dim: usize) -> Vec<f32> {
+    pub(crate) fn orthogonal(&mut self, dim: usize) -> Vec<f32> {
         let mut mirror = || {
             let v: Vec<f64> = (0..dim).map(|_| f64::from(self.rng.unit()) + 1.0e-9).collect();
             let norm = v.iter().map(|x| x * x).sum::<f64>().sqrt();

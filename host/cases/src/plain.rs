@@ -52,14 +52,14 @@ fn stored(inverse: bool, matrix: &[f32], input: &[f32]) -> Vec<f32> {
 }
 
 /// A setup's own rotation.
-fn turn(inverse: bool, setup: &Setup, input: &[f32]) -> Vec<f32> {
+pub(crate) fn turn(inverse: bool, setup: &Setup, input: &[f32]) -> Vec<f32> {
     match setup.kind {
         Kind::FastHadamard => rotate(inverse, &setup.rotation, input),
         Kind::Stored => stored(inverse, &setup.rotation, input),
     }
 }
 
-fn dots(setup: &Setup, vector: &[f32]) -> Vec<f32> {
+pub(crate) fn dots(setup: &Setup, vector: &[f32]) -> Vec<f32> {
     if setup.counted() == 0 {
         return Vec::new();
     }

@@ -12,7 +12,7 @@ use crate::{
 };
 
 impl Maker {
-    fn table(&mut self, bits: u8) -> Rc<Vec<f32>> {
+    pub(crate) fn table(&mut self, bits: u8) -> Rc<Vec<f32>> {
         self.tables.entry(bits).or_insert_with(|| Rc::new(thin::directions(bits))).clone()
     }
 
@@ -399,7 +399,7 @@ impl Maker {
     }
 
     /// The parts of a good record with these radii.
-    fn parts_with(
+    pub(crate) fn parts_with(
         &mut self,
         radii: &[f32],
         linear: bool,

@@ -1,93 +1,78 @@
--- `packed::read_record` meets its contract: a record of no bytes is withdrawn; of another come the header's checks, then the payloads'. Assumes nothing.
+-- `packed::read_record` meets its contract: behind the checks of the frame come the checks from the radii on. Assumes nothing.
 use mathlib.Core.Path.{_≡_, sym, ap, _∙_}
-use mathlib.Core.Bool.{false}
-use borrow.Author.Tests.{eq-eqb, ne-eqb}
 use denote.Ref.{now}
-use lib.ListN.{length}
 use Rattle.error.specs.Answer.{value}
 use Rattle.error.specs.Outcomes.{says}
-use Rattle.error.proofs.Chains as chains
-use Rattle.error.proofs.Chains.{append-refused, append-passed}
-use Rattle.packed.specs.Layout.{headerOf}
-use Rattle.packed.specs.Reading.{headerChecks, payloadChecks, isWithdrawn, readRecordOf}
-use Rattle.packed.proofs.Withdrawn.{unless-none, unless-some}
+use Rattle.packed.specs.Reading.{saysReading, readRecordOf}
+use Rattle.packed.specs.Inner.{radiiChecks, readFrameOf}
+use Rattle.packed.proofs.Frame.{frame-withdrawn, frame-refused, frame-whole, frame-then-refused, frame-then-passed}
 use borrow.Author.Needs.{needs}
 use Rattle.packed.proofs.read_record.Statement.{statement}
 use Rattle.packed.proofs.read_record.Tie as tie
 
--- there are bytes
-some : (c : tie.Else1) → isWithdrawn (now (c .before .before .args .bytes)) ≡ false
-some c = ne-eqb (length (now (c .before .before .args .bytes))) 0 (c .if1 .left)
+-- the frame is sound
+framed : (c : tie.After-known-told) → readFrameOf (now (c .before .before .before .before .before .args .bytes)) ≡ value (c .before .header .given .0 .0)
+framed c = sym (c .before .before .before .read-frame .ensures) ∙ ap saysReading (c .before .header .given .1)
 
-returns : tie.Need-returns
-unfolding readRecordOf
-returns c =
-    let bytes = now (c .before .before .args .bytes) in
-    sym (unless-none bytes _ (eq-eqb (length bytes) 0 (c .if1 .taken)))
+read-frame-requires : tie.Need-read-frame-requires
+read-frame-requires c κs = search needs
 
-check-header-requires : tie.Need-check-header-requires
-check-header-requires c κs = search needs
+enum-known-header : tie.Need-enum-known-header
+enum-known-header c = search needs
+
+check-payloads-requires : tie.Need-check-payloads-requires
+check-payloads-requires c κs = let bytes = now (c .before .before .before .before .before .args .bytes) in frame-whole bytes (radiiChecks bytes) (framed c)
 
 enum-known-number : tie.Need-enum-known-number
 enum-known-number c = search needs
 
-returns-2 : tie.Need-returns-2
+returns : tie.Need-returns
 unfolding readRecordOf
-returns-2 c =
-    let e = c .before .before .before .before in
-    let bytes = now (e .before .before .args .bytes) in
-    sym
-    (unless-some bytes _ (some e)
-    ∙ append-refused (headerChecks bytes) (payloadChecks bytes) tt (value (headerOf bytes)) (sym (c .before .before .before .check-header .ensures) ∙ ap says (c .before .number .given .1)))
+returns c =
+    let k = c .before .before .before .before in
+    let bytes = now (k .before .before .before .before .before .args .bytes) in
+    sym (frame-then-refused bytes (radiiChecks bytes) (framed k) (sym (c .before .before .before .check-payloads .ensures) ∙ ap says (c .before .number .given .1)))
 
 enum-told : tie.Need-enum-told
 enum-told c = search needs
 
-header-of-requires : tie.Need-header-of-requires
-header-of-requires c κs = sym (c .before .before .check-header .ensures) ∙ ap says (c .enum-told .given .1)
-
-check-payloads-requires : tie.Need-check-payloads-requires
-check-payloads-requires c κs = (c .header-of .ensures, sym (c .before .before .before .check-header .ensures) ∙ ap says (c .before .enum-told .given .1))
-
 enum-known-number-2 : tie.Need-enum-known-number-2
 enum-known-number-2 c = search needs
-
-returns-3 : tie.Need-returns-3
-unfolding readRecordOf
-returns-3 c =
-    let h = c .before .before .before .before .before .before .before in
-    let bytes = now (h .before .before .before .args .bytes) in
-    sym
-    (unless-some bytes _ (some (h .before))
-    ∙ append-passed (headerChecks bytes) (payloadChecks bytes) tt (value (headerOf bytes)) (sym (h .check-header .ensures) ∙ ap says (c .before .before .before .before .before .enum-told .given .1))
-    ∙ chains.first-refused (payloadChecks bytes) (value (headerOf bytes)) (sym (c .before .before .before .check-payloads .ensures) ∙ ap says (c .before .number2 .given .1)))
 
 enum-told-2 : tie.Need-enum-told-2
 enum-told-2 c = search needs
 
+returns-2 : tie.Need-returns-2
+unfolding readRecordOf
+returns-2 c =
+    let k = c .before .before .before in
+    let bytes = now (k .before .before .before .before .before .args .bytes) in
+    sym (frame-then-passed bytes (radiiChecks bytes) (framed k) (sym (c .before .before .check-payloads .ensures) ∙ ap says (c .enum-told .given .1)))
+
+returns-3 : tie.Need-returns-3
+unfolding readRecordOf
+returns-3 c =
+    let bytes = now (c .before .before .before .before .before .args .bytes) in
+    sym (frame-refused bytes (radiiChecks bytes) (sym (c .before .before .before .read-frame .ensures) ∙ ap saysReading (c .before .number2 .given .1)))
+
 returns-4 : tie.Need-returns-4
 unfolding readRecordOf
 returns-4 c =
-    let h = c .before .before .before .before .before .before in
-    let bytes = now (h .before .before .before .args .bytes) in
-    ap value (c .before .before .before .header-of .ensures)
-    ∙ sym
-    (unless-some bytes _ (some (h .before))
-    ∙ append-passed (headerChecks bytes) (payloadChecks bytes) tt (value (headerOf bytes)) (sym (h .check-header .ensures) ∙ ap says (c .before .before .before .before .enum-told .given .1))
-    ∙ chains.first-passed (payloadChecks bytes) (value (headerOf bytes)) (sym (c .before .before .check-payloads .ensures) ∙ ap says (c .enum-told2 .given .1)))
+    let bytes = now (c .before .before .before .before .args .bytes) in
+    sym (frame-withdrawn bytes (radiiChecks bytes) (sym (c .before .before .read-frame .ensures) ∙ ap saysReading (c .enum-told2 .given .1)))
 
 pub read-record-spec : {M : Type 1} → statement M
 read-record-spec =
     tie.close
     (tie.spec
-    returns
-    check-header-requires
-    enum-known-number
-    returns-2
-    enum-told
-    header-of-requires
+    read-frame-requires
+    enum-known-header
     check-payloads-requires
+    enum-known-number
+    returns
+    enum-told
     enum-known-number-2
-    returns-3
     enum-told-2
+    returns-2
+    returns-3
     returns-4)

@@ -1,5 +1,5 @@
--- `rotation::apply_inverse` answers `applyInverseOf`: after the checks it copies the input, transforms it in the output and flips the signs there,
--- and a refusal leaves the output as it was. Assumes nothing.
+-- `rotation::apply_inverse` answers `applyInverseOf`: after the checks it copies the input and turns it back in the output, and a refusal leaves the output
+-- as it was. Assumes nothing.
 use borrow.Author.Needs.{needs}
 use mathlib.Core.Path.{_≡_, sym, ap, _∙_}
 use lib.ListN.{length}
@@ -8,8 +8,7 @@ use Rattle.error.specs.Answer.{first, accepted}
 use Rattle.error.specs.Outcomes.{says}
 use Rattle.error.proofs.Answers.{both-refused, both-value}
 use Rattle.rotation.specs.Checks.{rotationChecks}
-use Rattle.rounding.specs.Sums.{products}
-use Rattle.rotation.specs.Rotation.{hadamardOf, unrotated}
+use Rattle.rotation.specs.Rotation.{unrotated}
 use Rattle.rotation.proofs.Accepted.{Rotatable, rotatable}
 use Rattle.rotation.proofs.Applied.{inverse-refused, inverse-value}
 use Rattle.rotation.proofs.apply_inverse.Statement.{statement}
@@ -37,26 +36,21 @@ enum-told c = search needs
 copy-into-requires : tie.Need-copy-into-requires
 copy-into-requires c κs = search needs
 
-hadamard-requires : tie.Need-hadamard-requires
-hadamard-requires c κs =
+turn-back-requires : tie.Need-turn-back-requires
+turn-back-requires c κs =
     let f = fit (c .before .before .before .before .before) in
-    record { bit = f .power .bit; small = f .power .small; whole = c .before .before .before .copy-into .kept .1 .0 ∙ f .output-long }
-
-flip-requires : tie.Need-flip-requires
-flip-requires c κs =
-    let f = fit (c .before .before .before .before .before .before .before .before .before) in
-    f .signs-long ∙ sym (c .before .before .before .hadamard .kept .0 ∙ c .before .before .before .before .before .before .before .copy-into .kept .1 .0 ∙ f .output-long)
+    let long = c .before .before .before .copy-into .kept .1 .0 ∙ f .output-long in
+    (record { bit = f .power .bit; small = f .power .small; whole = long }, f .signs-long ∙ sym long)
 
 same-length : tie.Need-same-length
 same-length c = search needs
 
 returns-2 : tie.Need-returns-2
-unfolding unrotated
 returns-2 c =
-    let a = c .before .before .before .before .before .before .before .before .before .before .before .before .before .before .before .before .before .before .args in
-    let f = fit (c .before .before .before .before .before .before .before .before .before .before .before .before) in
-    both-value _ _ _ (inverse-value _ _ _ _ (passed (c .before .before .before .before .before .before .before .before .before .before .before .before)))
-    (c .before .before .flip .ensures ∙ ap (λ ys. products ys (a .signs .now)) (c .before .before .before .before .before .before .hadamard .ensures ∙ ap (hadamardOf (a .dim)) (c .before .before .before .before .before .before .before .before .before .before .copy-into .ensures ∙ copy-into-same (a .input .now) (a .output .now) (f .input-long ∙ sym (f .output-long)))))
+    let a = c .before .before .before .before .before .before .before .before .before .before .before .before .before .before .args in
+    let f = fit (c .before .before .before .before .before .before .before .before) in
+    let copied = c .before .before .before .before .before .before .copy-into .ensures ∙ copy-into-same (a .input .now) (a .output .now) (f .input-long ∙ sym (f .output-long)) in
+    both-value _ _ _ (inverse-value _ _ _ _ (passed (c .before .before .before .before .before .before .before .before))) (c .before .before .turn-back .ensures ∙ ap (unrotated (a .dim) (a .signs .now)) copied)
 
 pub apply-inverse-spec : {M : Type 1} → statement M
 apply-inverse-spec =
@@ -67,7 +61,6 @@ apply-inverse-spec =
     returns
     enum-told
     copy-into-requires
-    hadamard-requires
-    flip-requires
+    turn-back-requires
     same-length
     returns-2)

@@ -1,16 +1,14 @@
 -- `rotation::hadamard` is the transform and then the scale, in place. Assumes nothing.
 use borrow.Author.Needs.{needs}
 use mathlib.Core.Path.{ap₂, _∙_}
+use Rattle.rotation_stages.proofs.Transformed.{transformed-all}
 use Rattle.rotation.specs.Rotation.{scaled, hadamardOf}
-use Rattle.rotation.proofs.Accepted.{Power, power-steps, power-few}
+use Rattle.rotation.proofs.Accepted.{power-steps}
 use Rattle.rotation.proofs.hadamard.Statement.{statement}
 use Rattle.rotation.proofs.hadamard.Tie as tie
 
 transform-requires : tie.Need-transform-requires
-transform-requires c κs =
-    let pre = c .before .before .pre in
-    let power : Power (c .before .before .args .dim) = record { bit = pre .bit; small = pre .small } in
-    (power-few _ power, pre .whole ∙ power-steps _ power)
+transform-requires c κs = search needs
 
 inverse-root-requires : tie.Need-inverse-root-requires
 inverse-root-requires c κs = search needs
@@ -23,7 +21,11 @@ same-length c = search needs
 
 returns : tie.Need-returns
 unfolding hadamardOf
-returns c = c .before .before .scale-by .ensures ∙ ap₂ scaled (c .before .before .before .inverse-root .ensures) (c .before .before .before .before .before .before .before .transform .ensures)
+returns c =
+    let a = c .before .before .before .before .before .before .before .before .before .before .args in
+    let pre = c .before .before .before .before .before .before .before .before .before .before .pre in
+    let long = pre .whole ∙ power-steps (a .dim) (record { bit = pre .bit; small = pre .small }) in
+    c .before .before .scale-by .ensures ∙ ap₂ scaled (c .before .before .before .inverse-root .ensures) (c .before .before .before .before .before .before .before .transform .ensures ∙ transformed-all _ _ long)
 
 pub hadamard-spec : {M : Type 1} → statement M
 hadamard-spec =

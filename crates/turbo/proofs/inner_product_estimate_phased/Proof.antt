@@ -1,25 +1,40 @@
--- `turbo::inner_product_estimate_phased` meets its contract: it lends the room for the radii. Assumes nothing.
+-- `turbo::inner_product_estimate_phased` meets its contract: the scalars are judged first. Assumes nothing.
+use mathlib.Core.Path.{sym, ap, _∙_}
 use borrow.Author.Needs.{needs}
+use Rattle.error.specs.Outcomes.{says}
+use Rattle.setup.specs.Lent.{lent}
+use Rattle.turbo.proofs.Answers.{phased-refused, query-scalars}
 use Rattle.turbo.proofs.inner_product_estimate_phased.Statement.{statement}
 use Rattle.turbo.proofs.inner_product_estimate_phased.Tie as tie
 
-no-radii-requires : tie.Need-no-radii-requires
-no-radii-requires c κs = search needs
+check-scalars-requires : tie.Need-check-scalars-requires
+check-scalars-requires c κs = search needs
 
-slice-aggregate-measure : tie.Need-slice-aggregate-measure
-slice-aggregate-measure c = search needs
+enum-told : tie.Need-enum-told
+enum-told c = search needs
 
-measure-requires : tie.Need-measure-requires
-measure-requires c κs = search needs
+measure-query-requires : tie.Need-measure-query-requires
+measure-query-requires c κs = sym (c .before .before .check-scalars .ensures) ∙ ap says (c .enum-told .given .1)
+
+enum-known-number : tie.Need-enum-known-number
+enum-known-number c = search needs
 
 returns : tie.Need-returns
-returns c = c .before .measure .ensures .0
+returns c = search needs
+
+returns-2 : tie.Need-returns-2
+returns-2 c =
+    let a = c .before .before .before .before .before .before .before .before .before .args in
+    let l = (lent (a .rotation .now) (a .directions .now) (a .matrix .now)) in
+    sym (phased-refused (a .setup) l (a .query .now) (a .bytes .now) (query-scalars (a .setup) l (a .query .now) (sym (c .before .before .before .check-scalars .ensures) ∙ ap says (c .before .number .given .1))))
 
 pub inner-product-estimate-phased-spec : {M : Type 1} → statement M
 inner-product-estimate-phased-spec =
     tie.close
     (tie.spec
-    no-radii-requires
-    slice-aggregate-measure
-    measure-requires
-    returns)
+    check-scalars-requires
+    enum-told
+    measure-query-requires
+    enum-known-number
+    returns
+    returns-2)

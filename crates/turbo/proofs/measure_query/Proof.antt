@@ -1,7 +1,7 @@
 -- `turbo::measure_query` meets its contract: either pair of arrays has room for the query. Assumes nothing.
-use Prim.Native.Nat.{ℕ, _≤_}
+use Prim.Native.Nat.{_≤_}
+use mathlib.Core.Path.{_∙_}
 use native.Mathlib.Omega.{arith}
-use mathlib.Core.Path.{_≡_, _∙_}
 use borrow.Author.Tests.{ltb-false}
 use borrow.Author.Needs.{needs}
 use lib.ListN.{length}
@@ -11,14 +11,14 @@ use Rattle.turbo.proofs.measure_query.Statement.{statement}
 use Rattle.turbo.proofs.measure_query.Tie as tie
 
 -- the larger arrays have room for all
-room : (c : tie.After-zeros2) → c .before .before .before .before .before .before .before .before .before .before .args .setup .dim ≤ length (c .before .zeros .result)
-room c = let start = c .before .before .before .before .before .before .before .before .before .before in let most = scalars-usable (start .args .setup) (start .pre .0) .most in omega (arith, most, c .before .zeros .ok)
+room : (c : tie.After-zeros2) → c .before .before .before .before .before .before .before .before .before .args .setup .dim ≤ length (c .before .zeros .result)
+room c = let start = c .before .before .before .before .before .before .before .before .before in let most = scalars-usable (start .args .setup) (start .pre) .most in omega (arith, most, c .before .zeros .ok)
 
 space : (c : tie.After-zeros2) → c .before .before .before .counted-projections .result ≤ length (c .zeros2 .result)
-space c = let start = c .before .before .before .before .before .before .before .before .before .before in let most = scalars-usable (start .args .setup) (start .pre .0) .most-projections in omega (arith, most, c .before .before .before .counted-projections .ensures, c .zeros2 .ok)
+space c = let start = c .before .before .before .before .before .before .before .before .before in let most = scalars-usable (start .args .setup) (start .pre) .most-projections in omega (arith, most, c .before .before .before .counted-projections .ensures, c .zeros2 .ok)
 
 -- the smaller ones for few
-few-room : (c : tie.After-few-zeros2) → c .before .before .before .before .before .before .before .before .before .before .before .args .setup .dim ≤ length (c .before .few-zeros .result)
+few-room : (c : tie.After-few-zeros2) → c .before .before .before .before .before .before .before .before .before .before .args .setup .dim ≤ length (c .before .few-zeros .result)
 few-room c = omega (arith, c .before .before .before .if1 .left, c .before .few-zeros .ok)
 
 few-space : (c : tie.After-few-zeros2) → c .before .before .before .before .counted-projections .result ≤ length (c .few-zeros2 .result)
@@ -40,7 +40,7 @@ part-rotated-start : tie.Need-part-rotated-start
 part-rotated-start c = search needs
 
 part-rotated-end : tie.Need-part-rotated-end
-part-rotated-end c = room (c .before)
+part-rotated-end c = room c
 
 sub-measure-within-2 : tie.Need-sub-measure-within-2
 sub-measure-within-2 c = search needs
@@ -49,16 +49,13 @@ part-projected-start : tie.Need-part-projected-start
 part-projected-start c = search needs
 
 part-projected-end : tie.Need-part-projected-end
-part-projected-end c = space (c .before .before)
+part-projected-end c = space (c .before)
 
 measure-within-requires : tie.Need-measure-within-requires
-measure-within-requires c κs = let z = c .before .before .before in let start = z .before .before .before .before .before .before .before .before .before .before in (
-      start .pre .0,
-      (start .pre .1, record { rotated-room = part-long (start .args .setup .dim) (z .before .zeros .result) (room z); projected-room = part-long (z .before .before .before .counted-projections .result) (z .zeros2 .result) (space z) ∙ z .before .before .before .counted-projections .ensures }),
-    )
-
-same-length : tie.Need-same-length
-same-length c = search needs
+measure-within-requires c κs =
+    let z = c .before .before in
+    let start = z .before .before .before .before .before .before .before .before .before in
+    (start .pre, record { rotated-room = part-long (start .args .setup .dim) (z .before .zeros .result) (room z); projected-room = part-long (z .before .before .before .counted-projections .result) (z .zeros2 .result) (space z) ∙ z .before .before .before .counted-projections .ensures })
 
 returns : tie.Need-returns
 returns c = search needs
@@ -76,7 +73,7 @@ part-rotated-start-2 : tie.Need-part-rotated-start-2
 part-rotated-start-2 c = search needs
 
 part-rotated-end-2 : tie.Need-part-rotated-end-2
-part-rotated-end-2 c = few-room (c .before)
+part-rotated-end-2 c = few-room c
 
 sub-measure-within-4 : tie.Need-sub-measure-within-4
 sub-measure-within-4 c = search needs
@@ -85,16 +82,13 @@ part-projected-start-2 : tie.Need-part-projected-start-2
 part-projected-start-2 c = search needs
 
 part-projected-end-2 : tie.Need-part-projected-end-2
-part-projected-end-2 c = few-space (c .before .before)
+part-projected-end-2 c = few-space (c .before)
 
 measure-within-requires-2 : tie.Need-measure-within-requires-2
-measure-within-requires-2 c κs = let z = c .before .before .before in let start = z .before .before .before .before .before .before .before .before .before .before .before in (
-      start .pre .0,
-      (start .pre .1, record { rotated-room = part-long (start .args .setup .dim) (z .before .few-zeros .result) (few-room z); projected-room = part-long (z .before .before .before .before .counted-projections .result) (z .few-zeros2 .result) (few-space z) ∙ z .before .before .before .before .counted-projections .ensures }),
-    )
-
-same-length-2 : tie.Need-same-length-2
-same-length-2 c = search needs
+measure-within-requires-2 c κs =
+    let z = c .before .before in
+    let start = z .before .before .before .before .before .before .before .before .before .before in
+    (start .pre, record { rotated-room = part-long (start .args .setup .dim) (z .before .few-zeros .result) (few-room z); projected-room = part-long (z .before .before .before .before .counted-projections .result) (z .few-zeros2 .result) (few-space z) ∙ z .before .before .before .before .counted-projections .ensures })
 
 returns-2 : tie.Need-returns-2
 returns-2 c = search needs
@@ -113,7 +107,6 @@ measure-query-spec =
     part-projected-start
     part-projected-end
     measure-within-requires
-    same-length
     returns
     few-zeros-requires
     few-zeros-requires-2
@@ -124,5 +117,4 @@ measure-query-spec =
     part-projected-start-2
     part-projected-end-2
     measure-within-requires-2
-    same-length-2
     returns-2)

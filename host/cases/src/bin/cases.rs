@@ -7,13 +7,15 @@ use cases::{
     boards,
     case::{same, Answer, Case, Profile, Value, CALLS},
     expect::{distance_sum, expected, sum_name, Expected},
+    hidden,
     make::{Maker, Size},
     norms::{class_of, classes_of, flaw_of, given, place_of, PLACES},
     paper::{ended, Ended, Refusal},
     plain,
 };
 
-/// From so many cases of each call on, every class of norms and of boards must have come up.
+/// From so many cases of each call on, every class of norms, boards and hidden faults must have
+/// come up.
 const ENOUGH: usize = 4000;
 
 /// Longer lines are not worth writing down.
@@ -207,15 +209,14 @@ impl Norms {
     }
 }
 
-/// How many cases of each class of `boards` there were, by call.
+/// How many cases of each class there were, by call.
 #[derive(Default)]
-struct Boards(BTreeMap<&'static str, BTreeMap<&'static str, usize>>);
+struct Counts(BTreeMap<&'static str, BTreeMap<&'static str, usize>>);
 
-impl Boards {
-    fn count(&mut self, case: &Case, wanted: &Expected) {
-        let found = boards::stored(case, wanted).into_iter().chain(boards::record(case, wanted));
-        for class in found {
-            *self.0.entry(case.call()).or_default().entry(class).or_default() += 1;
+impl Counts {
+    fn add(&mut self, call: &'static str, classes: impl IntoIterator<Item = &'static str>) {
+        for class in classes {
+            *self.0.entry(call).or_default().entry(class).or_default() += 1;
         }
     }
 
@@ -223,31 +224,76 @@ impl Boards {
         self.0.get(call).and_then(|met| met.get(class)).copied().unwrap_or(0)
     }
 
-    fn print(&self) {
-        for call in boards::calls().into_iter().filter(|call| self.0.contains_key(call)) {
-            let classes = boards::classes_of(call);
-            let told: Vec<String> =
-                classes.iter().map(|class| format!("{} {class}", self.of(call, class))).collect();
-            let stored: usize = boards::STORED.iter().map(|class| self.of(call, class)).sum();
-            println!("boards, {call}: {stored} stored: {}", told.join(", "));
-        }
+    fn told(&self, call: &str, classes: &[&str]) -> String {
+        let told: Vec<String> =
+            classes.iter().map(|class| format!("{} {class}", self.of(call, class))).collect();
+        told.join(", ")
     }
 
     /// Ends with 1 where a class has no case among enough of all calls.
-    fn complete(&self, options: &Options) {
+    fn complete(
+        &self,
+        options: &Options,
+        what: &str,
+        calls: &[&'static str],
+        classes_of: fn(&str) -> Vec<&'static str>,
+    ) {
         if options.call.is_some() || options.count < ENOUGH {
             return;
         }
-        let missing: Vec<String> = boards::calls()
-            .into_iter()
-            .flat_map(|call| boards::classes_of(call).into_iter().map(move |class| (call, class)))
+        let missing: Vec<String> = calls
+            .iter()
+            .flat_map(|call| classes_of(call).into_iter().map(move |class| (call, class)))
             .filter(|(call, class)| self.of(call, class) == 0)
             .map(|(call, class)| format!("{call}: {class}"))
             .collect();
         if !missing.is_empty() {
-            println!("no case of a board: {}", missing.join("; "));
+            println!("no case of {what}: {}", missing.join("; "));
             std::process::exit(1);
         }
+    }
+}
+
+/// The classes of `boards`.
+#[derive(Default)]
+struct Boards(Counts);
+
+impl Boards {
+    fn count(&mut self, case: &Case, wanted: &Expected) {
+        let found = boards::stored(case, wanted).into_iter().chain(boards::record(case, wanted));
+        self.0.add(case.call(), found);
+    }
+
+    fn print(&self) {
+        for call in boards::calls().into_iter().filter(|call| self.0 .0.contains_key(call)) {
+            let stored: usize = boards::STORED.iter().map(|class| self.0.of(call, class)).sum();
+            let told = self.0.told(call, &boards::classes_of(call));
+            println!("boards, {call}: {stored} stored: {told}");
+        }
+    }
+
+    fn complete(&self, options: &Options) {
+        self.0.complete(options, "a board", &boards::calls(), boards::classes_of);
+    }
+}
+
+/// The classes of `hidden`.
+#[derive(Default)]
+struct Hidden(Counts);
+
+impl Hidden {
+    fn count(&mut self, case: &Case, wanted: &Expected) {
+        self.0.add(case.call(), hidden::classes(case, wanted));
+    }
+
+    fn print(&self) {
+        for call in hidden::HIDDEN.into_iter().filter(|call| self.0 .0.contains_key(call)) {
+            println!("hidden, {call}: {}", self.0.told(call, &hidden::classes_of(call)));
+        }
+    }
+
+    fn complete(&self, options: &Options) {
+        self.0.complete(options, "a hidden fault", &hidden::HIDDEN, hidden::classes_of);
     }
 }
 
@@ -289,6 +335,7 @@ struct Ran {
     empty: Empty,
     norms: Norms,
     boards: Boards,
+    hidden: Hidden,
 }
 
 impl Ran {
@@ -302,6 +349,7 @@ impl Ran {
         self.empty.count(case, &wanted);
         self.norms.count(case, &wanted);
         self.boards.count(case, &wanted);
+        self.hidden.count(case, &wanted);
         if let Some(differs) = plain_differs(case, &answer, end) {
             self.apart += differs as usize;
             self.held += 1;
@@ -351,11 +399,13 @@ fn run(options: &Options, calls: &[usize]) {
     ran.empty.print();
     ran.norms.print();
     ran.boards.print();
+    ran.hidden.print();
     println!("{} cases, {} round trips broken", ran.total, ran.broken);
     println!("{} cases have nothing to be held against", ran.open);
     println!("plain sums held against the Rust {} times, {} differ", ran.held, ran.apart);
     ran.norms.complete(options);
     ran.boards.complete(options);
+    ran.hidden.complete(options);
 }
 
 /// One case of each call that takes a setup, at the limits of both kinds; one gigabyte of memory.
@@ -509,6 +559,7 @@ struct Differed {
     empty: Empty,
     norms: Norms,
     boards: Boards,
+    hidden: Hidden,
 }
 
 #[cfg(feature = "capi")]
@@ -530,6 +581,7 @@ impl Differed {
         self.empty.count(case, &wanted);
         self.norms.count(case, &wanted);
         self.boards.count(case, &wanted);
+        self.hidden.count(case, &wanted);
         self.zeros += !given.agrees_in_zeros(&wanted) as usize;
         if !given.agrees(&wanted) {
             row.wrong += 1;
@@ -577,11 +629,13 @@ fn differ(options: &Options, calls: &[usize]) {
     all.empty.print();
     all.norms.print();
     all.boards.print();
-    let Differed { total, zeros, differ, norms, boards, .. } = all;
+    all.hidden.print();
+    let Differed { total, zeros, differ, norms, boards, hidden, .. } = all;
     println!("{total} cases, {zeros} with zeros of another sign, {differ} differ");
     if differ > 0 {
         std::process::exit(1);
     }
     norms.complete(options);
     boards.complete(options);
+    hidden.complete(options);
 }

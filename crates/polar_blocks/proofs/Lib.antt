@@ -1,0 +1,4 @@
+pub mod Indices
+pub mod Radii
+pub mod Blocks
+pub mod Told
