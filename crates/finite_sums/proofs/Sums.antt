@@ -1,6 +1,6 @@
 -- Sums that take one value more: where the new sum is finite, so are the old sum and the value. Assumes nothing.
 use Prim.Native.Nat.{ℕ, _+_, _≤_, _<_}
-use mathlib.Core.Path.{_≡_, refl, sym, ap, subst}
+use mathlib.Core.Path.{_≡_, sym, ap, subst}
 use mathlib.Core.Bool.{true, not}
 use mathlib.Core.List.{List}
 use native.Mathlib.Omega.{arith}
@@ -43,7 +43,7 @@ module _ (values : List Float) (from : ℕ) where
         (so-far .0, among-more values from to (so-far .1) (both .1));
   }
 
--- ---- sums side by side
+  -- ---- sums side by side
 
   pub took-start : (sums : List Float) → Took values from from sums sums
   took-start sums = record { told = λ t. (t, λ k l h. absurd (omega arith)) }

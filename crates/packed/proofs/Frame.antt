@@ -5,8 +5,8 @@ use mathlib.Core.Path.{_≡_, refl, sym, ap, _∙_}
 use mathlib.Core.Bool.{false, true}
 use mathlib.Core.List.{List, [], _∷_, _++_}
 use lib.ListN.{length}
-use Rattle.error.specs.Answer.{value, refused, withdrawn, Check, check, first, place, clear, accepted}
-use Rattle.error.proofs.Chains.{first-clear, first-value, first-all, append-left, append-right, append-passed, append-refused, first-passed, first-refused}
+use Rattle.error.specs.Answer.{value, refused, withdrawn, Check, first, clear, accepted}
+use Rattle.error.proofs.Chains.{first-value, first-all, append-left, append-right, append-passed, append-refused, first-passed, first-refused}
 use Rattle.error.proofs.Differs.{differs-same}
 use Rattle.error.proofs.Sweep.{clear-passes}
 use Rattle.radius.specs.Radii.{badRadius}

@@ -5,7 +5,7 @@ use mathlib.Core.Bool.{Bool, true, false, cond, _&&_}
 use mathlib.Core.List.{List, [], _∷_, _++_, map}
 use native.Mathlib.Nat.{mul-le-mul-left, mul-le-mul-right, add-zero, add-suc, suc-add, zero-add, sub-zero}
 use native.Mathlib.Omega.{arith}
-use lib.ListN.{length, getD, take, drop, take-append-drop, drop-of-length-le, length-drop}
+use lib.ListN.{length, take, drop, take-append-drop, drop-of-length-le, length-drop}
 use lib.Seq.{getD-take, getD-drop, drop-drop, length-take-le}
 use lib.Ieee.{Float, binary32, add}
 use borrow.Author.Tests.{le-leb, leb-true, eqb-true, not-true}

@@ -3,10 +3,10 @@
 use Prim.Native.Nat.{ℕ, zero, suc, _+_, _-_, _*_, _/_, _%_, _^_, _≤_, _<_}
 use mathlib.Core.Path.{_≡_, refl, sym, ap, _∙_}
 use mathlib.Core.List.{List, [], _∷_}
-use native.Mathlib.Nat.{pow-zero, pow-succ', div-one, div-div-eq-div-mul, div-eq-of-lt, add-mul-div-left, zero-div, zero-add, add-mul, mul-suc, mul-comm, not-suc-le-zero, le-of-suc-le-suc}
+use native.Mathlib.Nat.{pow-zero, pow-succ', div-one, div-div-eq-div-mul, div-eq-of-lt, add-mul-div-left, zero-div, add-mul, mul-comm, not-suc-le-zero, le-of-suc-le-suc}
 use native.Mathlib.Omega.{arith}
-use lib.ListN.{length, getD, drop}
-use lib.Pow.{pow-add, shr-shr}
+use lib.ListN.{getD, drop}
+use lib.Pow.{shr-shr}
 use Rattle.digits.specs.Digits.{number, digits}
 use Rattle.digits.specs.Inner.{fourAt}
 use Rattle.digits.proofs.Laws.{Below, below-head, below-tail}
@@ -81,9 +81,9 @@ word-three bits bytes i word rest below narrow stands =
       first = index-word bits bytes at s i word rest below (omega arith) (omega arith) stands;
       second = ap (λ (m : ℕ). m % 2 ^ bits) (shr-shr word s bits) ∙ index-word bits bytes at (s + bits) (i + 1) word rest below (omega (arith, add-mul i 1 bits)) (omega arith) stands;
       third =
-        ap (λ (m : ℕ). m / 2 ^ bits % 2 ^ bits) (shr-shr word s bits)
-        ∙ ap (λ (m : ℕ). m % 2 ^ bits) (shr-shr word (s + bits) bits)
-        ∙ index-word bits bytes at (s + bits + bits) (i + 2) word rest below (omega (arith, add-mul i 2 bits)) (omega arith) stands;
+          ap (λ (m : ℕ). m / 2 ^ bits % 2 ^ bits) (shr-shr word s bits)
+          ∙ ap (λ (m : ℕ). m % 2 ^ bits) (shr-shr word (s + bits) bits)
+          ∙ index-word bits bytes at (s + bits + bits) (i + 2) word rest below (omega (arith, add-mul i 2 bits)) (omega arith) stands;
     }
   where
     at : ℕ

@@ -7,9 +7,9 @@ use native.Mathlib.Nat.{zero-add, suc-add, mul-add}
 use native.Mathlib.Omega.{arith}
 use borrow.Author.Tests.{lt-ltb, le-ltb, ltb-true, ltb-false}
 use lib.Dec.{ltb}
-use lib.ListN.{length, getD, take, drop, length-drop}
+use lib.ListN.{length, take, drop, length-drop}
 use lib.Seq.{getD-take, getD-drop, length-take-le, ext-getD, take-nil, drop-nil, take-take, drop-drop}
-use lib.Ieee.{Float, nan, inf, fin, binary32, ofBits, lt}
+use lib.Ieee.{Float, nan, inf, fin, ofBits, lt}
 use Rattle.error.specs.Answer.{place, clear, after}
 use Rattle.error.proofs.Differs.{differs-not}
 use Rattle.error.proofs.Places.{place-bad, place-good}
@@ -93,10 +93,10 @@ module _ {A B : Type 0} (f : List A → B) (d : B) (w n at count : ℕ) (items :
       ext-getD d _ _
       (length-chunks f w count _ ∙ sym (length-take-le count _ (rw (length-drop, length-chunks f w n items) (omega arith))))
       (λ j h.
-        let l : j < count = rw (length-chunks f w count (take (w * count) (drop (w * at) items))) at h in
-        chunks-getD f w count j _ d l
-        ∙ ap f (chunk-part j l)
-        ∙ sym (getD-take count _ j d l ∙ getD-drop at _ j d ∙ chunks-getD f w n (at + j) items d (omega (arith, l, within))))
+      let l : j < count = rw (length-chunks f w count (take (w * count) (drop (w * at) items))) at h in
+      chunks-getD f w count j _ d l
+      ∙ ap f (chunk-part j l)
+      ∙ sym (getD-take count _ j d l ∙ getD-drop at _ j d ∙ chunks-getD f w n (at + j) items d (omega (arith, l, within))))
 
 pub radii-part : (profile : RadiusCodecProfileV1) (range : Range) (radii : List ℕ) (n at count : ℕ) → at + count ≤ n → partRadii profile range radii at count ≡ take count (drop at (radiiFor profile n range radii))
 radii-part F32 range radii n at count h = chunks-part _ nan 4 n at count radii h

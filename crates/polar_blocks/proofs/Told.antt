@@ -14,7 +14,6 @@ use Rattle.radius.specs.declared.Range.{Range}
 use Rattle.radius.specs.declared.RadiusCodecProfileV1.{RadiusCodecProfileV1}
 use Rattle.polar.specs.Polar.{polarSumOf}
 use Rattle.polar_blocks.specs.Payload.{fitsPayload, longEnough, payloadSumOf}
-use Rattle.polar_blocks.specs.declared.PayloadSum.{PayloadSum}
 use Rattle.polar_blocks.specs.declared.PayloadSum.the-variants.{Sum, Otherwise}
 
 -- a sum is the polar sum of what the payloads hold, and no radius is refused

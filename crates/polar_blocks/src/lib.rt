@@ -103,7 +103,18 @@ fn blocks_sum(
     let mut at = 0;
     while at < pairs {
         let count = block_of(pairs - at);
-        match add_block(directions, rotated, profile, range, radii, indices, bits, at, count, sum) {
+        match add_block(
+            directions,
+            rotated,
+            profile,
+            range,
+            radii,
+            indices,
+            bits,
+            at,
+            count,
+            sum,
+        ) {
             PayloadSum::Sum(more) => {
                 sum = more;
             }
@@ -143,11 +154,25 @@ fn add_block(
     let start = width * at;
     let stop = start + width * count;
     let mut block = no_radii();
-    radius_reading::restore(profile, count, range, &radii[start..stop], &mut block[0..count]);
+    radius_reading::restore(
+        profile,
+        count,
+        range,
+        &radii[start..stop],
+        &mut block[0..count],
+    );
     if !all_good(&block[0..count]) {
         return PayloadSum::Otherwise;
     }
-    PayloadSum::Sum(block_sum(directions, rotated, &block[0..count], indices, bits, at, sum))
+    PayloadSum::Sum(block_sum(
+        directions,
+        rotated,
+        &block[0..count],
+        indices,
+        bits,
+        at,
+        sum,
+    ))
 }
 
 // Room for the radii of a block.
@@ -310,7 +335,12 @@ fn four_at(bytes: &[u8], at: usize) -> u32
     requires { ⌜ at ≤ length (now bytes) + 4 ⌝ }
     ensures { λ r. ⌜ r ≡ number 256 (fourAt (now (bytes .entry)) at) ⌝ }
 {
-    digits::word_of(byte_at(bytes, at), byte_at(bytes, at + 1), byte_at(bytes, at + 2), byte_at(bytes, at + 3))
+    digits::word_of(
+        byte_at(bytes, at),
+        byte_at(bytes, at + 1),
+        byte_at(bytes, at + 2),
+        byte_at(bytes, at + 3),
+    )
 }
 
 // The byte at a place, or 0 where there is none.

@@ -13,17 +13,17 @@ use Rattle.float.specs.Constants.{posZero}
 use Rattle.rounding.specs.Inner.{SoFar}
 use Rattle.rounding.proofs.Running.{dot-start, dot-more}
 use Rattle.qjl_sums.specs.declared.Four.{Four}
-use Rattle.qjl_sums.specs.Inner.{term, Paired, Added, FourSoFar}
+use Rattle.qjl_sums.specs.Inner.{rowTerm, Interleaved, Added, FourSoFar}
 
 module _ (matrix query : List Float) where
   -- ---- terms of two rows by turns
 
   module _ (even odd column : ℕ) where
-    pub paired-start : (ys : List Float) → length ys ≡ 32 → Paired matrix query even odd column 0 ys
+    pub paired-start : (ys : List Float) → length ys ≡ 32 → Interleaved matrix query even odd column 0 ys
     paired-start ys l = record { long = l; evens = λ k b. absurd (omega arith); odds = λ k b. absurd (omega arith) }
 
-    pub paired-more : (i : ℕ) (ys : List Float) (u v : Float) → u ≡ term matrix query even (column + i) → v ≡ term matrix query odd (column + i) → i < 16
-        → Paired matrix query even odd column i ys → Paired matrix query even odd column (i + 1) (set (set ys (2 * i) u) (2 * i + 1) v)
+    pub paired-more : (i : ℕ) (ys : List Float) (u v : Float) → u ≡ rowTerm matrix query even (column + i) → v ≡ rowTerm matrix query odd (column + i) → i < 16
+        → Interleaved matrix query even odd column i ys → Interleaved matrix query even odd column (i + 1) (set (set ys (2 * i) u) (2 * i + 1) v)
     paired-more i ys u v e o b inv =
         record {
           long = simp length-set (inv .long);
@@ -31,16 +31,16 @@ module _ (matrix query : List Float) where
           odds = λ k l. elim (decLt k i) [ yes g ↦ getD-set-other (set ys (2 * i) u) (2 * i + 1) (2 * k + 1) v nan (omega arith) ∙ getD-set-other ys (2 * i) (2 * k + 1) u nan (omega arith) ∙ inv .odds k g | no g ↦ here-odd k (omega arith) ];
         }
       where
-        here-even : (k : ℕ) → k ≡ i → getD (set ys (2 * i) u) (2 * k) nan ≡ term matrix query even (column + k)
+        here-even : (k : ℕ) → k ≡ i → getD (set ys (2 * i) u) (2 * k) nan ≡ rowTerm matrix query even (column + k)
         here-even k q = rw q (getD-set-same ys (2 * i) u nan (omega (arith, inv .long)) ∙ e)
 
-        here-odd : (k : ℕ) → k ≡ i → getD (set (set ys (2 * i) u) (2 * i + 1) v) (2 * k + 1) nan ≡ term matrix query odd (column + k)
+        here-odd : (k : ℕ) → k ≡ i → getD (set (set ys (2 * i) u) (2 * i + 1) v) (2 * k + 1) nan ≡ rowTerm matrix query odd (column + k)
         here-odd k q = rw q (getD-set-same (set ys (2 * i) u) (2 * i + 1) v nan (simp length-set (omega (arith, inv .long))) ∙ o)
 
   -- ---- a sum, and four of them
 
   -- the next term of one row
-  row-more : (from i : ℕ) (acc new v : Float) → from + length query ≤ length matrix → i < length query → v ≡ term matrix query from i → new ≡ add binary32 acc v
+  row-more : (from i : ℕ) (acc new v : Float) → from + length query ≤ length matrix → i < length query → v ≡ rowTerm matrix query from i → new ≡ add binary32 acc v
       → SoFar matrix query from i acc → SoFar matrix query from (i + 1) new
   row-more from i acc new v fits l e s inv = rw (s ∙ ap (add binary32 acc) e) (dot-more matrix query from i acc (omega arith) l inv)
 
@@ -58,8 +58,8 @@ module _ (matrix query : List Float) where
         }
 
     pub four-more : (i : ℕ) (old new : Four) (u v w x : Float) → i < length query
-        → u ≡ term matrix query from i → v ≡ term matrix query (from + length query) i
-        → w ≡ term matrix query (from + length query + length query) i → x ≡ term matrix query (from + length query + length query + length query) i
+        → u ≡ rowTerm matrix query from i → v ≡ rowTerm matrix query (from + length query) i
+        → w ≡ rowTerm matrix query (from + length query + length query) i → x ≡ rowTerm matrix query (from + length query + length query + length query) i
         → new .a ≡ add binary32 (old .a) u → new .b ≡ add binary32 (old .b) v → new .c ≡ add binary32 (old .c) w → new .d ≡ add binary32 (old .d) x
         → FourSoFar matrix query from i old → FourSoFar matrix query from (i + 1) new
     four-more i old new u v w x l e f g h a b c d inv =
@@ -75,8 +75,8 @@ module _ (matrix query : List Float) where
 
     -- the products are those that were placed by turns
     pub four-placed : (column k : ℕ) (ys zs : List Float) (old new : Four) → k < 16 → column + k < length query
-        → Paired matrix query (from + length query) from column 16 ys
-        → Paired matrix query (from + length query + length query) (from + length query + length query + length query) column 16 zs
+        → Interleaved matrix query (from + length query) from column 16 ys
+        → Interleaved matrix query (from + length query + length query) (from + length query + length query + length query) column 16 zs
         → Added old ys zs (2 * k) new → FourSoFar matrix query from (column + k) old → FourSoFar matrix query from (column + (k + 1)) new
     four-placed column k ys zs old new b l p q t inv =
         rw (add-assoc column k 1) at (four-more (column + k) old new _ _ _ _ l (p .odds k b) (p .evens k b) (q .evens k b) (q .odds k b) (t .top) (t .second) (t .third) (t .fourth) inv)

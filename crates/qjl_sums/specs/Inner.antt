@@ -14,14 +14,14 @@ abbrev pub onRow : ℕ → List Float → List Float → ℕ → Float
 onRow n matrix query j = dot (drop (j * n) matrix) query
 
 -- The term of column j in the sum of the row that starts at `from`.
-abbrev pub term : List Float → List Float → ℕ → ℕ → Float
-term matrix query from j = mul binary32 (getD matrix (from + j) nan) (getD query j nan)
+abbrev pub rowTerm : List Float → List Float → ℕ → ℕ → Float
+rowTerm matrix query from j = mul binary32 (getD matrix (from + j) nan) (getD query j nan)
 
 -- The terms of i columns from `column` on, of one row at even places and of another at odd ones.
-pub record Paired (matrix query : List Float) (even odd column i : ℕ) (ys : List Float) : Type 0 where
+pub record Interleaved (matrix query : List Float) (even odd column i : ℕ) (ys : List Float) : Type 0 where
   pub long : length ys ≡ 32
-  pub evens : (k : ℕ) → k < i → getD ys (2 * k) nan ≡ term matrix query even (column + k)
-  pub odds : (k : ℕ) → k < i → getD ys (2 * k + 1) nan ≡ term matrix query odd (column + k)
+  pub evens : (k : ℕ) → k < i → getD ys (2 * k) nan ≡ rowTerm matrix query even (column + k)
+  pub odds : (k : ℕ) → k < i → getD ys (2 * k + 1) nan ≡ rowTerm matrix query odd (column + k)
 
 -- The sums with a product each: from the first list those of the second row and the first, and from the other those of the third and the fourth.
 pub record Added (old : Four) (ys zs : List Float) (at : ℕ) (new : Four) : Type 0 where

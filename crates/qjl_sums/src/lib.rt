@@ -7,7 +7,7 @@ ghost use Prim.Native.Nat.{_+_, _*_, _≤_, _<_, min};
 ghost use lib.ListN.{length, drop};
 ghost use Rattle.rounding.specs.Sums.{dot};
 ghost use Rattle.rounding.specs.Rows.{projected};
-ghost use Rattle.qjl_sums.specs.Inner.{Paired, Added, FourSoFar, fourSet};
+ghost use Rattle.qjl_sums.specs.Inner.{Interleaved, Added, FourSoFar, fourSet};
 
 // The sums of four rows that follow one another.
 struct Four {
@@ -186,8 +186,8 @@ fn products(
     z: &mut [f32; 32],
 )
     requires { ⌜ ((column + 16 ≤ length (now query)) × (from + 4 * length (now query) ≤ length (now matrix))) × ((length (now y) ≡ 32) × (length (now z) ≡ 32)) ⌝ }
-    ensures { λ _. ⌜ Paired (now (matrix .entry)) (now (query .entry)) (from + length (now (query .entry))) from column 16 (now (y .exit)) ⌝ }
-    ensures { λ _. ⌜ Paired (now (matrix .entry)) (now (query .entry)) (from + length (now (query .entry)) + length (now (query .entry))) (from + length (now (query .entry)) + length (now (query .entry)) + length (now (query .entry))) column 16 (now (z .exit)) ⌝ }
+    ensures { λ _. ⌜ Interleaved (now (matrix .entry)) (now (query .entry)) (from + length (now (query .entry))) from column 16 (now (y .exit)) ⌝ }
+    ensures { λ _. ⌜ Interleaved (now (matrix .entry)) (now (query .entry)) (from + length (now (query .entry)) + length (now (query .entry))) (from + length (now (query .entry)) + length (now (query .entry)) + length (now (query .entry))) column 16 (now (z .exit)) ⌝ }
 {
     let columns = query.len();
     let second = from + columns;

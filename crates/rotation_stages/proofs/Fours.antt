@@ -6,7 +6,6 @@ use mathlib.Core.Logic.{_≢_}
 use native.Mathlib.Decide.{decLt}
 use native.Mathlib.Omega.{arith}
 use lib.ListN.{length, set, length-set}
-use lib.Seq.{getD-set-other}
 use lib.Ieee.{Float, nan, binary32, add, sub}
 use Rattle.lists.proofs.Stores.{stores-first, stores-second, stores-other}
 use Rattle.rotation_stages.specs.Inner.{entryAt, Fused, Apart, FourDone, FoursDone}

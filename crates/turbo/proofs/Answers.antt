@@ -39,7 +39,7 @@ use Rattle.turbo_order.proofs.Within.{polarPart}
 use Rattle.turbo_query.specs.Query.{rotatedQuery, projectedQuery, finiteChecks, queryChecks, prepareChecks, prepareRotatedOf, prepareProjectedOf}
 use Rattle.turbo_opening.specs.Opening.{contentOf}
 use Rattle.turbo_record.specs.Scoring.{recordScore, readingChecks, sinceReading, recordScoreOf}
-use Rattle.turbo.specs.Inner.{joined, valueChecks}
+use Rattle.turbo.specs.Inner.{joined, queryValueChecks}
 use Rattle.turbo.specs.Estimates.{innerProductEstimatePhasedOf, estimate, whereScored, innerProductEstimateOf, preparedChecks, innerProductEstimatePreparedOf, lengthsAndValues}
 use Rattle.turbo_distance.specs.Distance.{distanceFromScoreOf}
 use Rattle.turbo.specs.Distance.{l2DistanceEstimateOf}
@@ -142,18 +142,18 @@ module _ (s : Setup) (rotated projected : List Float) where
     pub lengths-projected : {m : ℕ} → m ≡ countedProjectionsOf s → (length projected ≡ m → ⊥) → first (lengthsAndValues s rotated projected) accepted ≡ refused 5 (length projected)
     lengths-projected c h = simp (eq-eqb (length rotated) (s .dim) long, ne-eqb (length projected) (countedProjectionsOf s) (λ f. h (f ∙ sym c)))
 
-    pub lengths-passed : {m : ℕ} → m ≡ countedProjectionsOf s → length projected ≡ m → first (lengthsAndValues s rotated projected) accepted ≡ first (valueChecks rotated projected) accepted
+    pub lengths-passed : {m : ℕ} → m ≡ countedProjectionsOf s → length projected ≡ m → first (lengthsAndValues s rotated projected) accepted ≡ first (queryValueChecks rotated projected) accepted
     lengths-passed c h = simp (eq-eqb (length rotated) (s .dim) long, eq-eqb (length projected) (countedProjectionsOf s) (h ∙ c))
 
 module _ (rotated projected : List Float) where
-  pub values-rotated : {i : ℕ} → i ≡ place badValue rotated → i < length rotated → first (valueChecks rotated projected) accepted ≡ refused 11 i
+  pub values-rotated : {i : ℕ} → i ≡ place badValue rotated → i < length rotated → first (queryValueChecks rotated projected) accepted ≡ refused 11 i
   values-rotated p h = simp (each-offends badValue rotated p h, p)
 
   module _ {i : ℕ} (p : i ≡ place badValue rotated) (h : length rotated ≤ i) where
-    pub values-projected : {j : ℕ} → j ≡ place badValue projected → j < length projected → first (valueChecks rotated projected) accepted ≡ refused 11 j
+    pub values-projected : {j : ℕ} → j ≡ place badValue projected → j < length projected → first (queryValueChecks rotated projected) accepted ≡ refused 11 j
     values-projected q k = simp (each-passes badValue rotated p h, each-offends badValue projected q k, q)
 
-    pub values-passed : {j : ℕ} → j ≡ place badValue projected → length projected ≤ j → first (valueChecks rotated projected) accepted ≡ accepted
+    pub values-passed : {j : ℕ} → j ≡ place badValue projected → length projected ≤ j → first (queryValueChecks rotated projected) accepted ≡ accepted
     values-passed q k = simp (each-passes badValue rotated p h, each-passes badValue projected q k)
 
 module _ (s : Setup) (directions rotated projected : List Float) where

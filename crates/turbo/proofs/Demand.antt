@@ -2,37 +2,31 @@
 -- lent floats are f32. Assumes nothing.
 use Prim.Native.Nat.{ℕ, _+_, _*_}
 use mathlib.Core.Path.{_≡_, _∙_, subst}
-use mathlib.Core.Bool.{false}
 use mathlib.Core.List.{List, [], _∷_}
-use native.Mathlib.Omega.{arith}
-use borrow.Author.Tests.{not-false}
 use lib.Dec.{T}
 use lib.ListN.{length}
 use lib.Ieee.{Float, nan}
 use lib.Ieee.Scale.{finite}
 use Rattle.error.specs.Answer.{value, first, accepted}
-use Rattle.error.proofs.Chains.{first-passed, first-passes, first-value, first-clear, first-ends, append-left, append-right}
+use Rattle.error.proofs.Chains.{first-clear, first-ends, append-left}
 use Rattle.rounding.specs.Signed.{Near, Under}
 use Rattle.rounding.proofs.Close.{AllFit}
 use Rattle.rounding.proofs.Folds.{all-fit-from}
 use Rattle.setup.specs.Lent.{Lent}
 use Rattle.setup.specs.declared.Setup.{Setup}
-use Rattle.error.specs.Checks.{wrongScore}
 use Rattle.qjl.specs.Sketch.{vectorChecks}
 use Rattle.qjl.proofs.Answers.{vector-setup, vector-rowed}
 use Rattle.packed.specs.Layout.{headerOf}
-use Rattle.packed.specs.Reading.{isWithdrawn, radiiOf}
-use Rattle.packed.proofs.Payloads.{length-radiiOf}
-use Rattle.packed.proofs.Withdrawn.{unless-some, unless-value}
+use Rattle.packed.specs.Reading.{radiiOf}
 use Rattle.packed.proofs.Radii.{radii-fit, length-signsOf, signs-good, norm-fits}
 use Rattle.turbo_order.proofs.Sound.{Sound}
 use Rattle.turbo_order.specs.Scores.{accountOf, scoreOf}
 use Rattle.turbo_order.proofs.Within.{Scorable, score-within, scores-ordered}
 use Rattle.turbo_order.proofs.Rotations.{account-sound}
 use Rattle.turbo_query.specs.Query.{finiteChecks, queryChecks}
-use Rattle.turbo_opening.specs.Opening.{contentOf, openChecks}
+use Rattle.turbo_opening.specs.Opening.{contentOf}
 use Rattle.turbo_opening.specs.Inner.{openedOf}
-use Rattle.turbo_opening.proofs.Answers.{opened-accepted, opened-dim, opened-projections}
+use Rattle.turbo_opening.proofs.Answers.{opened-projections}
 use Rattle.turbo_record.specs.Scoring.{sinceReading}
 use Rattle.turbo.specs.Estimates.{estimate, innerProductEstimateOf}
 use Rattle.turbo.proofs.Since.{since-open, since-pairs, since-value, since-finite}

@@ -14,7 +14,7 @@ use lib.Ieee.Scale.{finite}
 use Rattle.float.specs.Constants.{posZero}
 use borrow.Author.Tests.{eq-eqb}
 use Rattle.error.specs.Answer.{value, first, place, accepted}
-use Rattle.error.proofs.Chains.{first-ends}
+use Rattle.error.proofs.Chains.{first-clear, first-ends}
 use Rattle.error.specs.Checks.{badValue}
 use Rattle.error.proofs.Finite.{finite-passes}
 use Rattle.error.proofs.Places.{each-none}
@@ -67,9 +67,10 @@ module _ (rotated directions : List Float) (indices : List ℕ) (radii : List Fl
   polar-finite : 2 * length radii ≡ length rotated → (k : ℕ) → k < length rotated → T (finite (getD rotated k posZero))
   polar-finite long k h =
       let pair = pair-finite (k / 2) (omega arith) in
-      elim (ℕ-discrete k (2 * (k / 2)))
-      [ yes e ↦ subst (λ (j : ℕ). T (finite (getD rotated j posZero))) (sym e) (pair .0)
-      | no d ↦ let e : 2 * (k / 2) + 1 ≡ k = omega (arith, d) in subst (λ (j : ℕ). T (finite (getD rotated j posZero))) e (pair .1) ]
+      elim (ℕ-discrete k (2 * (k / 2))) [
+        | yes e ↦ subst (λ (j : ℕ). T (finite (getD rotated j posZero))) (sym e) (pair .0)
+        | no d ↦ let e : 2 * (k / 2) + 1 ≡ k = omega (arith, d) in subst (λ (j : ℕ). T (finite (getD rotated j posZero))) e (pair .1)
+      ]
 
 -- ---- the score
 
@@ -105,19 +106,19 @@ module _ (s : Setup) (directions rotated projected : List Float) (c : Content) (
 
 module _ (s : Setup) (directions rotated projected : List Float) (bytes : List ℕ) {x : Float} (fits : Lengths s directions (length rotated) (length projected))
     (scored : value x ≡ first (scalarChecks s) (recordScoreOf s directions rotated projected bytes))
-    where
-  answered : recordScoreOf s directions rotated projected bytes ≡ value x
-  answered = first-ends (scalarChecks s) _ (sym scored)
+  where
+    answered : recordScoreOf s directions rotated projected bytes ≡ value x
+    answered = first-ends (scalarChecks s) _ (sym scored)
 
-  ready : first (preparedChecks s directions rotated projected) accepted ≡ accepted
-  unfolding recordScoreOf
-  ready =
-      let z = recordScore s directions rotated projected bytes in
-      let finite-score = since-finite s bytes z answered in
-      let even = length-signsOf bytes ∙ opened-projections s bytes (since-open s bytes z answered) ∙ sym (fits .projected-long) in
-      let one = score-rotated s directions rotated projected (contentOf bytes) finite-score (since-pairs s bytes z answered ∙ sym (fits .rotated-long)) in
-      let two = score-projected s directions rotated projected (contentOf bytes) finite-score even (fits .projected-long) in
-      ready-rest s directions rotated projected (fits .scalars) (fits .table) ∙ simp (eq-eqb (length rotated) (s .dim) (fits .rotated-long), eq-eqb (length projected) (countedProjectionsOf s) (fits .projected-long), one, two)
+    ready : first (preparedChecks s directions rotated projected) accepted ≡ accepted
+    unfolding recordScoreOf
+    ready =
+        let z = recordScore s directions rotated projected bytes in
+        let finite-score = since-finite s bytes z answered in
+        let even = length-signsOf bytes ∙ opened-projections s bytes (since-open s bytes z answered) ∙ sym (fits .projected-long) in
+        let one = score-rotated s directions rotated projected (contentOf bytes) finite-score (since-pairs s bytes z answered ∙ sym (fits .rotated-long)) in
+        let two = score-projected s directions rotated projected (contentOf bytes) finite-score even (fits .projected-long) in
+        ready-rest s directions rotated projected (first-clear (scalarChecks s) _ (sym scored)) (fits .table) ∙ simp (eq-eqb (length rotated) (s .dim) (fits .rotated-long), eq-eqb (length projected) (countedProjectionsOf s) (fits .projected-long), one, two)
 
-  pub prepared-scored : innerProductEstimatePreparedOf s directions rotated projected bytes ≡ value x
-  prepared-scored = prepared-passed s directions rotated projected bytes ready ∙ answered
+    pub prepared-scored : innerProductEstimatePreparedOf s directions rotated projected bytes ≡ value x
+    prepared-scored = prepared-passed s directions rotated projected bytes ready ∙ answered

@@ -20,9 +20,9 @@ use Rattle.qjl.specs.Sketch.{vectorChecks}
 use Rattle.qjl.proofs.Answers.{vector-rowed}
 use Rattle.turbo_turn.specs.Turning.{spaceChecks, turnedChecks, turnRotatedOf, turnProjectedOf}
 use Rattle.turbo_turn.proofs.Turned.{space-passed, turned-done, turned-rotated, turned-projected}
-use Rattle.turbo_query.specs.Query.{rotatedQuery, projectedQuery, finiteChecks, queryChecks}
+use Rattle.turbo_query.specs.Query.{rotatedQuery, projectedQuery, finiteChecks}
 use Rattle.turbo_query.proofs.Answers.{turned-queried}
-use Rattle.turbo.specs.Inner.{valueChecks, Turned, Clean}
+use Rattle.turbo.specs.Inner.{queryValueChecks, Turned, Clean}
 use Rattle.turbo_record.specs.Scoring.{recordScoreOf}
 use Rattle.turbo.specs.Estimates.{innerProductEstimatePhasedOf}
 use Rattle.turbo.proofs.Answers.{phased-passed}
@@ -47,39 +47,39 @@ module _ (s : Setup) (l : Lent) (query : List Float) where
 
   module _ (old other : List Float) {rotated projected : List Float} (one : rotated ≡ after (turnRotatedOf s l query (length old) (length other)) old)
       (two : projected ≡ after (turnProjectedOf s l query (length old) (length other)) other)
-      where
-    -- what is held where the call was done
-    turned-held : first (turnedChecks s l query (length old) (length other)) accepted ≡ accepted → (rotated ≡ rotatedQuery s l query) × (projected ≡ projectedQuery s l query)
-    turned-held passed = (one ∙ after-value _ old (turned-rotated s l query (length old) (length other) passed), two ∙ after-value _ other (turned-projected s l query (length old) (length other) passed))
+    where
+      -- what is held where the call was done
+      turned-held : first (turnedChecks s l query (length old) (length other)) accepted ≡ accepted → (rotated ≡ rotatedQuery s l query) × (projected ≡ projectedQuery s l query)
+      turned-held passed = (one ∙ after-value _ old (turned-rotated s l query (length old) (length other) passed), two ∙ after-value _ other (turned-projected s l query (length old) (length other) passed))
 
-    -- finite values: no check of the query offends
-    pub turn-clean : {said : Answer (Unit {0})} → said ≡ done (turnRotatedOf s l query (length old) (length other)) → Clean said rotated projected → Turned s l query accepted rotated projected
-    turn-clean e clean =
-        let passed = turned-done s l query (length old) (length other) e (clean .done-said) in
-        let held = turned-held passed in
-        record {
-          answer =
-            sym
-            (turned-queried s l query (length old) (length other) passed
-            (subst (λ (xs : List Float). clear badValue xs ≡ true) (held .0) (clean .rotated-clean))
-            (subst (λ (xs : List Float). clear badValue xs ≡ true) (held .1) (clean .projected-clean))
-            accepted);
-          held = λ _. held;
-        }
+      -- finite values: no check of the query offends
+      pub turn-clean : {said : Answer (Unit {0})} → said ≡ done (turnRotatedOf s l query (length old) (length other)) → Clean said rotated projected → Turned s l query accepted rotated projected
+      turn-clean e clean =
+          let passed = turned-done s l query (length old) (length other) e (clean .done-said) in
+          let held = turned-held passed in
+          record {
+            answer =
+                sym
+                (turned-queried s l query (length old) (length other) passed
+                (subst (λ (xs : List Float). clear badValue xs ≡ true) (held .0) (clean .rotated-clean))
+                (subst (λ (xs : List Float). clear badValue xs ≡ true) (held .1) (clean .projected-clean))
+                accepted);
+            held = λ _. held;
+          }
 
-    -- the values decide
-    pub turn-judged : {said : Answer (Unit {0})} → first (vectorChecks s l query) accepted ≡ accepted → length old ≡ s .dim → length other ≡ countedProjectionsOf s
-        → said ≡ first (valueChecks rotated projected) accepted → Turned s l query said rotated projected
-    turn-judged e fits also-fits h =
-        let held = turned-held (good-turned e fits also-fits) in
-        record {
-          answer =
-            h
-            ∙ ap (λ (xs : List Float). first (valueChecks xs projected) accepted) (held .0)
-            ∙ ap (λ (xs : List Float). first (valueChecks (rotatedQuery s l query) xs) accepted) (held .1)
-            ∙ sym (append-passed (vectorChecks s l query) (finiteChecks s l query) tt accepted e);
-          held = λ _. held;
-        }
+      -- the values decide
+      pub turn-judged : {said : Answer (Unit {0})} → first (vectorChecks s l query) accepted ≡ accepted → length old ≡ s .dim → length other ≡ countedProjectionsOf s
+          → said ≡ first (queryValueChecks rotated projected) accepted → Turned s l query said rotated projected
+      turn-judged e fits also-fits h =
+          let held = turned-held (good-turned e fits also-fits) in
+          record {
+            answer =
+                h
+                ∙ ap (λ (xs : List Float). first (queryValueChecks xs projected) accepted) (held .0)
+                ∙ ap (λ (xs : List Float). first (queryValueChecks (rotatedQuery s l query) xs) accepted) (held .1)
+                ∙ sym (append-passed (vectorChecks s l query) (finiteChecks s l query) tt accepted e);
+            held = λ _. held;
+          }
 
   -- an earlier check decides
   pub turn-refused : {n p : ℕ} {rotated projected : List Float} → first (vectorChecks s l query) accepted ≡ refused n p → Turned s l query (refused n p) rotated projected

@@ -8,7 +8,6 @@ use Rattle.error.specs.Answer.{Answer, value, refused, withdrawn, Check, first,
 use Rattle.error.specs.Checks.{badValue}
 use Rattle.setup.specs.Lent.{Lent}
 use Rattle.setup.specs.Setups.{countedProjectionsOf}
-use Rattle.setup.specs.Checks.{scalarChecks}
 use Rattle.setup_tables.specs.Checks.{directionChecks}
 use Rattle.turbo_query.specs.Query.{rotatedQuery, projectedQuery, queryChecks}
 use Rattle.setup.specs.declared.Setup.{Setup}
@@ -20,8 +19,8 @@ joined (refused n p) = refused n p
 joined withdrawn = withdrawn
 
 -- 'rotated 11, projected 11': the values of the query rotated, then those of the query projected.
-abbrev pub valueChecks : List Float → List Float → List Check
-valueChecks rotated projected = each badValue 11 rotated ∷ each badValue 11 projected ∷ []
+abbrev pub queryValueChecks : List Float → List Float → List Check
+queryValueChecks rotated projected = each badValue 11 rotated ∷ each badValue 11 projected ∷ []
 
 -- There is room for just the query rotated and the query projected.
 pub record Fitting (s : Setup) (room space : ℕ) : Type 0 where
@@ -39,9 +38,8 @@ pub record Clean (said : Answer (Unit {0})) (rotated projected : List Float) : T
   pub rotated-clean : clear badValue rotated ≡ true
   pub projected-clean : clear badValue projected ≡ true
 
--- The scalars and the directions pass, and the lengths of a prepared query are the setup's.
+-- The directions pass, and the lengths of a prepared query are the setup's.
 pub record Lengths (s : Setup) (directions : List Float) (rotated projected : ℕ) : Type 0 where
-  pub scalars : first (scalarChecks s) accepted ≡ accepted
   pub table : first (directionChecks s directions) accepted ≡ accepted
   pub rotated-long : rotated ≡ s .dim
   pub projected-long : projected ≡ countedProjectionsOf s

@@ -19,7 +19,7 @@ ghost use Rattle.packed.specs.Reading.{readRecordOf, radiiOf};
 ghost use Rattle.turbo_distance.specs.Distance.{distanceFromScoreOf};
 ghost use Rattle.turbo.specs.Estimates.{innerProductEstimateOf, saysPhased, innerProductEstimatePhasedOf, preparedChecks, innerProductEstimatePreparedOf, lengthsAndValues};
 ghost use Rattle.turbo.specs.Distance.{l2DistanceEstimateOf};
-ghost use Rattle.turbo.specs.Inner.{joined, valueChecks, Fitting, Turned, Clean, Lengths};
+ghost use Rattle.turbo.specs.Inner.{joined, queryValueChecks, Fitting, Turned, Clean, Lengths};
 ghost use Rattle.turbo.specs.Order.{Demand};
 ghost use Rattle.turbo.specs.Prepared.{Prepared};
 
@@ -174,7 +174,15 @@ fn measure_within(
     requires { ⌜ (first (scalarChecks setup) accepted ≡ accepted) × Fitting setup (length (now rotated)) (length (now projected)) ⌝ }
     ensures { λ r. ⌜ saysPhased r ≡ innerProductEstimatePhasedOf setup (lent (now (rotation .entry)) (now (directions .entry)) (now (matrix .entry))) (now (query .entry)) (now (bytes .entry)) ⌝ }
 {
-    let turned = turn(setup, rotation, directions, matrix, query, rotated, projected);
+    let turned = turn(
+        setup,
+        rotation,
+        directions,
+        matrix,
+        query,
+        rotated,
+        projected,
+    );
     if let Outcome::Refused { number, place } = turned {
         return Phased::BeforeReading { number, place };
     }
@@ -273,14 +281,10 @@ fn from_reading(scored: Scored) -> Phased
     }
 }
 
-// Whether the checks of a prepared query pass but for those of its values.
+// Whether the checks of a prepared query pass but for those of the scalars and of its values.
 fn is_fitting(setup: Setup, directions: &[f32], rotated: usize, projected: usize) -> bool
     ensures { λ r. ⌜ (r ≡ true → Lengths setup (now (directions .entry)) rotated projected) ⌝ }
 {
-    let scalars = setup::check_scalars(setup);
-    if let Outcome::Refused { number, place } = scalars {
-        return false;
-    }
     let table = setup_tables::check_directions(setup, directions);
     if let Outcome::Refused { number, place } = table {
         return false;
@@ -329,7 +333,7 @@ fn check_lengths_and_values(setup: Setup, rotated: &[f32], projected: &[f32]) ->
 
 // The values of the query rotated, then those of the query projected.
 fn check_values(rotated: &[f32], projected: &[f32]) -> Outcome
-    ensures { λ r. ⌜ says r ≡ first (valueChecks (now (rotated .entry)) (now (projected .entry))) accepted ⌝ }
+    ensures { λ r. ⌜ says r ≡ first (queryValueChecks (now (rotated .entry)) (now (projected .entry))) accepted ⌝ }
 {
     let rotated_place = error::first_non_finite(rotated);
     if rotated_place < rotated.len() {

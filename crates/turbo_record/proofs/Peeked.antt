@@ -1,13 +1,13 @@
 -- A record that was peeked at and is the setup's is opened where no radius offends, and its sums are those of its payloads. Assumes nothing.
 use Prim.Native.Nat.{ℕ, _/_}
-use mathlib.Core.Path.{_≡_, refl, sym, ap, _∙_, subst}
+use mathlib.Core.Path.{_≡_, refl, sym, ap, _∙_}
 use mathlib.Core.Bool.{Bool, true, false, cond}
 use mathlib.Core.List.{List}
 use lib.IntN.{ℤ}
 use lib.ListN.{length}
 use lib.Ieee.{Float, binary32, mul}
 use lib.Ieee.Scale.{finite}
-use Rattle.error.specs.Answer.{Answer, value, clear}
+use Rattle.error.specs.Answer.{value, clear}
 use Rattle.bitpack.specs.Packing.{indicesIn}
 use Rattle.bitpack.specs.Signs.{signsIn}
 use Rattle.radius.specs.Codec.{radiiFor}
@@ -56,8 +56,7 @@ module _ (bytes : List ℕ) {header : Header} (own : header ≡ headerOf bytes) 
       → (r : PayloadSum) → r ≡ payloadSumOf directions rotated (header .profile) (header .range) radii indices (header .bits) (header .dim / 2)
       → Summed r bytes (polarSumOf rotated directions (indicesOf bytes) (radiiOf bytes))
   payload-summed directions rotated radii indices f g (Sum x) e =
-      let told = sum-told directions rotated (header .profile) (header .range) radii indices (header .bits) (header .dim / 2) e in
-      (
+      let told = sum-told directions rotated (header .profile) (header .range) radii indices (header .bits) (header .dim / 2) e in (
         told .0
             ∙ ap (λ (is : List ℕ). polarSumOf rotated directions is (radiiFor (header .profile) (header .dim / 2) (header .range) radii)) (header-indices indices g)
             ∙ ap (polarSumOf rotated directions (indicesOf bytes)) (header-radii radii f),

@@ -1,7 +1,7 @@
 -- No hidden infinity in a rotation: where all rotated values are finite, so were all values that were rotated, by signs and butterflies or by a stored matrix.
 -- Assumes nothing.
 use Prim.Native.Nat.{ℕ, zero, suc, _+_, _*_, _-_, _/_, _%_, _<_}
-use mathlib.Core.Path.{_≡_, refl, sym, ap, _∙_, subst}
+use mathlib.Core.Path.{_≡_, sym, _∙_, subst}
 use mathlib.Core.Bool.{Bool, true, false, cond}
 use mathlib.Core.List.{List, map}
 use native.Mathlib.Omega.{arith}
@@ -19,7 +19,7 @@ use Rattle.rounding.specs.Butterfly.{entry, stage, stages}
 use Rattle.rounding.specs.Sums.{products, dot}
 use Rattle.rounding.proofs.Finite.{add-finite, sub-finite, mul-finite}
 use Rattle.rounding.proofs.Lists.{getD-any, length-products, getD-products}
-use Rattle.rounding.proofs.Butterflies.{length-stage, length-stages, stage-at}
+use Rattle.rounding.proofs.Butterflies.{length-stage, stage-at}
 use Rattle.rounding.proofs.Partial.{dot-finite}
 use Rattle.qjl_rows.proofs.FiniteSums.{is-true, told}
 use Rattle.rotation.specs.Rotation.{inverseRoot, scaled, hadamardOf, rotated}

@@ -1,6 +1,6 @@
 -- `bitpack_signs::pack_blocks` meets its contract: each byte that a block gives is the next of `SignsPacked`. Assumes nothing.
 use Prim.Native.Nat.{ℕ, _+_, _-_, _*_, _/_, _≤_, _<_}
-use mathlib.Core.Path.{_≡_, refl, sym, ap, _∙_}
+use mathlib.Core.Path.{_≡_, refl, _∙_}
 use mathlib.Core.List.{map}
 use native.Mathlib.Nat.{add-zero}
 use native.Mathlib.Omega.{arith}

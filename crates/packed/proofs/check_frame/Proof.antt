@@ -1,6 +1,5 @@
 -- `packed::check_frame` meets its contract: each return is one case of the checks, in the record's terms. Assumes nothing.
 use mathlib.Core.Path.{_≡_, sym, ap, _∙_}
-use mathlib.Core.Bool.{false}
 use denote.Ref.{now}
 use lib.ListN.{length}
 use Rattle.radius.specs.Radii.{badRadius}

@@ -1,7 +1,7 @@
 -- `polar_blocks::add_block` meets its contract: what was restored is judged, and its terms are added. Assumes nothing.
 use borrow.Author.Needs.{needs}
 use Prim.Native.Nat.{ℕ, _+_, _-_, _*_, _≤_}
-use mathlib.Core.Path.{_≡_, sym, ap, _∙_}
+use mathlib.Core.Path.{_≡_, sym, _∙_}
 use mathlib.Core.List.{_++_}
 use native.Mathlib.Nat.{mul-add}
 use native.Mathlib.Omega.{arith}

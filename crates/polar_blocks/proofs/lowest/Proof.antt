@@ -1,6 +1,5 @@
 -- `polar_blocks::lowest` meets its contract: a mask takes the lowest bits. Assumes nothing.
 use borrow.Author.Needs.{needs}
-use mathlib.Core.Path.{sym}
 use native.Mathlib.Nat.{mod-lt}
 use native.Mathlib.Omega.{arith}
 use lib.Pow.{pow-pos}

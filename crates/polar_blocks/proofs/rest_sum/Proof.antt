@@ -39,8 +39,8 @@ loop-again c =
     let s = c .before .before .before .before .before .before .before .before in
     let here = c .before .before .before .loop in
     let told =
-      c .term-of .ensures
-      ∙ ap (pairTerm (s .args .directions .now) (s .args .rotated .now) (valueAt (s .args .block .now) (here .i)) (s .args .start + here .i)) (c .before .word-from .ensures .first) in
+    c .term-of .ensures
+    ∙ ap (pairTerm (s .args .directions .now) (s .args .rotated .now) (valueAt (s .args .block .now) (here .i)) (s .args .start + here .i)) (c .before .word-from .ensures .first) in
     (omega arith, total-more _ _ (here .i) (here .sum) _ (omega arith) told (here .inv .1))
 
 returns : tie.Need-returns Inv-loop μ-loop

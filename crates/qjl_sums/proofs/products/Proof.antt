@@ -2,14 +2,14 @@
 use Prim.Native.Nat.{_-_, _≤_, _<_}
 use mathlib.Core.Path.{_≡_, refl}
 use native.Mathlib.Omega.{arith}
-use Rattle.qjl_sums.specs.Inner.{Paired}
+use Rattle.qjl_sums.specs.Inner.{Interleaved}
 use Rattle.qjl_sums.proofs.Fours.{paired-start, paired-more}
 use Rattle.qjl_sums.proofs.products.Statement.{statement}
 use Rattle.qjl_sums.proofs.products.Tie as tie
 
 abbrev Inv-loop : tie.InvT-loop
 Inv-loop matrix from query column y₀ z₀ columns second third fourth i₀ y z i =
-    (i ≤ 16) × (Paired matrix query second from column i y × Paired matrix query third fourth column i z)
+    (i ≤ 16) × (Interleaved matrix query second from column i y × Interleaved matrix query third fourth column i z)
 
 abbrev μ-loop : tie.MeasureT-loop
 μ-loop matrix from query column y₀ z₀ columns second third fourth i₀ y z i = 16 - i

@@ -7,7 +7,6 @@ use Rattle.error.specs.Answer.{first, accepted}
 use Rattle.error.specs.Outcomes.{says}
 use Rattle.error.proofs.Answers.{both-refused, both-value}
 use Rattle.rotation.specs.Checks.{rotationChecks}
-use Rattle.rotation.specs.Rotation.{unrotated}
 use Rattle.rotation.proofs.Accepted.{Rotatable, rotatable}
 use Rattle.rotation.proofs.Applied.{inverse-refused, inverse-value}
 use Rattle.rotation.proofs.apply_inverse_within.Statement.{statement}

@@ -7,11 +7,11 @@ use Rattle.error.specs.Outcomes.{says}
 use Rattle.turbo.proofs.is_fitting.Statement.{statement}
 use Rattle.turbo.proofs.is_fitting.Tie as tie
 
-check-scalars-requires : tie.Need-check-scalars-requires
-check-scalars-requires c κs = search needs
+check-directions-requires : tie.Need-check-directions-requires
+check-directions-requires c κs = search needs
 
-enum-known-scalars : tie.Need-enum-known-scalars
-enum-known-scalars c = search needs
+enum-known-table : tie.Need-enum-known-table
+enum-known-table c = search needs
 
 returns : tie.Need-returns
 returns c = λ e. absurd (true≢false (sym e))
@@ -19,30 +19,17 @@ returns c = λ e. absurd (true≢false (sym e))
 enum-told : tie.Need-enum-told
 enum-told c = search needs
 
-check-directions-requires : tie.Need-check-directions-requires
-check-directions-requires c κs = search needs
-
-enum-known-table : tie.Need-enum-known-table
-enum-known-table c = search needs
-
 returns-2 : tie.Need-returns-2
 returns-2 c = λ e. absurd (true≢false (sym e))
-
-enum-told-2 : tie.Need-enum-told-2
-enum-told-2 c = search needs
-
-returns-3 : tie.Need-returns-3
-returns-3 c = λ e. absurd (true≢false (sym e))
 
 counted-projections-requires : tie.Need-counted-projections-requires
 counted-projections-requires c κs = search needs
 
-returns-4 : tie.Need-returns-4
-returns-4 c =
+returns-3 : tie.Need-returns-3
+returns-3 c =
     λ e.
     record {
-      scalars = sym (c .before .before .before .before .before .before .before .before .check-scalars .ensures) ∙ ap says (c .before .before .before .before .before .before .enum-told .given .1);
-      table = sym (c .before .before .before .before .before .check-directions .ensures) ∙ ap says (c .before .before .before .enum-told2 .given .1);
+      table = sym (c .before .before .before .before .before .check-directions .ensures) ∙ ap says (c .before .before .before .enum-told .given .1);
       rotated-long = c .before .if1 .left;
       projected-long = eqb-true _ _ e ∙ c .counted-projections .ensures;
     }
@@ -51,14 +38,10 @@ pub is-fitting-spec : {M : Type 1} → statement M
 is-fitting-spec =
     tie.close
     (tie.spec
-    check-scalars-requires
-    enum-known-scalars
-    returns
-    enum-told
     check-directions-requires
     enum-known-table
+    returns
+    enum-told
     returns-2
-    enum-told-2
-    returns-3
     counted-projections-requires
-    returns-4)
+    returns-3)

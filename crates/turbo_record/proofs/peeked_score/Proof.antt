@@ -56,8 +56,7 @@ returns-4 : tie.Need-returns-4
 returns-4 c =
     let k = c .before .before .before .before .before in
     let s = k .before .before .before .before .before .before .before .before in
-    let a = s .args in
-    (
+    let a = s .args in (
       sym
           (record-both (a .setup) (a .directions .now) (a .rotated .now) (a .projected .now) (a .bytes .now) (peeked-opened (a .setup) (a .bytes .now) (s .pre) (summed k .1)) (c .before .before .before .enum-told3 .given .1) _ _
           (summed k .0) (c .residual-of-bits .ensures)),
