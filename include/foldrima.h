@@ -47,10 +47,10 @@
  *
  * Stack. Whatever it is lent, a call takes at most (host/c/stack.c measures every call at the largest setup):
  *
- *     inner_product_estimate, l2_distance_estimate                96 KB
+ *     inner_product_estimate, l2_distance_estimate                60 KB
  *     prepare_query                                               48 KB
- *     decode_approximate                                          40 KB
  *     sketch, sketch_score, inner_product_estimate_prepared       24 KB
+ *     decode_approximate, stored_apply and its inverse             8 KB
  *     every other call                                             4 KB
  *
  * Modes, kinds and profiles. They are numbers here, since an enum can't cross to C, and every number of a uint8_t means one: a mode other than 0 counts

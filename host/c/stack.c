@@ -228,13 +228,13 @@ int main(void)
         {"record_size", record_size, 4 * KB}, {"write_record", write_record, 4 * KB}, {"read_record", read_record, 4 * KB},
         {"radii_part", radii_part, 4 * KB}, {"indices_part", indices_part, 4 * KB}, {"signs_part", signs_part, 4 * KB}, {"read_radii", read_radii, 4 * KB},
         {"read_indices", read_indices, 4 * KB}, {"read_signs", read_signs, 4 * KB}, {"sketch", make_sketch, 24 * KB},
-        {"sketch_score", sketch_score, 24 * KB}, {"inner_product_estimate_prepared", prepared_score, 24 * KB}, {"decode_approximate", decode, 40 * KB},
-        {"prepare_query", prepare, 48 * KB}, {"inner_product_estimate", score, 96 * KB}, {"l2_distance_estimate", distance, 96 * KB},
-        {"stored_apply", stored_apply, 4 * KB}, {"stored_apply_inverse", stored_apply_inverse, 4 * KB}, {"check_setup, stored", stored_check, 4 * KB},
+        {"sketch_score", sketch_score, 24 * KB}, {"inner_product_estimate_prepared", prepared_score, 24 * KB}, {"decode_approximate", decode, 8 * KB},
+        {"prepare_query", prepare, 48 * KB}, {"inner_product_estimate", score, 60 * KB}, {"l2_distance_estimate", distance, 60 * KB},
+        {"stored_apply", stored_apply, 8 * KB}, {"stored_apply_inverse", stored_apply_inverse, 8 * KB}, {"check_setup, stored", stored_check, 4 * KB},
         {"sketch, stored", stored_sketch, 24 * KB}, {"sketch_score, stored", stored_sketch_score, 24 * KB},
-        {"prepare_query, stored", stored_prepare, 48 * KB}, {"inner_product_estimate, stored", stored_score, 96 * KB},
-        {"prepared score, stored", stored_prepared_score, 24 * KB}, {"l2_distance_estimate, stored", stored_distance, 96 * KB},
-        {"decode_approximate, stored", stored_decode, 40 * KB},
+        {"prepare_query, stored", stored_prepare, 48 * KB}, {"inner_product_estimate, stored", stored_score, 60 * KB},
+        {"prepared score, stored", stored_prepared_score, 24 * KB}, {"l2_distance_estimate, stored", stored_distance, 60 * KB},
+        {"decode_approximate, stored", stored_decode, 8 * KB},
     };
     enum { CALLS = sizeof calls / sizeof *calls };
     static size_t most[CALLS];

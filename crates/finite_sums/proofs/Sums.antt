@@ -1,5 +1,5 @@
 -- Sums that take one value more: where the new sum is finite, so are the old sum and the value. Assumes nothing.
-use Prim.Native.Nat.{ℕ, _+_, _≤_, _<_}
+use Prim.Native.Nat.{ℕ, _+_, _<_}
 use mathlib.Core.Path.{_≡_, sym, ap, subst}
 use mathlib.Core.Bool.{true, not}
 use mathlib.Core.List.{List}

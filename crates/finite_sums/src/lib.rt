@@ -1,4 +1,4 @@
-// Whether every value of a long list is finite, found by adding: a sum that is finite has finite terms only, and one addition for a value is less than a test.
+// Whether every value of a long list is finite, and which is the first that is not, found by adding: a sum that is finite has finite terms only, and one addition for a value is less than a test.
 // Where the sum is not finite, which finite values may bring about too, each value is tested.
 
 ghost use mathlib.Core.Path.{_≡_};
@@ -6,7 +6,7 @@ ghost use mathlib.Core.Bool.{true};
 ghost use Prim.Native.Nat.{_+_, _≤_};
 ghost use lib.ListN.{length};
 ghost use Rattle.error.specs.Answer.{clear};
-ghost use Rattle.error.specs.Checks.{badValue};
+ghost use Rattle.error.specs.Checks.{badValue, firstNonFiniteOf};
 ghost use Rattle.finite_sums.specs.Inner.{Took, Ran};
 
 // Whether every value is finite.
@@ -17,6 +17,16 @@ pub fn all_finite(values: &[f32]) -> bool
         return true;
     }
     error::all_finite(values)
+}
+
+// The index of the first value that is not finite, or how many values there are where each is finite.
+pub fn first_non_finite(values: &[f32]) -> usize
+    ensures { λ r. ⌜ r ≡ firstNonFiniteOf (now (values .entry)) ⌝ }
+{
+    if is_sum_finite(values) {
+        return values.len();
+    }
+    error::first_non_finite(values)
 }
 
 // Whether the sum of all values is finite. It is taken in 32 sums side by side, which are then added up.

@@ -10,7 +10,7 @@ use native.Mathlib.Omega.{arith}
 use borrow.Author.Tests.{lt-ltb, le-ltb, lt-leb, le-leb, ne-eqb}
 use lib.IntN.{ℤ}
 use lib.Dec.{T, ltb, eqb, ltb→lt}
-use lib.Ieee.{Float, nan, inf, fin, binary32, up, down, size, odd, ofFields, ofBits, toBits, fits}
+use lib.Ieee.{Float, nan, inf, fin, binary32, odd, ofFields, ofBits, toBits, fits}
 use lib.Ieee.Exact.{HasValue, odd-sign}
 use lib.Ieee.Bits.{ofBits-toBits}
 use Rattle.float.specs.Units.{nonNegative, unit, mag}
@@ -36,9 +36,6 @@ significand-lt b = go (decLt b (2 ^ 23))
     go : Dec (b < 2 ^ 23) → significandOf b < 2 ^ 24
     go (yes h) = rw (significand-low b h) (omega arith)
     go (no h) = rw (significand-high b (omega arith)) more
-
-pub significand-ge : (b : ℕ) → 2 ^ 23 ≤ b → 2 ^ 23 ≤ significandOf b
-significand-ge b h = rw (significand-high b h) (omega arith)
 
 pub significand-positive : (b : ℕ) → 0 < b → 0 < significandOf b
 significand-positive b h = go (decLt b (2 ^ 23))
@@ -140,16 +137,6 @@ nonNegative-ofBits b = go (decLt b 0x7F80_0000) (decLt b 0x8000_0000)
 
 pub nonNegative-toBits : (x : Float) → T (fits binary32 x) → nonNegative x ≡ ltb (toBits binary32 x) 0x7F80_0000
 nonNegative-toBits x h = ap nonNegative (sym (ofBits-toBits binary32 x h)) ∙ nonNegative-ofBits (toBits binary32 x)
-
-first-part : (t k n : ℕ) → t ≤ t + k + n
-first-part t k n = omega arith
-
--- a set sign's weight is part of the pattern
-pub toBits-negative : (m : ℕ) (e : ℤ) → 0x8000_0000 ≤ toBits binary32 (fin true m e)
-unfolding toBits
-toBits-negative m e =
-    let n = m * up e * 2 ^ 149 / down e in
-    first-part 0x8000_0000 ((size n - 24) * 2 ^ 23) (n / 2 ^ (size n - 24))
 
 pub mag-ofBits : (b : ℕ) → b < 0x7F80_0000 → mag (ofBits binary32 b) ≡ significandOf b * 2 ^ shiftOf b
 unfolding unit

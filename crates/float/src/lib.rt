@@ -1,5 +1,5 @@
 // What `std` lacks for `f32`, worked out for every float: NaN, the infinities and both zeros among them.
-// The Rust original calls `f32::is_finite`, `from_le_bytes`, `clamp`, `floor`, `round` and `sqrt`, and `copy_from_slice`, of its own `std`.
+// The Rust original calls `f32::is_finite`, `from_le_bytes`, `clamp`, `floor` and `sqrt`, and `copy_from_slice`, of its own `std`.
 
 ghost use mathlib.Core.Path.{_≡_};
 ghost use mathlib.Core.List.{[], _∷_};
@@ -9,7 +9,7 @@ ghost use lib.Ieee.{binary32, ofBits, toBits, isNan};
 ghost use lib.Ieee.Scale.{finite};
 ghost use Rattle.float.specs.Bytes.{ofLeBytes, putF32Of};
 ghost use Rattle.float.specs.Copying.{copyIntoOf};
-ghost use Rattle.float.specs.Rounding.{floorUnsigned, roundUnsigned, clamped};
+ghost use Rattle.float.specs.Rounding.{floorUnsigned, clamped};
 ghost use Rattle.float.specs.SquareRoot.{NearestRoot, squareRoot, rootPattern, nearestRoot, rootBits};
 ghost use Rattle.float.specs.Units.{nonNegative, mag};
 ghost use Rattle.float.specs.Inner.{significandOf, shiftOf};
@@ -87,29 +87,6 @@ pub fn floor_u32(x: f32) -> u32
         return 4294967295;
     }
     0
-}
-
-// Rust's `x.round() as u16`: to the nearest whole number, a half away from zero. NaN and what is below a half give 0, and what is too large gives 65535.
-pub fn round_u16(x: f32) -> u16
-    ensures { λ r. ⌜ r ≡ roundUnsigned 16 x ⌝ }
-{
-    let b = to_bits(x);
-    // A NaN, or a sign that is set.
-    if b > 0x7F80_0000 {
-        return 0;
-    }
-    // From 65536.0 to the infinity.
-    if b >= 0x4780_0000 {
-        return 65535;
-    }
-    // Below 0.5.
-    if b < 0x3F00_0000 {
-        return 0;
-    }
-    // x is the significand over 2^s.
-    let s = 149 - shift(b);
-    let n = (significand(b) + (1u32 << (s - 1))) >> s;
-    if n < 65536 { n as u16 } else { 65535 }
 }
 
 // IEEE 754's squareRoot: the nearest `f32`. Each zero is its own root; NaN and what is below zero give NaN.

@@ -65,25 +65,25 @@ number-from (b ∷ bs) (suc at) below =
     let first : (b + 256 * n) / 2 ^ 8 ≡ n = omega (arith, add-mul-div-left b n {y = 256} (omega arith), small) in
     ap (λ (m : ℕ). (b + 256 * n) / 2 ^ m) eight ∙ sym (shr-shr (b + 256 * n) 8 (8 * at)) ∙ ap (λ (m : ℕ). m / 2 ^ (8 * at)) first ∙ number-from bs at (below-tail below)
 
--- index i stands s bits above the first of a word
-pub index-word : (bits : ℕ) (bytes : List ℕ) (at s i word rest : ℕ) → Below 256 bytes → 8 * at + s ≡ i * bits → s + bits ≤ 64 → number 256 (drop at bytes) ≡ word + 2 ^ 64 * rest
+-- index i stands s bits above the first of a word of so many bits
+index-word : (bits held : ℕ) (bytes : List ℕ) (at s i word rest : ℕ) → Below 256 bytes → 8 * at + s ≡ i * bits → s + bits ≤ held → number 256 (drop at bytes) ≡ word + 2 ^ held * rest
     → word / 2 ^ s % 2 ^ bits ≡ indexAt bits bytes i
-index-word bits bytes at s i word rest below place fits stands =
+index-word bits held bytes at s i word rest below place fits stands =
     sym
     (ap (λ (m : ℕ). number 256 bytes / 2 ^ m % 2 ^ bits) (sym place)
-    ∙ ap (λ (m : ℕ). m % 2 ^ bits) (sym (shr-shr (number 256 bytes) (8 * at) s) ∙ ap (λ (m : ℕ). m / 2 ^ s) (number-from bytes at below ∙ stands) ∙ shift-out s 64 (omega arith) word rest)
-    ∙ low-out bits (64 - s) (omega arith) (word / 2 ^ s) rest)
+    ∙ ap (λ (m : ℕ). m % 2 ^ bits) (sym (shr-shr (number 256 bytes) (8 * at) s) ∙ ap (λ (m : ℕ). m / 2 ^ s) (number-from bytes at below ∙ stands) ∙ shift-out s held (omega arith) word rest)
+    ∙ low-out bits (held - s) (omega arith) (word / 2 ^ s) rest)
 
 -- the word that begins with an index has the next two as well
 pub word-three : (bits : ℕ) (bytes : List ℕ) (i word rest : ℕ) → Below 256 bytes → bits ≤ 16 → number 256 (drop (i * bits / 8) bytes) ≡ word + 2 ^ 64 * rest → Three bits bytes i (word / 2 ^ (i * bits % 8))
 word-three bits bytes i word rest below narrow stands =
     record {
-      first = index-word bits bytes at s i word rest below (omega arith) (omega arith) stands;
-      second = ap (λ (m : ℕ). m % 2 ^ bits) (shr-shr word s bits) ∙ index-word bits bytes at (s + bits) (i + 1) word rest below (omega (arith, add-mul i 1 bits)) (omega arith) stands;
+      first = index-word bits 64 bytes at s i word rest below (omega arith) (omega arith) stands;
+      second = ap (λ (m : ℕ). m % 2 ^ bits) (shr-shr word s bits) ∙ index-word bits 64 bytes at (s + bits) (i + 1) word rest below (omega (arith, add-mul i 1 bits)) (omega arith) stands;
       third =
           ap (λ (m : ℕ). m / 2 ^ bits % 2 ^ bits) (shr-shr word s bits)
           ∙ ap (λ (m : ℕ). m % 2 ^ bits) (shr-shr word (s + bits) bits)
-          ∙ index-word bits bytes at (s + bits + bits) (i + 2) word rest below (omega (arith, add-mul i 2 bits)) (omega arith) stands;
+          ∙ index-word bits 64 bytes at (s + bits + bits) (i + 2) word rest below (omega (arith, add-mul i 2 bits)) (omega arith) stands;
     }
   where
     at : ℕ
@@ -91,3 +91,7 @@ word-three bits bytes i word rest below narrow stands =
 
     s : ℕ
     s = i * bits % 8
+
+-- and the first of four bytes' number
+pub four-index : (bits : ℕ) (bytes : List ℕ) (i : ℕ) → Below 256 bytes → bits ≤ 16 → number 256 (fourAt bytes (i * bits / 8)) / 2 ^ (i * bits % 8) % 2 ^ bits ≡ indexAt bits bytes i
+four-index bits bytes i below narrow = index-word bits 32 bytes (i * bits / 8) (i * bits % 8) i _ _ below (omega arith) (omega arith) (number-four bytes (i * bits / 8))

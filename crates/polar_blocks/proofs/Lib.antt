@@ -2,3 +2,4 @@ pub mod Indices
 pub mod Radii
 pub mod Blocks
 pub mod Told
+pub mod Spreading

@@ -1,4 +1,4 @@
--- Whether no radius is refused: by two tests that are each made of every radius, of a list in two parts, and part by part of a payload. Assumes nothing.
+-- Whether no item of a list offends, in two parts or by two tests, and the radii of a part of a payload. Assumes nothing.
 use Prim.Native.Nat.{ℕ, zero, suc, _+_, _-_, _*_, _≤_, _<_, suc-le-suc}
 use mathlib.Core.Path.{_≡_, refl, sym, ap, _∙_}
 use mathlib.Core.Bool.{Bool, true, false, not, _&&_, _||_, true≢false}
@@ -9,19 +9,18 @@ use borrow.Author.Tests.{lt-ltb, le-ltb, ltb-true, ltb-false}
 use lib.Dec.{ltb}
 use lib.ListN.{length, take, drop, length-drop}
 use lib.Seq.{getD-take, getD-drop, length-take-le, ext-getD, take-nil, drop-nil, take-take, drop-drop}
-use lib.Ieee.{Float, nan, inf, fin, ofBits, lt}
+use lib.Ieee.{Float, nan}
 use Rattle.error.specs.Answer.{place, clear, after}
 use Rattle.error.proofs.Differs.{differs-not}
 use Rattle.error.proofs.Places.{place-bad, place-good}
 use Rattle.lists.specs.Chunks.{chunks}
 use Rattle.lists.proofs.Chunks.{chunks-getD, length-chunks}
 use Rattle.lists.proofs.Loops.{place-within}
-use Rattle.radius.specs.Radii.{badRadius}
 use Rattle.radius.specs.Codec.{badProfile, widthOf, radiiFor, restoreOf}
 use Rattle.radius.specs.declared.Range.{Range}
 use Rattle.radius.specs.declared.RadiusCodecProfileV1.{RadiusCodecProfileV1}
 use Rattle.radius.specs.declared.RadiusCodecProfileV1.the-variants.{F32, BlockLinearU16, BlockLogU8}
-use Rattle.polar_blocks.specs.Inner.{belowZero, notBelowInfinity, partRadii}
+use Rattle.polar_blocks.specs.Inner.{partRadii}
 
 -- ---- a list of items of which none offends
 
@@ -57,18 +56,6 @@ module _ {A : Type 0} where
       join false true true d = refl
       join false true false d = refl
       join false false c d = refl
-
--- a radius is refused where it is below zero, or not below infinity
-pub radius-tests : (x : Float) → badRadius x ≡ belowZero x || notBelowInfinity x
-unfolding lt ofBits
-radius-tests nan = refl
-radius-tests (inf true) = refl
-radius-tests (inf false) = refl
-radius-tests (fin s m e) = split _
-  where
-    split : (b : Bool) → b ≡ b || false
-    split true = refl
-    split false = refl
 
 -- ---- a part of a payload
 
@@ -108,13 +95,17 @@ radii-long F32 range radii n known = length-chunks _ 4 n radii
 radii-long BlockLinearU16 range radii n known = length-chunks _ 2 n radii
 radii-long BlockLogU8 range radii n known = absurd (true≢false known)
 
--- what is restored from the bytes of a part
+-- what is restored from bytes of just the right length
+pub all-restored : (profile : RadiusCodecProfileV1) (range : Range) (payload : List ℕ) (count room : ℕ) (old : List Float) → badProfile profile ≡ false → length payload ≡ widthOf profile * count → room ≡ count
+    → after (restoreOf profile count range payload room) old ≡ radiiFor profile count range payload
+unfolding restoreOf
+all-restored profile range payload count room old known sized rooms = rw (known, differs-not (length payload) (widthOf profile * count) sized, differs-not room count rooms)
+
+-- and from those of a part
 pub part-restored : (profile : RadiusCodecProfileV1) (range : Range) (radii : List ℕ) (at count width room : ℕ) (old : List Float) → badProfile profile ≡ false → width ≡ widthOf profile → widthOf profile * (at + count) ≤ length radii → room ≡ count
     → after (restoreOf profile count range (take (width * at + width * count - width * at) (drop (width * at) radii)) room) old ≡ partRadii profile range radii at count
-unfolding restoreOf
 part-restored profile range radii at count width room old known e sized rooms =
     let w = widthOf profile in
-    let payload = take (w * count) (drop (w * at) radii) in
-    let long : length payload ≡ w * count = length-take-le (w * count) (drop (w * at) radii) (rw length-drop (omega (arith, sized, mul-add w at count))) in
+    let long : length (take (w * count) (drop (w * at) radii)) ≡ w * count = length-take-le (w * count) (drop (w * at) radii) (rw length-drop (omega (arith, sized, mul-add w at count))) in
     let cut : w * at + w * count - w * at ≡ w * count = omega arith in
-    rw (e, cut, known, differs-not (length payload) (w * count) long, differs-not room count rooms)
+    rw (e, cut) (all-restored profile range (take (w * count) (drop (w * at) radii)) count room old known long rooms)

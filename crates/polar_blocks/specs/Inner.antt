@@ -96,3 +96,10 @@ pub record Summable (directions rotated : List Float) (profile : RadiusCodecProf
   pub fits : fitsPayload profile radii indices bits pairs ≡ true
   pub query : pairs ≤ length rotated / 2
   pub table : 2 ^ bits ≤ length directions / 2
+
+-- There are two floats for each of the pairs, and the bytes hold their indices.
+pub record Spreadable (indices : List ℕ) (bits pairs room : ℕ) : Type 0 where
+  pub double : room ≡ 2 * pairs
+  pub few : pairs ≤ 2048
+  pub narrow : bits ≤ 16
+  pub enough : pairs * bits ≤ 8 * length indices

@@ -1,6 +1,6 @@
 -- These are the polar sum and the pairs of a decoded code by the bytes of a record: radii and indices are what two payloads hold. Where a length does not fit or a
 -- radius is refused there is no such sum, and the caller finds otherwise what to answer. Assumes nothing.
-use Prim.Native.Nat.{ℕ, _*_, _/_, _^_}
+use Prim.Native.Nat.{ℕ, _*_, _/_, _%_, _^_}
 use mathlib.Core.Bool.{Bool, not, cond, _&&_}
 use mathlib.Core.List.{List}
 use lib.Dec.{leb, eqb}
@@ -13,7 +13,7 @@ use Rattle.radius.specs.Radii.{badRadius}
 use Rattle.radius.specs.Codec.{badProfile, widthOf, radiiFor}
 use Rattle.radius.specs.declared.Range.{Range}
 use Rattle.radius.specs.declared.RadiusCodecProfileV1.{RadiusCodecProfileV1}
-use Rattle.polar.specs.Polar.{polarSumOf}
+use Rattle.polar.specs.Polar.{polarSumOf, decodedPairs}
 use Rattle.polar_blocks.specs.declared.PayloadSum.{PayloadSum}
 use Rattle.polar_blocks.specs.declared.PayloadSum.the-variants.{Sum, Otherwise}
 
@@ -38,3 +38,17 @@ payloadSumOf directions rotated profile range radii indices bits pairs =
     (fitsPayload profile radii indices bits pairs && longEnough directions rotated bits pairs && clear badRadius (radiiFor profile pairs range radii))
     (Sum (polarSumOf rotated directions (indicesIn bits pairs indices) (radiiFor profile pairs range radii)))
     Otherwise
+
+-- ---- the pairs of a decoded code
+-- The payloads hold what an output of `room` floats is made of, two for each pair.
+abbrev pub fitsPairs : RadiusCodecProfileV1 → List ℕ → List ℕ → ℕ → ℕ → Bool
+fitsPairs profile radii indices bits room = eqb (room % 2) 0 && fitsPayload profile radii indices bits (room / 2)
+
+-- This is what `payload_pairs` leaves in an output that held `out`: the decoded entries, whatever the radii, or `out` where a payload does not fit.
+unfoldable pub payloadPairsOf : List Float → RadiusCodecProfileV1 → Range → List ℕ → List ℕ → ℕ → List Float → List Float
+payloadPairsOf directions profile range radii indices bits out =
+    let pairs = length out / 2 in
+    cond
+    (fitsPairs profile radii indices bits (length out))
+    (decodedPairs directions (indicesIn bits pairs indices) (radiiFor profile pairs range radii))
+    out

@@ -9,9 +9,10 @@ ghost use Rattle.error.specs.Answer.{clear};
 ghost use Rattle.digits.specs.Digits.{number};
 ghost use Rattle.digits.specs.Inner.{fourAt};
 ghost use Rattle.radius.specs.Radii.{badRadius};
-ghost use Rattle.polar.specs.Polar.{valueAt};
-ghost use Rattle.polar_blocks.specs.Payload.{fitsPayload, payloadSumOf};
-ghost use Rattle.polar_blocks.specs.Inner.{belowZero, notBelowInfinity, pairTerm, Three, Termed, Blocked, blockSumFrom, Addable, addedBlock, Summable};
+ghost use Rattle.bitpack.specs.Packing.{indicesIn};
+ghost use Rattle.polar.specs.Polar.{valueAt, decodedPairs};
+ghost use Rattle.polar_blocks.specs.Payload.{fitsPayload, payloadSumOf, fitsPairs, payloadPairsOf};
+ghost use Rattle.polar_blocks.specs.Inner.{belowZero, notBelowInfinity, indexAt, pairTerm, Three, Termed, Blocked, blockSumFrom, Addable, addedBlock, Summable, Spreadable};
 
 // A sum, or that it is to be found otherwise.
 pub enum PayloadSum {
@@ -53,6 +54,33 @@ pub fn payload_sum(
         bits,
         pairs,
     )
+}
+
+// The pairs of the code whose radii and indices two payloads hold, into the output: r × c and r × s of each, before the inverse rotation. No radius is
+// judged. Where a payload does not fit an output of two floats for each pair, nothing is written, and the answer is false.
+pub fn payload_pairs(
+    directions: &[f32],
+    profile: RadiusCodecProfileV1,
+    range: Range,
+    radii: &[u8],
+    indices: &[u8],
+    bits: u8,
+    out: &mut [f32],
+) -> bool
+    ensures told { λ r. ⌜ r ≡ fitsPairs profile (now (radii .entry)) (now (indices .entry)) bits (length (now (out .entry))) ⌝ }
+    ensures left { λ _. ⌜ now (out .exit) ≡ payloadPairsOf (now (directions .entry)) profile range (now (radii .entry)) (now (indices .entry)) bits (now (out .entry)) ⌝ }
+{
+    let count = out.len();
+    let pairs = count / 2;
+    if count % 2 != 0 {
+        return false;
+    }
+    if !fits_payload(profile, radii, indices, bits, pairs) {
+        return false;
+    }
+    radius_reading::restore(profile, pairs, range, radii, &mut out[pairs..count]);
+    spread(directions, indices, bits, pairs, out);
+    true
 }
 
 // Whether two payloads hold the radii and the indices of so many pairs: the first just these, the second at least.
@@ -330,7 +358,53 @@ fn last_word(bytes: &[u8], at: usize) -> u64
     (four_at(bytes, at) as u64) + 4294967296 * (four_at(bytes, at + 4) as u64)
 }
 
+// The pairs whose radii stand in the second half of the output, into all of it: what is written for a pair lies in front of the radii that are still to
+// be read.
+fn spread(directions: &[f32], indices: &[u8], bits: u8, pairs: usize, out: &mut [f32])
+    requires { ⌜ Spreadable (now indices) bits pairs (length (now out)) ⌝ }
+    ensures { λ _. ⌜ now (out .exit) ≡ decodedPairs (now (directions .entry)) (indicesIn bits pairs (now (indices .entry))) (drop pairs (now (out .entry))) ⌝ }
+{
+    let mut i = 0;
+    while i < pairs {
+        let pair = 2 * i;
+        let direction = 2 * index_at(indices, bits, i);
+        let c = value_at(directions, direction);
+        let s = value_at(directions, direction + 1);
+        let r = out[pairs + i];
+        out[pair] = r * c;
+        out[pair + 1] = r * s;
+        i += 1;
+    }
+}
+
+// The index of pair i.
+fn index_at(indices: &[u8], bits: u8, i: usize) -> usize
+    requires { ⌜ (bits ≤ 16) × (i ≤ 2048) × (i * bits ≤ 8 * length (now indices)) ⌝ }
+    ensures { λ r. ⌜ (r ≡ indexAt bits (now (indices .entry)) i) × (r < 2 ^ bits) ⌝ }
+{
+    let bit = i * bits as usize;
+    lowest(four_from(indices, bit / 8) >> (bit % 8), bits)
+}
+
+// The float at a place, or +0.0 where the slice has none.
+fn value_at(values: &[f32], i: usize) -> f32
+    ensures { λ r. ⌜ r ≡ valueAt (now (values .entry)) i ⌝ }
+{
+    if i < values.len() { values[i] } else { 0.0 }
+}
+
 // Four bytes from `at` on as a number; those that are missing count as 0.
+fn four_from(bytes: &[u8], at: usize) -> u64
+    requires { ⌜ at ≤ length (now bytes) ⌝ }
+    ensures { λ r. ⌜ r ≡ number 256 (fourAt (now (bytes .entry)) at) ⌝ }
+{
+    if 4 <= bytes.len() - at {
+        return digits::word_of(bytes[at], bytes[at + 1], bytes[at + 2], bytes[at + 3]) as u64;
+    }
+    four_at(bytes, at) as u64
+}
+
+// The same one by one: four bytes from `at` on as a number; those that are missing count as 0.
 fn four_at(bytes: &[u8], at: usize) -> u32
     requires { ⌜ at ≤ length (now bytes) + 4 ⌝ }
     ensures { λ r. ⌜ r ≡ number 256 (fourAt (now (bytes .entry)) at) ⌝ }

@@ -9,7 +9,7 @@ use lib.IntN.{ℤ}
 use lib.ListN.{length}
 use lib.Ieee.{Float}
 use Rattle.error.specs.Answer.{Answer, value, refused, first, each, place, accepted, done, after}
-use Rattle.error.proofs.Chains.{first-passed, first-refused, first-passes, append-passed, append-refused, append-left, append-right}
+use Rattle.error.proofs.Chains.{first-passed, first-refused, first-passes, append-passed, append-refused, append-left, append-right, first-all}
 use Rattle.error.proofs.Places.{each-offends, each-passes}
 use Rattle.float.specs.Constants.{posZero}
 use Rattle.error.specs.Checks.{wrongInput, wrongRoom, badValue, finiteScoreOf}
@@ -28,7 +28,8 @@ use Rattle.radius.specs.Radii.{badRadius}
 use Rattle.qjl_rows.proofs.FiniteSums.{matrix-finite, query-finite}
 use Rattle.qjl_rows.proofs.Rows.{above-zero}
 use Rattle.qjl_residual.specs.Residual.{residualOf}
-use Rattle.qjl.specs.Score.{signedScore, modeScore, sketchScoreOf}
+use Rattle.qjl.specs.Score.{signedChecks, signedScore, modeScore, sketchScoreOf}
+use Rattle.qjl.specs.Inner.{ScoreAtOnce}
 
 -- ---- the checks of a vector
 
@@ -139,15 +140,21 @@ module _ (s : Setup) (l : Lent) (vector : List Float) (room : ℕ) (passed : fir
       subst (λ (m : ℕ). Rowed (s .dim) (l .matrix) vector m × (m ≤ 4096)) (sym (f ∙ c))
       (record { query-long = e; matrix-long = but-entries-long s l passed }, but-entries-usable s l passed .most-projections)
 
+  -- the matrix and the vector are finite
+  shaped-passed : Rowed (s .dim) (l .matrix) vector room → 0 < room
+      → ltb (place badValue (projected (s .dim) room (l .matrix) vector)) (length (projected (s .dim) room (l .matrix) vector)) ≡ false
+      → first (vectorChecks s l vector) accepted ≡ accepted
+  shaped-passed rowed above clean =
+      let entries : first (setupChecks s l) accepted ≡ accepted = but-entries-rest s l passed ∙ simp (matrix-finite (s .dim) room (l .matrix) vector rowed clean) in
+      let whole = query-finite (s .dim) room (l .matrix) vector rowed clean above in
+      vector-passed s l vector {i = place badValue vector} entries (rowed .query-long) refl (ltb-false _ _ whole)
+
   pub shaped-value : {counted : ℕ} → length vector ≡ s .dim → counted ≡ countedProjectionsOf s → room ≡ counted → (counted ≡ 0 → ⊥)
       → ltb (place badValue (projected (s .dim) room (l .matrix) vector)) (length (projected (s .dim) room (l .matrix) vector)) ≡ false
       → sketchOf s l vector room ≡ value (map signOfSum (projected (s .dim) room (l .matrix) vector))
   shaped-value {counted} e c f some clean =
-      let rowed = shaped-ready e c f .0 in
-      let entries : first (setupChecks s l) accepted ≡ accepted = but-entries-rest s l passed ∙ simp (matrix-finite (s .dim) room (l .matrix) vector rowed clean) in
       let above : 0 < room = rw f (above-zero counted some) in
-      let whole = query-finite (s .dim) room (l .matrix) vector rowed clean above in
-      sketch-value s l vector room (vector-passed s l vector {i = place badValue vector} entries e refl (ltb-false _ _ whole)) c f
+      sketch-value s l vector room (shaped-passed (shaped-ready e c f .0) above clean) c f
 
 -- ---- a sketch score
 
@@ -185,3 +192,26 @@ module _ (s : Setup) (l : Lent) (query : List Float) (sketch : List ℤ) (norm :
       → sketchScoreOf s l query sketch norm ≡ value posZero
   unfolding modeScore
   score-alone e m h good = score-rest e m ∙ simp (eq-eqb (length sketch) 0 h, good)
+
+-- ---- a sketch score from finite projections
+
+module _ (s : Setup) (l : Lent) (query : List Float) (passed : first (setupChecksButEntries s l) accepted ≡ accepted) (long : length query ≡ s .dim) (is : s .mode ≡ PolarWithQjl) where
+  -- in residual mode every projection counts
+  all-counted : s .projections ≡ countedProjectionsOf s
+  all-counted = ap (λ (m : TurboMode). byMode m 0 (s .projections)) (sym is)
+
+  pub shaped-residual : Rowed (s .dim) (l .matrix) query (s .projections) × (s .projections ≤ 4096)
+  shaped-residual = shaped-ready s l query (s .projections) passed long all-counted refl
+
+  -- a score says that all projections are finite
+  pub score-made : (sketch : List ℤ) (norm : Float) {said : Answer Float} → said ≡ signedScore (s .projections) (projected (s .dim) (s .projections) (l .matrix) query) sketch norm
+      → ScoreAtOnce (sketchScoreOf s l query sketch norm) said
+  unfolding signedScore
+  score-made sketch norm h = record {
+    made = λ e.
+        let values = projected (s .dim) (s .projections) (l .matrix) query in
+        let scored = sym h ∙ e in
+        let clean = first-all (signedChecks (s .projections) values sketch norm (residualOf (s .projections) norm values sketch)) (value (residualOf (s .projections) norm values sketch)) scored .0 in
+        let above : 0 < s .projections = rw all-counted (but-entries-usable s l passed .residual-projections is) in
+        score-residual s l query sketch norm (shaped-passed s l query (s .projections) passed (shaped-residual .0) above clean) is ∙ scored;
+  }

@@ -1,4 +1,4 @@
--- Signs that are written only where all values are finite, if these are judged, and an answer that is written at once or not at all. Assumes nothing.
+-- Signs that are written only where all values are finite, if these are judged, and an answer that is written or said at once or not at all. Assumes nothing.
 use mathlib.Core.Path.{_≡_, refl, sym, ap, _∙_, subst}
 use mathlib.Core.Bool.{Bool, true, false, true≢false, false≢true}
 use mathlib.Core.List.{List, map}
@@ -6,11 +6,11 @@ use lib.Dec.{ltb}
 use lib.IntN.{ℤ}
 use lib.ListN.{length}
 use lib.Ieee.{Float}
-use Rattle.error.specs.Answer.{Answer, value, place}
+use Rattle.error.specs.Answer.{Answer, value, withdrawn, place}
 use Rattle.error.specs.Checks.{badValue}
 use Rattle.error.specs.Inner.{AtOnce}
 use Rattle.qjl.specs.Sketch.{signOfSum}
-use Rattle.qjl.specs.Inner.{JudgedSigns}
+use Rattle.qjl.specs.Inner.{JudgedSigns, ScoreAtOnce}
 
 pub judged-left : (judged : Bool) (values : List Float) (old : List ℤ) → judged ≡ true → JudgedSigns judged values old false old
 judged-left judged values old is = record { whole = λ e. absurd (true≢false (sym is ∙ e)); clean = λ j e. absurd (false≢true e); signs = λ e. absurd (false≢true e); kept = λ e. refl }
@@ -26,3 +26,6 @@ pub at-once-signs : {values : List Float} {old new : List ℤ} {wrote : Bool} (a
     → JudgedSigns true values old wrote new
     → AtOnce answer old wrote new
 at-once-signs answer h s = record { made = λ e. h (s .clean refl e) ∙ ap value (sym (s .signs e)); kept = s .kept }
+
+pub score-left : (answer : Answer Float) → ScoreAtOnce answer withdrawn
+score-left answer = record { made = λ e. cc }

@@ -1,4 +1,4 @@
--- Private functions of this crate ensure this. No public promise is stated by it. Assumes nothing.
+-- Private functions of this crate ensure these. No public promise is stated by them. Assumes nothing.
 use mathlib.Core.Path.{_≡_}
 use mathlib.Core.Bool.{Bool, true, false}
 use mathlib.Core.List.{List, map}
@@ -6,7 +6,7 @@ use lib.Dec.{ltb}
 use lib.IntN.{ℤ}
 use lib.ListN.{length}
 use lib.Ieee.{Float}
-use Rattle.error.specs.Answer.{place}
+use Rattle.error.specs.Answer.{Answer, value, place}
 use Rattle.error.specs.Checks.{badValue}
 use Rattle.qjl.specs.Sketch.{signOfSum}
 
@@ -16,3 +16,7 @@ pub record JudgedSigns (judged : Bool) (values : List Float) (old : List ℤ) (w
   pub clean : judged ≡ true → wrote ≡ true → ltb (place badValue values) (length values) ≡ false
   pub signs : wrote ≡ true → new ≡ map signOfSum values
   pub kept : wrote ≡ false → new ≡ old
+
+-- The call says the answer's value, or no value.
+pub record ScoreAtOnce (answer said : Answer Float) : Type 0 where
+  pub made : {score : Float} → said ≡ value score → answer ≡ value score

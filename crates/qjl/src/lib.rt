@@ -21,7 +21,7 @@ ghost use Rattle.rounding.specs.Rows.{projected};
 ghost use Rattle.qjl_rows.specs.Inner.{Rowed};
 ghost use Rattle.setup.specs.Lent.{lent};
 ghost use Rattle.qjl.specs.Sketch.{signOfSum, vectorChecks, sketchOf};
-ghost use Rattle.qjl.specs.Inner.{JudgedSigns};
+ghost use Rattle.qjl.specs.Inner.{JudgedSigns, ScoreAtOnce};
 ghost use Rattle.qjl.specs.Score.{signedScore, sketchScoreOf};
 
 // The sketch of a vector, into the output: the sign of each projection. In `PolarOnly` it has no signs.
@@ -54,36 +54,11 @@ pub fn sketch_score(
 ) -> Scored
     ensures { λ r. ⌜ saysScore r ≡ sketchScoreOf setup (lent (now (rotation .entry)) (now (directions .entry)) (now (matrix .entry))) (now (query .entry)) (now (sketch .entry)) norm ⌝ }
 {
-    let checked = check_vector(setup, rotation, directions, matrix, query);
-    if let Outcome::Refused { number, place } = checked {
-        return Scored::Refused { number, place };
+    let scored = score_at_once(setup, rotation, directions, matrix, query, sketch, norm);
+    if let Scored::Score(score) = scored {
+        return Scored::Score(score);
     }
-    let mode = setup.mode;
-    match mode {
-        TurboMode::PolarOnly => {
-            if sketch.len() != 0 {
-                return Scored::Refused {
-                    number: DIMENSION_MISMATCH,
-                    place: sketch.len(),
-                };
-            }
-            if radius::is_bad_radius(norm) {
-                return Scored::Refused {
-                    number: MALFORMED_NORM,
-                    place: 0,
-                };
-            }
-            Scored::Score(0.0)
-        }
-        TurboMode::PolarWithQjl => residual_score(
-            setup.dim,
-            setup.projections,
-            matrix,
-            query,
-            sketch,
-            norm,
-        ),
-    }
+    score_checked(setup, rotation, directions, matrix, query, sketch, norm)
 }
 
 // The checks of a vector or a query under a setup.
@@ -175,15 +150,113 @@ fn sketch_checked(
     Outcome::Done
 }
 
+// The score of a sketch in residual mode where nothing offends, and else no score. A finite sum has finite terms only, so the matrix and the query need no pass of
+// their own.
+fn score_at_once(
+    setup: Setup,
+    rotation: &[f32],
+    directions: &[f32],
+    matrix: &[f32],
+    query: &[f32],
+    sketch: &[i8],
+    norm: f32,
+) -> Scored
+    ensures { λ r. ⌜ ScoreAtOnce (sketchScoreOf setup (lent (now (rotation .entry)) (now (directions .entry)) (now (matrix .entry))) (now (query .entry)) (now (sketch .entry)) norm) (saysScore r) ⌝ }
+{
+    let checked = setup_tables::check_but_entries(setup, rotation, directions, matrix);
+    if let Outcome::Refused { number, place } = checked {
+        return Scored::Withdrawn;
+    }
+    let dim = setup.dim;
+    if query.len() != dim {
+        return Scored::Withdrawn;
+    }
+    let mode = setup.mode;
+    match mode {
+        TurboMode::PolarOnly => Scored::Withdrawn,
+        TurboMode::PolarWithQjl => residual_score(
+            dim,
+            setup.projections,
+            matrix,
+            query,
+            sketch,
+            norm,
+        ),
+    }
+}
+
+// The score of a sketch, check by check.
+fn score_checked(
+    setup: Setup,
+    rotation: &[f32],
+    directions: &[f32],
+    matrix: &[f32],
+    query: &[f32],
+    sketch: &[i8],
+    norm: f32,
+) -> Scored
+    ensures { λ r. ⌜ saysScore r ≡ sketchScoreOf setup (lent (now (rotation .entry)) (now (directions .entry)) (now (matrix .entry))) (now (query .entry)) (now (sketch .entry)) norm ⌝ }
+{
+    let checked = check_vector(setup, rotation, directions, matrix, query);
+    if let Outcome::Refused { number, place } = checked {
+        return Scored::Refused { number, place };
+    }
+    let mode = setup.mode;
+    match mode {
+        TurboMode::PolarOnly => {
+            if sketch.len() != 0 {
+                return Scored::Refused {
+                    number: DIMENSION_MISMATCH,
+                    place: sketch.len(),
+                };
+            }
+            if radius::is_bad_radius(norm) {
+                return Scored::Refused {
+                    number: MALFORMED_NORM,
+                    place: 0,
+                };
+            }
+            Scored::Score(0.0)
+        }
+        TurboMode::PolarWithQjl => residual_score(
+            setup.dim,
+            setup.projections,
+            matrix,
+            query,
+            sketch,
+            norm,
+        ),
+    }
+}
+
 // The sign of each projection, into the output. Where they are judged and one is not finite, it is false with nothing written.
 fn sketch_rows(dim: usize, matrix: &[f32], vector: &[f32], judged: bool, out: &mut [i8]) -> bool
     requires { ⌜ Rowed dim (now matrix) (now vector) (length (now out)) × (length (now out) ≤ 4096) ⌝ }
     ensures { λ r. ⌜ JudgedSigns judged (projected dim (length (now (out .entry))) (now (matrix .entry)) (now (vector .entry))) (now (out .entry)) r (now (out .exit)) ⌝ }
 {
     let rows = out.len();
+    if rows <= 256 {
+        let mut values = few_zeros();
+        return signs_within(dim, matrix, vector, judged, &mut values[0..rows], out);
+    }
     let mut values = zeros();
-    qjl_rows::project(dim, matrix, vector, &mut values[0..rows]);
-    judged_signs_into(&values[0..rows], judged, out)
+    signs_within(dim, matrix, vector, judged, &mut values[0..rows], out)
+}
+
+// The sign of each projection, by way of memory for as many values. Where they are judged and one is not finite, it is false with nothing written.
+fn signs_within(
+    dim: usize,
+    matrix: &[f32],
+    vector: &[f32],
+    judged: bool,
+    values: &mut [f32],
+    out: &mut [i8],
+) -> bool
+    requires { ⌜ Rowed dim (now matrix) (now vector) (length (now out)) × (length (now values) ≡ length (now out)) ⌝ }
+    ensures { λ r. ⌜ JudgedSigns judged (projected dim (length (now (out .entry))) (now (matrix .entry)) (now (vector .entry))) (now (out .entry)) r (now (out .exit)) ⌝ }
+{
+    qjl_rows::project(dim, matrix, vector, values);
+    judged_signs_into(values, judged, out)
 }
 
 // The sign of each value, into the output. Where they are judged and one is not finite, it is false with nothing written.
@@ -231,9 +304,42 @@ fn residual_score(
     requires { ⌜ Rowed dim (now matrix) (now query) projections × (projections ≤ 4096) ⌝ }
     ensures { λ r. ⌜ saysScore r ≡ signedScore projections (projected dim projections (now (matrix .entry)) (now (query .entry))) (now (sketch .entry)) norm ⌝ }
 {
+    if projections <= 256 {
+        let mut values = few_zeros();
+        return score_within(
+            dim,
+            matrix,
+            query,
+            &mut values[0..projections],
+            sketch,
+            norm,
+        );
+    }
     let mut values = zeros();
-    qjl_rows::project(dim, matrix, query, &mut values[0..projections]);
-    signed_score(projections, &values[0..projections], sketch, norm)
+    score_within(
+        dim,
+        matrix,
+        query,
+        &mut values[0..projections],
+        sketch,
+        norm,
+    )
+}
+
+// The same score, by way of memory for as many values as there are projections.
+fn score_within(
+    dim: usize,
+    matrix: &[f32],
+    query: &[f32],
+    values: &mut [f32],
+    sketch: &[i8],
+    norm: f32,
+) -> Scored
+    requires { ⌜ Rowed dim (now matrix) (now query) (length (now values)) × (length (now values) ≤ 4096) ⌝ }
+    ensures { λ r. ⌜ saysScore r ≡ signedScore (length (now (values .entry))) (projected dim (length (now (values .entry))) (now (matrix .entry)) (now (query .entry))) (now (sketch .entry)) norm ⌝ }
+{
+    qjl_rows::project(dim, matrix, query, values);
+    signed_score(values.len(), values, sketch, norm)
 }
 
 // The score of a sketch from the projected query.
@@ -273,4 +379,9 @@ fn signed_score(projections: usize, values: &[f32], sketch: &[i8], norm: f32) ->
 // Room for the projections, of which there are at most 4,096.
 fn zeros() -> [f32; 4096] {
     [0.0f32; 4096]
+}
+
+// Room for a few of them.
+fn few_zeros() -> [f32; 256] {
+    [0.0f32; 256]
 }

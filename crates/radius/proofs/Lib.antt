@@ -4,3 +4,4 @@ pub mod Linear
 pub mod Accepted
 pub mod RoundTrip
 pub mod Examples
+pub mod Passes

@@ -3,6 +3,8 @@
 use error::Length;
 use error::UNDEFINED_PROFILE;
 ghost use mathlib.Core.Path.{_≡_};
+ghost use mathlib.Core.Bool.{true};
+ghost use Rattle.error.specs.Answer.{clear};
 ghost use Rattle.error.specs.Lengths.{saysLength};
 ghost use Rattle.radius.specs.Radii.{badRadius, rangeOf};
 ghost use Rattle.radius.specs.Linear.{spanOf, quantizeRadiusOf, radiusOf};
@@ -78,6 +80,36 @@ pub fn is_bad_radius(radius: f32) -> bool
 pub fn first_bad_radius(radii: &[f32]) -> usize
     ensures { λ r. ⌜ r ≡ firstBadRadiusOf (now (radii .entry)) ⌝ }
 {
+    if all_good(radii) {
+        return radii.len();
+    }
+    find_bad_radius(radii)
+}
+
+// Whether every radius passes. Two flags, with one comparison each, are kept to the end, so that it is done for several radii at a time.
+fn all_good(radii: &[f32]) -> bool
+    ensures { λ r. ⌜ (r ≡ true → clear badRadius (now (radii .entry)) ≡ true) ⌝ }
+{
+    let mut above = true;
+    let mut below = true;
+    let mut at = 0;
+    while at < radii.len() {
+        let radius = radii[at];
+        if radius < 0.0 {
+            above = false;
+        }
+        if !(radius < f32::from_bits(0x7F80_0000)) {
+            below = false;
+        }
+        at += 1;
+    }
+    above && below
+}
+
+// The place of the first radius that is NaN, infinite or below zero, found one by one, or how many there are.
+fn find_bad_radius(radii: &[f32]) -> usize
+    ensures { λ r. ⌜ r ≡ firstBadRadiusOf (now (radii .entry)) ⌝ }
+{
     let mut i = 0;
     while i < radii.len() {
         if is_bad_radius(radii[i]) {
@@ -124,7 +156,7 @@ pub fn quantize_radius(min: f32, span: f32, radius: f32) -> u16
     ensures { λ r. ⌜ r ≡ quantizeRadiusOf min span radius ⌝ }
 {
     let normalized = float::clamp((radius - min) / span, 0.0, 1.0);
-    float::round_u16(normalized * MOST)
+    rounding_u16::round_u16(normalized * MOST)
 }
 
 // The radius of a number within a range, from `min` at 0 to the range's width above it at 65,535, however small that is.

@@ -1,3 +1,4 @@
 pub mod Checks
 pub mod Scan
 pub mod Examples
+pub mod Tests

@@ -1,5 +1,5 @@
--- A loop that goes through bytes w at a time and stops at the first part whose value offends: its start, one turn and its two ends; and the first
--- radius that offends of a payload. Assumes nothing.
+-- A loop that goes through bytes w at a time and stops at the first part whose value offends: its start, one turn and its two ends; the same for one
+-- that goes to the end and keeps a flag; and the first radius that offends of a payload. Assumes nothing.
 use Prim.Native.Nat.{ℕ, _+_, _*_, _/_, _≤_, _<_}
 use mathlib.Core.Path.{_≡_, refl, sym, ap, _∙_}
 use mathlib.Core.Bool.{Bool, true, false}
@@ -46,6 +46,24 @@ module _ {B : Type 0} (bad : B → Bool) (f : List ℕ → B) (w : ℕ) (bytes :
 
   pub scanned-end : (i at : ℕ) → count ≤ i → Scanned bad f w bytes count i at → i ≡ place bad (map f (chunks w count bytes))
   scanned-end i at h s = sym (place-end bad _ i (rw length-chunks h) (s .clean))
+
+-- ---- a loop that goes to the end, and a flag that tells that no part so far offends
+
+pub record Passing {B : Type 0} (bad : B → Bool) (f : List ℕ → B) (w : ℕ) (bytes : List ℕ) (count i at : ℕ) (ok : Bool) : Type 0 where
+  pub within : i ≤ count
+  pub start : at ≡ w * i
+  pub clean : ok ≡ true → Scanned bad f w bytes count i at
+
+module _ {B : Type 0} (bad : B → Bool) (f : List ℕ → B) (w : ℕ) (bytes : List ℕ) (count : ℕ) where
+  pub passing-start : Passing bad f w bytes count 0 0 true
+  passing-start = let s = scanned-start bad f w bytes count in record { within = s .within; start = s .start; clean = λ e. s }
+
+  pub passing-next : (x : B) (i at : ℕ) (ok ok' : Bool) → i < count → Passing bad f w bytes count i at ok → x ≡ f (take w (drop at bytes)) → (ok' ≡ true → (ok ≡ true) × (bad x ≡ false)) → Passing bad f w bytes count (i + 1) (at + w) ok'
+  passing-next x i at ok ok' h p e told =
+      record { within = omega arith; start = next-place w i at (p .start); clean = λ t. scanned-next bad f w bytes count x i at h (p .clean (told t .0)) e (told t .1) }
+
+  pub passing-end : (i at : ℕ) (ok : Bool) → count ≤ i → Passing bad f w bytes count i at ok → ok ≡ true → count ≡ place bad (map f (chunks w count bytes))
+  passing-end i at ok h p t = let there = scanned-end bad f w bytes count i at h (p .clean t) in let most = p .within in omega (arith, there, most)
 
 -- ---- of a payload of whole radii
 

@@ -9,7 +9,7 @@ use radius::RadiusCodecProfileV1;
 use radius::Range;
 ghost use Prim.Native.Nat.{_+_, _*_, _≤_, _<_};
 ghost use mathlib.Core.Path.{_≡_};
-ghost use mathlib.Core.Bool.{false};
+ghost use mathlib.Core.Bool.{true, false};
 ghost use mathlib.Core.List.{[], _∷_, map};
 ghost use lib.ListN.{length};
 ghost use Rattle.error.specs.Answer.{place, first, accepted, done, after};
@@ -154,6 +154,36 @@ fn first_bad_floats(payload: &[u8], count: usize) -> usize
     requires { ⌜ 4 * count ≤ length (now payload) ⌝ }
     ensures { λ r. ⌜ r ≡ place badRadius (map ofLeBytes (chunks 4 count (now (payload .entry)))) ⌝ }
 {
+    if all_plain(payload, count) {
+        return count;
+    }
+    find_bad_float(payload, count)
+}
+
+// Whether every four bytes, of `count`, are the pattern of a finite float with its sign clear, so that each is a radius. The pass goes to the end, so
+// that it is done for several patterns at a time.
+fn all_plain(payload: &[u8], count: usize) -> bool
+    requires { ⌜ 4 * count ≤ length (now payload) ⌝ }
+    ensures { λ r. ⌜ (r ≡ true → count ≡ place badRadius (map ofLeBytes (chunks 4 count (now (payload .entry))))) ⌝ }
+{
+    let mut ok = true;
+    let mut i = 0;
+    let mut at = 0;
+    while i < count {
+        if 0x7F80_0000 <= get_word(payload, at) {
+            ok = false;
+        }
+        i += 1;
+        at += 4;
+    }
+    ok
+}
+
+// The place of the first four bytes that are no radius, found one by one, or their count.
+fn find_bad_float(payload: &[u8], count: usize) -> usize
+    requires { ⌜ 4 * count ≤ length (now payload) ⌝ }
+    ensures { λ r. ⌜ r ≡ place badRadius (map ofLeBytes (chunks 4 count (now (payload .entry)))) ⌝ }
+{
     let mut i = 0;
     let mut at = 0;
     while i < count {
@@ -168,6 +198,41 @@ fn first_bad_floats(payload: &[u8], count: usize) -> usize
 
 // The place of the first two bytes, of `count`, that read as no radius within a range, or their count.
 fn first_bad_linear(payload: &[u8], range: Range, count: usize) -> usize
+    requires { ⌜ 2 * count ≤ length (now payload) ⌝ }
+    ensures { λ r. ⌜ r ≡ place badRadius (map (linearRadius range) (chunks 2 count (now (payload .entry)))) ⌝ }
+{
+    if all_linear(payload, range, count) {
+        return count;
+    }
+    find_bad_linear(payload, range, count)
+}
+
+// Whether every two bytes, of `count`, read as a radius within a range. The pass goes to the end and keeps a flag for each test, so that it is done for
+// several radii at a time.
+fn all_linear(payload: &[u8], range: Range, count: usize) -> bool
+    requires { ⌜ 2 * count ≤ length (now payload) ⌝ }
+    ensures { λ r. ⌜ (r ≡ true → count ≡ place badRadius (map (linearRadius range) (chunks 2 count (now (payload .entry))))) ⌝ }
+{
+    let mut above = true;
+    let mut finite = true;
+    let mut i = 0;
+    let mut at = 0;
+    while i < count {
+        let radius = get_radius(payload, at, range);
+        if radius < 0.0 {
+            above = false;
+        }
+        if !(radius < f32::from_bits(0x7F80_0000)) {
+            finite = false;
+        }
+        i += 1;
+        at += 2;
+    }
+    if above { finite } else { false }
+}
+
+// The place of the first two bytes that read as no radius, found one by one, or their count.
+fn find_bad_linear(payload: &[u8], range: Range, count: usize) -> usize
     requires { ⌜ 2 * count ≤ length (now payload) ⌝ }
     ensures { λ r. ⌜ r ≡ place badRadius (map (linearRadius range) (chunks 2 count (now (payload .entry)))) ⌝ }
 {
@@ -237,6 +302,19 @@ fn get_float(payload: &[u8], at: usize) -> f32
     ensures { λ r. ⌜ r ≡ ofLeBytes (fourAt (now (payload .entry)) at) ⌝ }
 {
     float::from_le_bytes(
+        payload[at],
+        payload[at + 1],
+        payload[at + 2],
+        payload[at + 3],
+    )
+}
+
+// The pattern of the four bytes at `at`.
+fn get_word(payload: &[u8], at: usize) -> u32
+    requires { ⌜ at + 4 ≤ length (now payload) ⌝ }
+    ensures { λ r. ⌜ r ≡ number 256 (fourAt (now (payload .entry)) at) ⌝ }
+{
+    digits::word_of(
         payload[at],
         payload[at + 1],
         payload[at + 2],

@@ -7,9 +7,10 @@ use radius::RadiusCodecProfileV1;
 use radius::Range;
 ghost use Prim.Native.Nat.{_+_, _*_, _≤_};
 ghost use mathlib.Core.Path.{_≡_};
+ghost use mathlib.Core.Bool.{true};
 ghost use mathlib.Core.List.{_++_, flatMap};
 ghost use lib.ListN.{length, take, drop};
-ghost use Rattle.error.specs.Answer.{place, first, accepted, after};
+ghost use Rattle.error.specs.Answer.{place, clear, first, accepted, after};
 ghost use Rattle.error.specs.Outcomes.{says};
 ghost use Rattle.digits.specs.Digits.{digits};
 ghost use Rattle.float.specs.Bytes.{toLeBytes};
@@ -44,7 +45,10 @@ pub fn first_bad_read_back(radii: &[f32], profile: RadiusCodecProfileV1) -> usiz
 {
     match profile {
         RadiusCodecProfileV1::F32 => radius::first_bad_radius(radii),
-        RadiusCodecProfileV1::BlockLinearU16 => first_bad_kept(radii, radius::range_of(radii)),
+        RadiusCodecProfileV1::BlockLinearU16 => first_bad_kept(
+            radii,
+            radius_range::range_of(radii),
+        ),
         RadiusCodecProfileV1::BlockLogU8 => 0,
     }
 }
@@ -88,7 +92,7 @@ fn write_payload(radii: &[f32], profile: RadiusCodecProfileV1, out: &mut [u8]) -
             Range { min: 0.0, max: 0.0 }
         }
         RadiusCodecProfileV1::BlockLinearU16 => {
-            let range = radius::range_of(radii);
+            let range = radius_range::range_of(radii);
             write_linear(radii, range, out);
             range
         }
@@ -137,6 +141,39 @@ fn put_number(out: &mut [u8], at: usize, n: u16)
 
 // The place of the first radius whose number within a range reads as no radius, or how many there are.
 fn first_bad_kept(radii: &[f32], range: Range) -> usize
+    ensures { λ r. ⌜ r ≡ place (badKept range) (now (radii .entry)) ⌝ }
+{
+    if all_kept(radii, range) {
+        return radii.len();
+    }
+    find_bad_kept(radii, range)
+}
+
+// Whether every radius is read back from its number within a range. Two flags, with one comparison each, are kept to the end, so that it is done for several radii at a time.
+fn all_kept(radii: &[f32], range: Range) -> bool
+    ensures { λ r. ⌜ (r ≡ true → clear (badKept range) (now (radii .entry)) ≡ true) ⌝ }
+{
+    let min = range.min;
+    let span = radius::span_of(range);
+    let mut above = true;
+    let mut below = true;
+    let mut i = 0;
+    while i < radii.len() {
+        let number = radius::quantize_radius(min, span, radii[i]);
+        let kept = radius::radius_of(range, number);
+        if kept < 0.0 {
+            above = false;
+        }
+        if !(kept < f32::from_bits(0x7F80_0000)) {
+            below = false;
+        }
+        i += 1;
+    }
+    above && below
+}
+
+// The same place, found one by one.
+fn find_bad_kept(radii: &[f32], range: Range) -> usize
     ensures { λ r. ⌜ r ≡ place (badKept range) (now (radii .entry)) ⌝ }
 {
     let min = range.min;

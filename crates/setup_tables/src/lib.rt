@@ -133,7 +133,7 @@ fn check_rotation(setup: Setup, entries: &[f32]) -> Outcome
             Outcome::Done
         }
         RotationKind::Stored => {
-            let entry = error::first_non_finite(entries);
+            let entry = finite_sums::first_non_finite(entries);
             if entry < entries.len() {
                 return Outcome::Refused {
                     number: NON_FINITE_MATRIX,

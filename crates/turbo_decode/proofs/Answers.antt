@@ -1,6 +1,7 @@
 -- The answers of a call that decodes, case by case, from what its checks find; and what a record has that passes them. Assumes nothing.
 use Prim.Native.Nat.{ℕ, _*_}
-use mathlib.Core.Path.{_≡_, sym, ap, _∙_}
+use mathlib.Core.Path.{_≡_, refl, ap, _∙_}
+use mathlib.Core.Bool.{Bool, true, false, cond}
 use mathlib.Core.List.{List, [], _∷_}
 use native.Mathlib.Omega.{arith}
 use borrow.Author.Tests.{eq-eqb, ne-eqb}
@@ -17,15 +18,18 @@ use Rattle.setup_tables.proofs.Accepted.{setup-accepted}
 use Rattle.setup_rotation.specs.Rotations.{unrotatedBy, turnChecks, rotateBackOf}
 use Rattle.setup_rotation.proofs.Rotations.{rotate-back-value}
 use Rattle.setup_rotation.proofs.Turnable.{setup-turnable}
-use Rattle.polar.specs.Polar.{decodedPairs, polarPairsOf}
-use Rattle.polar.proofs.Answers.{pairs-value}
+use Rattle.radius.specs.Codec.{badProfile}
+use Rattle.radius.specs.declared.RadiusCodecProfileV1.the-variants.{F32, BlockLinearU16}
+use Rattle.polar.specs.Polar.{decodedPairs}
+use Rattle.polar_blocks.specs.Payload.{fitsPayload, payloadPairsOf}
+use Rattle.polar_blocks.proofs.Told.{fits-made, pairs-fitting}
 use Rattle.packed.specs.declared.Header.{Header}
-use Rattle.packed.specs.Layout.{headerOf}
-use Rattle.packed.specs.Reading.{unlessWithdrawn, radiiOf, indicesOf}
-use Rattle.packed.proofs.Accepted.{read-header}
+use Rattle.packed.specs.Fields.{mapOf, hasRange, profileOf, bitsOf, boundsOf}
+use Rattle.packed.specs.Layout.{pairsOf, radiiBytes, indicesBytes, headerOf}
+use Rattle.packed.specs.Reading.{unlessWithdrawn, readRecordOf, radiiOf, indicesOf}
+use Rattle.packed.proofs.Accepted.{read-accepts, read-header}
 use Rattle.packed.proofs.Withdrawn.{unless-none, unless-some}
-use Rattle.packed.proofs.Parts.{header-pairs}
-use Rattle.packed.proofs.Payloads.{length-radiiOf}
+use Rattle.packed.proofs.Parts.{header-pairs, length-radii, length-indices}
 use Rattle.turbo_opening.specs.Opening.{openChecks}
 use Rattle.turbo_opening.specs.Inner.{openedOf}
 use Rattle.turbo_opening.proofs.Answers.{opened-passed, opened-refused, opened-withdrawn, opened-as-read, opened-accepted, opened-dim}
@@ -81,17 +85,30 @@ module _ (s : Setup) (l : Lent) (bytes : List ℕ) (room : ℕ) where
 
 -- ---- the steps of decoding: none refuses
 
+-- the profile that a map byte tells is not refused
+profile-known : (t : Bool) → badProfile (cond t BlockLinearU16 F32) ≡ false
+profile-known true = refl
+profile-known false = refl
+
+-- the payloads of the record fit
+payloads-fit : (bytes : List ℕ) {header : Header} → readRecordOf bytes ≡ value header → fitsPayload (profileOf (mapOf bytes)) (radiiBytes bytes) (indicesBytes bytes) (bitsOf bytes) (pairsOf bytes) ≡ true
+payloads-fit bytes read =
+    let a = read-accepts bytes read in
+    let held = length-indices bytes (a .total) in
+    fits-made _ _ _ (bitsOf bytes) (pairsOf bytes) (omega (arith, a .most)) (a .least-bits) (a .most-bits) (profile-known (hasRange (mapOf bytes))) (length-radii bytes (a .total)) (omega (arith, held))
+
 -- the values of the record's pairs
-pub paired-values : (directions values : List Float) (bytes : List ℕ) (header : Header) (indices : List ℕ) (radii : List Float) → Paired bytes header (length values) → indices ≡ indicesOf bytes → radii ≡ radiiOf bytes
-    → after (polarPairsOf directions indices radii (length values)) values ≡ decodedPairs directions (indicesOf bytes) (radiiOf bytes)
-paired-values directions values bytes header indices radii p e f =
-    ap (λ (is : List ℕ). after (polarPairsOf directions is radii (length values)) values) e
-    ∙ ap (λ (rs : List Float). after (polarPairsOf directions (indicesOf bytes) rs (length values)) values) f
-    ∙ after-value _ values (pairs-value directions (indicesOf bytes) (radiiOf bytes) (length values) (p .double ∙ ap (λ (k : ℕ). 2 * k) (header-pairs bytes (read-header bytes (p .read)) ∙ sym (length-radiiOf bytes))))
+pub paired-values : (directions values : List Float) (bytes : List ℕ) (header : Header) (radii indices : List ℕ) → Paired bytes header (length values) → radii ≡ radiiBytes bytes → indices ≡ indicesBytes bytes
+    → payloadPairsOf directions (header .profile) (header .range) radii indices (header .bits) values ≡ decodedPairs directions (indicesOf bytes) (radiiOf bytes)
+unfolding headerOf indicesOf radiiOf
+paired-values directions values bytes header radii indices p e f =
+    ap (λ (h : Header). payloadPairsOf directions (h .profile) (h .range) radii indices (h .bits) values) (read-header bytes (p .read))
+    ∙ ap (λ (l : List ℕ). payloadPairsOf directions (profileOf (mapOf bytes)) (boundsOf bytes) l indices (bitsOf bytes) values) e
+    ∙ ap (λ (l : List ℕ). payloadPairsOf directions (profileOf (mapOf bytes)) (boundsOf bytes) (radiiBytes bytes) l (bitsOf bytes) values) f
+    ∙ pairs-fitting directions _ _ (radiiBytes bytes) (indicesBytes bytes) (bitsOf bytes) (pairsOf bytes) values (p .double ∙ ap (λ (k : ℕ). 2 * k) (header-pairs bytes (read-header bytes (p .read)))) (payloads-fit bytes (p .read))
 
 -- the values rotated back
-pub values-back : (s : Setup) (entries xs ys out : List Float) → first (turnChecks s entries (length out) (length out)) accepted ≡ accepted → length xs ≡ length out → xs ≡ ys
-    → after (rotateBackOf s entries xs (length out)) out ≡ unrotatedBy s entries ys
-values-back s entries xs ys out e l f =
-    after-value _ out (rotate-back-value s entries xs (length out) (ap (λ (k : ℕ). first (turnChecks s entries k (length out)) accepted) l ∙ e))
+pub values-back : (s : Setup) (entries xs ys : List Float) (n : ℕ) → first (turnChecks s entries n n) accepted ≡ accepted → length xs ≡ n → xs ≡ ys → after (rotateBackOf s entries xs (length xs)) xs ≡ unrotatedBy s entries ys
+values-back s entries xs ys n e l f =
+    after-value _ xs (rotate-back-value s entries xs (length xs) (ap (λ (k : ℕ). first (turnChecks s entries k k) accepted) l ∙ e))
     ∙ ap (unrotatedBy s entries) f

@@ -52,7 +52,7 @@ pub fn decode_approximate(
     }
 }
 
-// The pairs of an opened record, by the header that was read from it, rotated back into an output of its dimension.
+// The pairs of an opened record, by the header that was read from it, written to an output of its dimension and rotated back there.
 fn decode(
     setup: Setup,
     rotation: &[f32],
@@ -64,10 +64,8 @@ fn decode(
     requires { ⌜ Decodable setup (now rotation) (now bytes) header (length (now out)) ⌝ }
     ensures { λ _. ⌜ now (out .exit) ≡ unrotatedBy setup (now (rotation .entry)) (decodedPairs (now (directions .entry)) (indicesOf (now (bytes .entry))) (radiiOf (now (bytes .entry)))) ⌝ }
 {
-    let dim = out.len();
-    let mut values = no_values();
-    read_pairs(directions, bytes, header, &mut values[0..dim]);
-    setup_rotation::rotate_back(setup, rotation, &values[0..dim], out);
+    read_pairs(directions, bytes, header, out);
+    setup_rotation::rotate_back_within(setup, rotation, out);
 }
 
 // The pairs of an opened record, by the header that was read from it, into values of its dimension.
@@ -75,25 +73,17 @@ fn read_pairs(directions: &[f32], bytes: &[u8], header: Header, values: &mut [f3
     requires { ⌜ Paired (now bytes) header (length (now values)) ⌝ }
     ensures { λ _. ⌜ now (values .exit) ≡ decodedPairs (now (directions .entry)) (indicesOf (now (bytes .entry))) (radiiOf (now (bytes .entry))) ⌝ }
 {
-    let pairs = header.dim / 2;
-    let mut radii = no_radii();
-    let mut indices = no_indices();
-    packed_values::radii_at(bytes, header, &mut radii[0..pairs]);
-    packed_values::indices_at(bytes, header, &mut indices[0..pairs]);
-    polar::polar_pairs(directions, &indices[0..pairs], &radii[0..pairs], values);
-}
-
-// Room for the values of a record, of which there are at most 4,096.
-fn no_values() -> [f32; 4096] {
-    [0.0f32; 4096]
-}
-
-// Room for the radii of a record: one for two values.
-fn no_radii() -> [f32; 2048] {
-    [0.0f32; 2048]
-}
-
-// Room for the indices of a record: one for two values.
-fn no_indices() -> [u16; 2048] {
-    [0u16; 2048]
+    let profile = header.profile;
+    let range = header.range;
+    let radii = packed_parts::cut(bytes, header.radii_start, header.indices_start);
+    let indices = packed_parts::cut(bytes, header.indices_start, header.signs_start);
+    polar_blocks::payload_pairs(
+        directions,
+        profile,
+        range,
+        radii,
+        indices,
+        header.bits,
+        values,
+    );
 }

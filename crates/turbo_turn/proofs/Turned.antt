@@ -1,6 +1,6 @@
 -- A query that is rotated and projected and not judged: what its checks leave, the answer and both outputs, and that where all values are finite, no check of the query
 -- offends. Assumes nothing.
-use Prim.Native.Nat.{ℕ, _*_, _%_}
+use Prim.Native.Nat.{ℕ, _*_}
 use mathlib.Core.Path.{_≡_, refl, sym, ap, _∙_}
 use mathlib.Core.Bool.{true, false, not}
 use mathlib.Core.List.{List, [], _∷_, _++_}

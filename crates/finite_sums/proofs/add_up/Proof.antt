@@ -1,5 +1,5 @@
 -- `finite_sums::add_up` meets its contract: the sum so far has taken the values up to i. Assumes nothing.
-use Prim.Native.Nat.{ℕ, _+_, _-_, _≤_}
+use Prim.Native.Nat.{ℕ, _-_, _≤_}
 use mathlib.Core.Path.{_≡_, subst}
 use native.Mathlib.Omega.{arith}
 use borrow.Author.Needs.{scaled-fits}

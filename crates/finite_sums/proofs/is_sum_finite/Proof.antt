@@ -1,5 +1,5 @@
 -- `finite_sums::is_sum_finite` meets its contract: the 32 sums have taken the values up to `at`, and the last sum takes them and the values after. Assumes nothing.
-use Prim.Native.Nat.{ℕ, _+_, _-_, _≤_}
+use Prim.Native.Nat.{_-_, _≤_}
 use mathlib.Core.Path.{_≡_, sym, _∙_, subst}
 use native.Mathlib.Omega.{arith}
 use borrow.Author.Needs.{needs}

@@ -1,18 +1,17 @@
 -- `polar_blocks::add_block` meets its contract: what was restored is judged, and its terms are added. Assumes nothing.
 use borrow.Author.Needs.{needs}
-use Prim.Native.Nat.{ℕ, _+_, _-_, _*_, _≤_}
+use Prim.Native.Nat.{_+_, _-_, _*_, _≤_}
 use mathlib.Core.Path.{_≡_, sym, _∙_}
 use mathlib.Core.List.{_++_}
 use native.Mathlib.Nat.{mul-add}
 use native.Mathlib.Omega.{arith}
 use borrow.Rule.Slice.PartMut.{postOf}
 use lib.ListN.{length, take}
-use Rattle.lists.proofs.Parts.{part-long, part-read, part-enough}
+use Rattle.lists.proofs.Parts.{part-long, part-read, part-again, part-enough}
 use Rattle.radius.specs.Codec.{widthOf}
 use Rattle.polar_blocks.specs.Inner.{partRadii}
 use Rattle.polar_blocks.proofs.Radii.{part-restored}
 use borrow.Author.Tests.{not-true, not-false}
-use Rattle.lists.proofs.Parts.{part-again}
 use Rattle.polar_blocks.proofs.Blocks.{added-sum, added-none, block-lent}
 use Rattle.polar_blocks.proofs.add_block.Statement.{statement}
 use Rattle.polar_blocks.proofs.add_block.Tie as tie

@@ -5,7 +5,8 @@ use mathlib.Core.Bool.{Bool, _&&_}
 use Rattle.error.specs.Answer.{clear}
 use Rattle.radius.specs.Radii.{badRadius}
 use Rattle.polar_blocks.specs.Inner.{belowZero, notBelowInfinity}
-use Rattle.polar_blocks.proofs.Radii.{clear-both, radius-tests}
+use Rattle.radius_reading.proofs.Tests.{radius-tests}
+use Rattle.polar_blocks.proofs.Radii.{clear-both}
 use Rattle.polar_blocks.proofs.all_good.Statement.{statement}
 use Rattle.polar_blocks.proofs.all_good.Tie as tie
 

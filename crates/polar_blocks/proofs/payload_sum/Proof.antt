@@ -1,6 +1,6 @@
 -- `polar_blocks::payload_sum` meets its contract: what does not fit is left to the caller, and the rest is summed. Assumes nothing.
 use borrow.Author.Needs.{needs}
-use Prim.Native.Nat.{_/_, _^_, _<_, _≤_}
+use Prim.Native.Nat.{_/_, _^_, _<_}
 use mathlib.Core.Path.{_≡_, sym, _∙_}
 use mathlib.Core.Bool.{true}
 use native.Mathlib.Omega.{arith}

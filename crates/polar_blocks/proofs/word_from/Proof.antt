@@ -1,6 +1,5 @@
 -- `polar_blocks::word_from` meets its contract: the word begins at the byte of the first bit, and three indices end within it. Assumes nothing.
 use borrow.Author.Needs.{needs}
-use Prim.Native.Nat.{_*_, _≤_}
 use native.Mathlib.Nat.{mul-le-mul}
 use native.Mathlib.Omega.{arith}
 use denote.Ref.{now}

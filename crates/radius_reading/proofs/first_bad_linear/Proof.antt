@@ -1,69 +1,20 @@
--- `radius_reading::first_bad_linear` meets its contract: a search that goes two bytes at a time. Assumes nothing.
-use mathlib.Core.Path.{_≡_, sym, ap, _∙_}
-use Prim.Native.Nat.{ℕ, _-_}
-use native.Mathlib.Omega.{arith}
-use lib.ListN.{take, drop}
-use denote.Ref.{now}
+-- `radius_reading::first_bad_linear` meets its contract: at once where every one passes, or else by a search. Assumes nothing.
 use borrow.Author.Needs.{needs}
-use Rattle.lists.proofs.Stores.{run-two}
-use Rattle.radius.specs.Linear.{linearRadius}
-use Rattle.radius.specs.Radii.{badRadius}
-use Rattle.radius_reading.proofs.Scan.{Scanned, scanned-start, scanned-next, scanned-here, scanned-end}
 use Rattle.radius_reading.proofs.first_bad_linear.Statement.{statement}
 use Rattle.radius_reading.proofs.first_bad_linear.Tie as tie
 
-abbrev Inv-loop : tie.InvT-loop
-Inv-loop payload range count i₀ at₀ i at = Scanned badRadius (linearRadius range) 2 payload count i at
+all-linear-requires : tie.Need-all-linear-requires
+all-linear-requires c κs = search needs
 
-abbrev μ-loop : tie.MeasureT-loop
-μ-loop payload range count i₀ at₀ i at = count - i
+returns : tie.Need-returns
+returns c = c .before .all-linear .ensures (c .if1 .taken)
 
-loop-holds : tie.Need-loop-holds Inv-loop μ-loop
-loop-holds c = scanned-start badRadius (linearRadius _) 2 _ _
+find-bad-linear-requires : tie.Need-find-bad-linear-requires
+find-bad-linear-requires c κs = search needs
 
-get-radius-requires : tie.Need-get-radius-requires Inv-loop μ-loop
-get-radius-requires c κs = let inv = c .before .loop .inv in omega (arith, inv .start)
-
-is-bad-radius-requires : tie.Need-is-bad-radius-requires Inv-loop μ-loop
-is-bad-radius-requires c κs = search needs
-
--- what was read is the next item
-read : (c : tie.After-get-radius Inv-loop μ-loop) → let s = c .before .before .loop in let a = c .before .before .before .before .args in c .get-radius .result ≡ linearRadius (a .range) (take 2 (drop (s .at) (now (a .payload))))
-read c =
-    let s = c .before .before .loop in
-    let a = c .before .before .before .before .args in
-    c .get-radius .ensures ∙ ap (linearRadius _) (sym (run-two {A = ℕ} (now (a .payload)) (s .at) 0 (omega (arith, s .inv .start, c .before .before .before .before .pre))))
-
-returns : tie.Need-returns Inv-loop μ-loop
-returns c = scanned-here badRadius (linearRadius _) 2 _ _ _ _ _ (c .before .before .before .loop-test .taken) (c .before .before .before .before .loop .inv) (read (c .before .before)) (sym (c .before .is-bad-radius .ensures) ∙ c .if1 .taken)
-
-add-i : tie.Need-add-i Inv-loop μ-loop
-add-i c = omega arith
-
-add-at : tie.Need-add-at Inv-loop μ-loop
-add-at c = let inv = c .before .before .before .before .loop .inv in omega (arith, inv .start)
-
-loop-less : tie.Need-loop-less Inv-loop μ-loop
-loop-less c = omega arith
-
-loop-again : tie.Need-loop-again Inv-loop μ-loop
-loop-again c = scanned-next badRadius (linearRadius _) 2 _ _ _ _ _ (c .before .before .before .loop-test .taken) (c .before .before .before .before .loop .inv) (read (c .before .before)) (sym (c .before .is-bad-radius .ensures) ∙ c .if1 .left)
-
-returns-2 : tie.Need-returns-2 Inv-loop μ-loop
-returns-2 c = scanned-end badRadius (linearRadius _) 2 _ _ _ _ (c .loop-test .left) (c .before .loop .inv)
+returns-2 : tie.Need-returns-2
+returns-2 c = search needs
 
 pub first-bad-linear-spec : {M : Type 1} → statement M
 first-bad-linear-spec =
-    tie.close
-    (tie.spec
-    Inv-loop
-    μ-loop
-    loop-holds
-    get-radius-requires
-    is-bad-radius-requires
-    returns
-    add-i
-    add-at
-    loop-less
-    loop-again
-    returns-2)
+    tie.close (tie.spec all-linear-requires returns find-bad-linear-requires returns-2)
