@@ -1,5 +1,5 @@
 -- A payload's sum block by block: what is still to be judged and added from a pair on, how it starts, what a block does to it, and its end. Assumes nothing.
-use Prim.Native.Nat.{ℕ, zero, suc, _+_, _-_, _*_, _^_, _/_, _≤_, _<_}
+use Prim.Native.Nat.{ℕ, zero, suc, _+_, _-_, _*_, _^_, _/_, _%_, _≤_, _<_}
 use mathlib.Core.Path.{_≡_, refl, sym, ap, _∙_}
 use mathlib.Core.Bool.{Bool, true, false, cond, _&&_}
 use mathlib.Core.List.{List, [], _∷_, _++_, map}
@@ -53,15 +53,17 @@ unfolding running
 running-append acc f [] ys = refl
 running-append acc f (x ∷ xs) ys = running-append _ f xs ys
 
--- three turns of a loop over terms at once
-pub total-three : (f : ℕ → Float) (n i : ℕ) (acc a b c : Float) {whole : Float} → i + 3 ≤ n → a ≡ f i → b ≡ f (i + 1) → c ≡ f (i + 2) → whole ≡ running acc (map f (from i (n - i)))
-    → whole ≡ running (add binary32 (add binary32 (add binary32 acc a) b) c) (map f (from (i + 3) (n - (i + 3))))
-total-three f n i acc a b c h e g k inv =
+-- four turns of a loop over terms at once
+pub total-four : (f : ℕ → Float) (n i : ℕ) (acc a b c d : Float) {whole : Float} → i + 4 ≤ n → a ≡ f i → b ≡ f (i + 1) → c ≡ f (i + 2) → d ≡ f (i + 3) → whole ≡ running acc (map f (from i (n - i)))
+    → whole ≡ running (add binary32 (add binary32 (add binary32 (add binary32 acc a) b) c) d) (map f (from (i + 4) (n - (i + 4))))
+total-four f n i acc a b c d h e g k l inv =
     let two : i + 1 + 1 ≡ i + 2 = omega arith in
     let three : i + 2 + 1 ≡ i + 3 = omega arith in
+    let four : i + 3 + 1 ≡ i + 4 = omega arith in
     let first = total-more f n i acc a (omega arith) e inv in
     let second = rw two at (total-more f n (i + 1) _ b (omega arith) g first) in
-    rw three at (total-more f n (i + 2) _ c (omega arith) k second)
+    let third = rw three at (total-more f n (i + 2) _ c (omega arith) k second) in
+    rw four at (total-more f n (i + 3) _ d (omega arith) l third)
 
 -- ---- what is there for a block is there for each of its pairs
 
@@ -117,7 +119,7 @@ module _ (directions rotated : List Float) (profile : RadiusCodecProfileV1) (ran
 
 pub block-lent : {directions rotated : List Float} {profile : RadiusCodecProfileV1} {radii indices : List ℕ} {bits at count : ℕ} (block : List Float) → Addable directions rotated profile radii indices bits at count → length block ≡ count
     → Blocked directions rotated block indices bits at
-block-lent block a e = record { narrow = a .narrow; few = rw e (a .few); enough = rw e (a .enough); query = rw e (a .query); table = a .table }
+block-lent block a e = record { aligned = a .aligned; narrow = a .narrow; few = rw e (a .few); enough = rw e (a .enough); query = rw e (a .query); table = a .table }
 
 -- ---- what is left from a pair on
 
@@ -208,11 +210,12 @@ module _ (directions rotated : List Float) (profile : RadiusCodecProfileV1) (ran
         split false x y f = refl
 
     -- what is asked for a block is there
-    pub block-there : count ≤ 48 → Addable directions rotated profile radii indices bits at count
-    block-there small =
+    pub block-there : at % 4 ≡ 0 → count ≤ 64 → Addable directions rotated profile radii indices bits at count
+    block-there aligned small =
         let f = fitted in
         record {
           known = f .known;
+          aligned = aligned;
           small = small;
           sized = omega (arith, mul-le-mul-left (widthOf profile) within, f .sized);
           narrow = f .narrow;

@@ -3,7 +3,8 @@
 use Prim.Native.Nat.{ℕ, zero, suc, _+_, _-_, _*_, _/_, _%_, _^_, _≤_, _<_}
 use mathlib.Core.Path.{_≡_, refl, sym, ap, _∙_}
 use mathlib.Core.List.{List, [], _∷_}
-use native.Mathlib.Nat.{pow-zero, pow-succ', div-one, div-div-eq-div-mul, div-eq-of-lt, add-mul-div-left, zero-div, add-mul, mul-comm, not-suc-le-zero, le-of-suc-le-suc}
+use native.Mathlib.Nat.{pow-zero, pow-succ', div-one, div-div-eq-div-mul, div-eq-of-lt, add-mul-div-left, zero-div, add-mul, mul-assoc, mul-left-comm, mul-comm, eq-or-lt-of-le, not-suc-le-zero, le-of-suc-le-suc}
+use mathlib.Core.Logic.{⊎-elim}
 use native.Mathlib.Omega.{arith}
 use lib.ListN.{getD, drop}
 use lib.Pow.{shr-shr}
@@ -13,7 +14,7 @@ use Rattle.digits.proofs.Laws.{Below, below-head, below-tail}
 use Rattle.bitpack.specs.Packing.{indicesIn}
 use Rattle.bitpack.proofs.Bits.{power-power}
 use Rattle.bitpack.proofs.Windows.{low-out, shift-out}
-use Rattle.polar_blocks.specs.Inner.{indexAt, Three}
+use Rattle.polar_blocks.specs.Inner.{indexAt, Four}
 
 -- ---- a digit, by its place
 digits-at : (base n x i : ℕ) → i < n → getD (digits base n x) i 0 ≡ x / base ^ i % base
@@ -74,16 +75,21 @@ index-word bits held bytes at s i word rest below place fits stands =
     ∙ ap (λ (m : ℕ). m % 2 ^ bits) (sym (shr-shr (number 256 bytes) (8 * at) s) ∙ ap (λ (m : ℕ). m / 2 ^ s) (number-from bytes at below ∙ stands) ∙ shift-out s held (omega arith) word rest)
     ∙ low-out bits (held - s) (omega arith) (word / 2 ^ s) rest)
 
--- the word that begins with an index has the next two as well
-pub word-three : (bits : ℕ) (bytes : List ℕ) (i word rest : ℕ) → Below 256 bytes → bits ≤ 16 → number 256 (drop (i * bits / 8) bytes) ≡ word + 2 ^ 64 * rest → Three bits bytes i (word / 2 ^ (i * bits % 8))
-word-three bits bytes i word rest below narrow stands =
+-- four indices from a multiple of four on end within eight bytes
+aligned-fits : (i bits : ℕ) → i % 4 ≡ 0 → bits ≤ 16 → i * bits % 8 + bits + bits + bits + bits ≤ 64
+aligned-fits i bits aligned narrow =
+    let whole : i ≡ i / 4 * 4 = omega (arith, aligned) in
+    let place : i * bits ≡ 4 * (i / 4 * bits) = ap (λ (n : ℕ). n * bits) whole ∙ mul-assoc (i / 4) 4 bits ∙ omega (arith, mul-left-comm (i / 4) 4 bits) in
+    ⊎-elim (λ (e : bits ≡ 16). rw e (omega arith)) (λ (l : bits < 16). omega (arith, place, l)) (eq-or-lt-of-le narrow)
+
+-- the word that begins with an index has the next two as well, and the third where the first is a multiple of four
+pub word-four : (bits : ℕ) (bytes : List ℕ) (i word rest : ℕ) → Below 256 bytes → bits ≤ 16 → number 256 (drop (i * bits / 8) bytes) ≡ word + 2 ^ 64 * rest → Four bits bytes i (word / 2 ^ (i * bits % 8))
+word-four bits bytes i word rest below narrow stands =
     record {
       first = index-word bits 64 bytes at s i word rest below (omega arith) (omega arith) stands;
-      second = ap (λ (m : ℕ). m % 2 ^ bits) (shr-shr word s bits) ∙ index-word bits 64 bytes at (s + bits) (i + 1) word rest below (omega (arith, add-mul i 1 bits)) (omega arith) stands;
-      third =
-          ap (λ (m : ℕ). m / 2 ^ bits % 2 ^ bits) (shr-shr word s bits)
-          ∙ ap (λ (m : ℕ). m % 2 ^ bits) (shr-shr word (s + bits) bits)
-          ∙ index-word bits 64 bytes at (s + bits + bits) (i + 2) word rest below (omega (arith, add-mul i 2 bits)) (omega arith) stands;
+      second = ap (λ (m : ℕ). m % 2 ^ bits) one ∙ index-word bits 64 bytes at (s + bits) (i + 1) word rest below (omega (arith, add-mul i 1 bits)) (omega arith) stands;
+      third = ap (λ (m : ℕ). m % 2 ^ bits) two ∙ index-word bits 64 bytes at (s + bits + bits) (i + 2) word rest below (omega (arith, add-mul i 2 bits)) (omega arith) stands;
+      fourth = λ aligned. ap (λ (m : ℕ). m % 2 ^ bits) three ∙ index-word bits 64 bytes at (s + bits + bits + bits) (i + 3) word rest below (omega (arith, add-mul i 3 bits)) (aligned-fits i bits aligned narrow) stands;
     }
   where
     at : ℕ
@@ -91,6 +97,15 @@ word-three bits bytes i word rest below narrow stands =
 
     s : ℕ
     s = i * bits % 8
+
+    one : word / 2 ^ s / 2 ^ bits ≡ word / 2 ^ (s + bits)
+    one = shr-shr word s bits
+
+    two : word / 2 ^ s / 2 ^ bits / 2 ^ bits ≡ word / 2 ^ (s + bits + bits)
+    two = ap (λ (m : ℕ). m / 2 ^ bits) one ∙ shr-shr word (s + bits) bits
+
+    three : word / 2 ^ s / 2 ^ bits / 2 ^ bits / 2 ^ bits ≡ word / 2 ^ (s + bits + bits + bits)
+    three = ap (λ (m : ℕ). m / 2 ^ bits) two ∙ shr-shr word (s + bits + bits) bits
 
 -- and the first of four bytes' number
 pub four-index : (bits : ℕ) (bytes : List ℕ) (i : ℕ) → Below 256 bytes → bits ≤ 16 → number 256 (fourAt bytes (i * bits / 8)) / 2 ^ (i * bits % 8) % 2 ^ bits ≡ indexAt bits bytes i

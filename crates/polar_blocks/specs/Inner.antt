@@ -31,11 +31,12 @@ notBelowInfinity x = not (lt x (ofBits binary32 0x7F80_0000))
 abbrev pub indexAt : ℕ → List ℕ → ℕ → ℕ
 indexAt bits bytes i = number 256 bytes / 2 ^ (i * bits) % 2 ^ bits
 
--- A word begins with the index of pair i, and those of the next two pairs follow.
-pub record Three (bits : ℕ) (bytes : List ℕ) (i word : ℕ) : Type 0 where
+-- A word begins with the index of pair i, and those of the next two pairs follow; where i is a multiple of four, so does that of the third.
+pub record Four (bits : ℕ) (bytes : List ℕ) (i word : ℕ) : Type 0 where
   pub first : word % 2 ^ bits ≡ indexAt bits bytes i
   pub second : word / 2 ^ bits % 2 ^ bits ≡ indexAt bits bytes (i + 1)
   pub third : word / 2 ^ bits / 2 ^ bits % 2 ^ bits ≡ indexAt bits bytes (i + 2)
+  pub fourth : i % 4 ≡ 0 → word / 2 ^ bits / 2 ^ bits / 2 ^ bits % 2 ^ bits ≡ indexAt bits bytes (i + 3)
 
 -- This is r × (qa × c + qb × s) of pair i, with the direction of index d.
 unfoldable pub pairTerm : List Float → List Float → Float → ℕ → ℕ → Float
@@ -61,8 +62,9 @@ pub record Termed (directions rotated block : List Float) (bits start i : ℕ) :
   pub query : 2 * (start + i) + 1 < length rotated
   pub table : 2 * 2 ^ bits ≤ length directions
 
--- Whatever the block's pairs name is there.
+-- Whatever the block's pairs name is there, and the block begins at a multiple of four.
 pub record Blocked (directions rotated block : List Float) (indices : List ℕ) (bits start : ℕ) : Type 0 where
+  pub aligned : start % 4 ≡ 0
   pub narrow : bits ≤ 16
   pub few : start + length block ≤ 2048
   pub enough : (start + length block) * bits ≤ 8 * length indices
@@ -80,10 +82,11 @@ addedBlock directions rotated profile range radii indices bits at count sum =
     let block = partRadii profile range radii at count in
     cond (clear badRadius block) (Sum (blockSumFrom directions rotated block indices bits at 0 sum)) Otherwise
 
--- The block's radii are there, they have room, and whatever its pairs name is there.
+-- The block's radii are there, they have room, and so is whatever its pairs name; it begins at a multiple of four.
 pub record Addable (directions rotated : List Float) (profile : RadiusCodecProfileV1) (radii indices : List ℕ) (bits at count : ℕ) : Type 0 where
   pub known : badProfile profile ≡ false
-  pub small : count ≤ 48
+  pub aligned : at % 4 ≡ 0
+  pub small : count ≤ 64
   pub sized : widthOf profile * (at + count) ≤ length radii
   pub narrow : bits ≤ 16
   pub few : at + count ≤ 2048

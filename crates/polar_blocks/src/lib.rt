@@ -1,5 +1,5 @@
 // The polar sum and the pairs of a decoded code, straight from the bytes of a record: its radii and its indices as they stand there.
-// A block of radii at a time is read and judged, and three indices at a time are taken from one word, so that no list of either is kept.
+// A block of radii at a time is read and judged, and four indices at a time are taken from one word, so that no list of either is kept.
 use radius::RadiusCodecProfileV1;
 use radius::Range;
 ghost use Prim.Native.Nat.{_+_, _*_, _%_, _^_, _<_, _≤_};
@@ -12,7 +12,7 @@ ghost use Rattle.radius.specs.Radii.{badRadius};
 ghost use Rattle.bitpack.specs.Packing.{indicesIn};
 ghost use Rattle.polar.specs.Polar.{valueAt, decodedPairs};
 ghost use Rattle.polar_blocks.specs.Payload.{fitsPayload, payloadSumOf, fitsPairs, payloadPairsOf};
-ghost use Rattle.polar_blocks.specs.Inner.{belowZero, notBelowInfinity, indexAt, pairTerm, Three, Termed, Blocked, blockSumFrom, Addable, addedBlock, Summable, Spreadable};
+ghost use Rattle.polar_blocks.specs.Inner.{belowZero, notBelowInfinity, indexAt, pairTerm, Four, Termed, Blocked, blockSumFrom, Addable, addedBlock, Summable, Spreadable};
 
 // A sum, or that it is to be found otherwise.
 pub enum PayloadSum {
@@ -157,9 +157,9 @@ fn blocks_sum(
 
 // How many of the pairs that are left the next block has.
 fn block_of(left: usize) -> usize
-    ensures { λ r. ⌜ (r ≤ left) × (r ≤ 48) × (0 < left → 0 < r) ⌝ }
+    ensures { λ r. ⌜ (r ≤ left) × (r ≤ 64) × (0 < left → 0 < r) × (r < left → r ≡ 64) ⌝ }
 {
-    if left < 48 { left } else { 48 }
+    if left < 64 { left } else { 64 }
 }
 
 // The sum with the terms of a block of pairs, whose radii are read and judged here.
@@ -204,8 +204,8 @@ fn add_block(
 }
 
 // Room for the radii of a block.
-fn no_radii() -> [f32; 48] {
-    [0.0f32; 48]
+fn no_radii() -> [f32; 64] {
+    [0.0f32; 64]
 }
 
 // Whether no radius is refused: two passes of one test each, so that each is done for several radii at a time.
@@ -248,7 +248,7 @@ fn all_below_infinity(values: &[f32]) -> bool
     ok
 }
 
-// The sum with the terms of a block of pairs in their order, three indices from a word at a time. Pair `start` is the block's first.
+// The sum with the terms of a block of pairs in their order, four indices from a word at a time. Pair `start` is the block's first.
 fn block_sum(
     directions: &[f32],
     rotated: &[f32],
@@ -264,14 +264,16 @@ fn block_sum(
     let width = bits as u64;
     let mut sum = begun;
     let mut i = 0;
-    while 3 <= block.len() - i {
+    while 4 <= block.len() - i {
         let first = word_from(indices, bits, start + i);
         let second = first >> width;
         let third = second >> width;
+        let fourth = third >> width;
         sum = sum + term_of(directions, rotated, block, bits, start, i, first);
         sum = sum + term_of(directions, rotated, block, bits, start, i + 1, second);
         sum = sum + term_of(directions, rotated, block, bits, start, i + 2, third);
-        i += 3;
+        sum = sum + term_of(directions, rotated, block, bits, start, i + 3, fourth);
+        i += 4;
     }
     rest_sum(directions, rotated, block, indices, bits, start, i, sum)
 }
@@ -327,10 +329,11 @@ fn lowest(word: u64, bits: u8) -> usize
     (word & mask) as usize
 }
 
-// A word that begins with the index of pair i: what is left of eight bytes behind the bits before it, so that the next two indices are in it as well.
+// A word that begins with the index of pair i: what is left of eight bytes behind the bits before it, so that the next two indices are in it as well, and
+// the third where i is a multiple of four.
 fn word_from(indices: &[u8], bits: u8, i: usize) -> u64
     requires { ⌜ (bits ≤ 16) × (i ≤ 2048) × (i * bits ≤ 8 * length (now indices)) ⌝ }
-    ensures { λ r. ⌜ Three bits (now (indices .entry)) i r ⌝ }
+    ensures { λ r. ⌜ Four bits (now (indices .entry)) i r ⌝ }
 {
     let bit = i * bits as usize;
     word_at(indices, bit / 8) >> (bit % 8)
