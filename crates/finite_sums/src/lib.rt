@@ -1,5 +1,5 @@
-// Whether every value of a long list is finite, and which is the first that is not, found by adding: a sum that is finite has finite terms only, and one addition for a value is less than a test.
-// Where the sum is not finite, which finite values may bring about too, each value is tested.
+// Whether every value of a long list is finite, and which is the first that is not, found by adding: a sum that is finite has finite terms only,
+// and one addition for a value is less than a test. Where the sum is not finite, which finite values may bring about too, each value is tested.
 
 ghost use mathlib.Core.Path.{_≡_};
 ghost use mathlib.Core.Bool.{true};

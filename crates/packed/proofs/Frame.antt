@@ -13,7 +13,8 @@ use Rattle.radius.specs.Radii.{badRadius}
 use Rattle.packed.specs.declared.Header.{Header}
 use Rattle.packed.specs.Layout.{recordLength, headerOf}
 use Rattle.packed.specs.Reading.{isWithdrawn, radiiOf, headerChecks, paddingChecks, readRecordOf}
-use Rattle.packed.specs.Inner.{Whole, frameChecks, radiiChecks, framedOf, readFrameOf, peekRecordOf}
+use Rattle.packed.specs.Peeking.{frameChecks, radiiChecks, framedOf, readFrameOf, peekRecordOf}
+use Rattle.packed.specs.Inner.{Whole}
 use Rattle.packed.proofs.Withdrawn.{unless-none, unless-some, unless-value, unless-refused, unless-withdrawn}
 
 -- ---- a frame with checks behind it

@@ -19,7 +19,7 @@ use Rattle.packed.specs.Fields.{mapOf, hasRange, profileOf, boundsOf, pr
 use Rattle.packed.specs.Layout.{pairsOf, indicesUsed, recordLength, radiiBytes, indicesBytes, signsBytes}
 use Rattle.packed.specs.Radii.{badBoundsFor}
 use Rattle.packed.specs.Reading.{radiiOf, paddingChecks}
-use Rattle.packed.specs.Inner.{frameChecks, radiiChecks}
+use Rattle.packed.specs.Peeking.{frameChecks, radiiChecks}
 use Rattle.packed.proofs.Parts.{length-indices, length-signs}
 
 -- as many radii as pairs

@@ -26,7 +26,8 @@ ghost use Rattle.packed.specs.Fields.{mapOf, hasNorm, profileOf, modeOf,
 ghost use Rattle.packed.specs.Layout.{headerLength, headerOf};
 ghost use Rattle.packed.specs.Radii.{badBounds, badBoundsFor};
 ghost use Rattle.packed.specs.Reading.{saysReading, badMap, badRecordDimension, badPolarBits, shapeChecks, headerChecks, paddingChecks, readRecordOf};
-ghost use Rattle.packed.specs.Inner.{Whole, frameChecks, radiiChecks, readFrameOf, peekRecordOf};
+ghost use Rattle.packed.specs.Peeking.{frameChecks, radiiChecks, readFrameOf, peekRecordOf};
+ghost use Rattle.packed.specs.Inner.{Whole};
 
 // The norm that a record is written with: none, or one that is stored.
 pub enum SourceNorm {

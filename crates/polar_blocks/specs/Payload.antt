@@ -1,5 +1,5 @@
--- These are the polar sum and the pairs of a decoded code by the bytes of a record: radii and indices are what two payloads hold. Where a length does not fit or a
--- radius is refused there is no such sum, and the caller finds otherwise what to answer. Assumes nothing.
+-- These are the polar sum and the pairs of a decoded code by the bytes of a record: radii and indices are what two payloads hold. Where profile, bits or a length do
+-- not fit, or a radius is refused, there is no such sum, and the caller finds otherwise what to answer. Assumes nothing.
 use Prim.Native.Nat.{ℕ, _*_, _/_, _%_, _^_}
 use mathlib.Core.Bool.{Bool, not, cond, _&&_}
 use mathlib.Core.List.{List}
@@ -17,7 +17,8 @@ use Rattle.polar.specs.Polar.{polarSumOf, decodedPairs}
 use Rattle.polar_blocks.specs.declared.PayloadSum.{PayloadSum}
 use Rattle.polar_blocks.specs.declared.PayloadSum.the-variants.{Sum, Otherwise}
 
--- Two payloads hold the radii and the indices of so many pairs, at most as many as a record has: the first just these, the second these and perhaps more.
+-- Under a profile and bits that a record may have, two payloads hold the radii and the indices of so many pairs, at most as many as a record has: the first just these,
+-- the second these and perhaps more.
 unfoldable pub fitsPayload : RadiusCodecProfileV1 → List ℕ → List ℕ → ℕ → ℕ → Bool
 fitsPayload profile radii indices bits pairs =
     leb pairs 2048

@@ -20,8 +20,8 @@ pub enum PayloadSum {
     Otherwise,
 }
 
-// The polar sum of a rotated query and of the radii and the indices that two payloads hold, in pair order from +0.0. Otherwise, where a payload, the
-// query or the table is too short, or where a radius is refused.
+// The polar sum of a rotated query and of the radii and the indices that two payloads hold, in pair order from +0.0. Otherwise, where the
+// profile, the bits or a length does not fit, the query or the table is too short, or a radius is refused.
 pub fn payload_sum(
     directions: &[f32],
     rotated: &[f32],

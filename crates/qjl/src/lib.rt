@@ -292,7 +292,7 @@ fn sign(sum: f32) -> i8
     if sum >= 0.0 { 1 } else { -1 }
 }
 
-// The score of a sketch in residual mode, for a query that has passed its checks.
+// The score of a sketch in residual mode, for a query of the right length; what is not finite is found in its projections.
 fn residual_score(
     dim: usize,
     projections: usize,

@@ -1,7 +1,7 @@
 -- No hidden infinity in a projection: a sum that is finite has finite terms only, so that finite projections tell of a finite matrix and a
 -- finite query. Assumes nothing.
 use Prim.Native.Nat.{ℕ, zero, suc, _+_, _*_, _/_, _%_, _<_}
-use mathlib.Core.Path.{_≡_, refl, sym, subst}
+use mathlib.Core.Path.{_≡_, sym, subst}
 use mathlib.Core.Bool.{Bool, true, false}
 use mathlib.Core.List.{List}
 use native.Mathlib.Nat.{mod-lt, div-add-mod', div-lt-iff-lt-mul}
@@ -10,6 +10,7 @@ use lib.Dec.{T, ltb}
 use lib.ListN.{length, getD, drop, length-drop}
 use lib.Seq.{getD-drop}
 use lib.Ieee.{Float, nan}
+use lib.Ieee.Bits.{is-true}
 use lib.Ieee.Scale.{finite}
 use Rattle.error.specs.Answer.{place}
 use Rattle.error.proofs.Places.{each-clear, each-none}
@@ -20,10 +21,6 @@ use Rattle.qjl_sums.specs.Inner.{onRow}
 use Rattle.qjl_rows.specs.Inner.{Rowed}
 use Rattle.rounding.proofs.Rows.{length-projected, projected-row}
 use Rattle.rounding.specs.Rows.{projected}
-
-pub is-true : (b : Bool) → T b → b ≡ true
-is-true true t = refl
-is-true false t = absurd t
 
 pub told : (b : Bool) → b ≡ true → T b
 told true e = tt

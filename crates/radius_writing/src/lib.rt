@@ -149,7 +149,8 @@ fn first_bad_kept(radii: &[f32], range: Range) -> usize
     find_bad_kept(radii, range)
 }
 
-// Whether every radius is read back from its number within a range. Two flags, with one comparison each, are kept to the end, so that it is done for several radii at a time.
+// Whether every radius is read back from its number within a range. Two flags, with one comparison each, are kept to the end, so that it is done
+// for several radii at a time.
 fn all_kept(radii: &[f32], range: Range) -> bool
     ensures { λ r. ⌜ (r ≡ true → clear (badKept range) (now (radii .entry)) ≡ true) ⌝ }
 {

@@ -20,7 +20,8 @@ use Rattle.error.proofs.Places.{each-clear, each-none}
 use Rattle.rounding.proofs.Partial.{dot-finite}
 use Rattle.rounding.specs.Sums.{dot}
 use Rattle.qjl_rows.specs.Inner.{Rowed}
-use Rattle.qjl_rows.proofs.FiniteSums.{is-true, told, matrix-finite}
+use lib.Ieee.Bits.{is-true}
+use Rattle.qjl_rows.proofs.FiniteSums.{told, matrix-finite}
 use Rattle.rotation_stored.specs.Checks.{storedChecks}
 use Rattle.rotation_stored.specs.Stored.{rowOf, storedRotated, storedUnrotated, storedApplyOf, storedApplyInverseOf}
 use Rattle.rotation_stored.specs.Inner.{Shaped, Judged}

@@ -2,7 +2,7 @@
 use Prim.Native.Nat.{ℕ, _≤_}
 use mathlib.Core.Path.{_≡_}
 
--- The room is at most 512, and as many values as that have room for all.
+-- The room is at most 512, and up to 512 values all have room.
 pub record Room (long room : ℕ) : Type 0 where
   pub small : room ≤ 512
   pub whole : long ≤ 512 → room ≡ long

@@ -1,4 +1,4 @@
--- Private functions of this crate tell these to their callers. No public promise is stated by these. Assumes nothing.
+-- Private functions of this crate ask some of these of their callers and tell them the others. No public promise is stated by these. Assumes nothing.
 use Prim.Native.Nat.{ℕ}
 use mathlib.Core.Path.{_≡_}
 use mathlib.Core.Bool.{true}

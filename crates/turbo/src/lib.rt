@@ -118,7 +118,7 @@ fn distance_by(query: &[f32], bytes: &[u8], pairs: usize, score: f32) -> Scored
     turbo_distance::distance_from_score(query, &radii[0..pairs], score)
 }
 
-// What `inner_product_estimate_phased` answers under a setup whose scalars have passed: the query is turned in room for as many values as it has.
+// What `inner_product_estimate_phased` answers under a setup whose scalars have passed: the query is turned in room of the setup's size.
 fn measure_query(
     setup: Setup,
     rotation: &[f32],

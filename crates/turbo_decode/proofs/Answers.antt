@@ -14,7 +14,6 @@ use Rattle.error.proofs.Answers.{after-value}
 use Rattle.setup.specs.Lent.{Lent}
 use Rattle.setup.specs.declared.Setup.{Setup}
 use Rattle.setup_tables.specs.Checks.{entryChecks, setupChecks, setupChecksButEntries}
-use Rattle.setup_tables.proofs.Accepted.{setup-accepted}
 use Rattle.setup_rotation.specs.Rotations.{unrotatedBy, turnChecks, rotateBackOf}
 use Rattle.setup_rotation.proofs.Rotations.{rotate-back-value}
 use Rattle.setup_rotation.proofs.Turnable.{setup-turnable}
@@ -75,8 +74,7 @@ module _ (s : Setup) (l : Lent) (bytes : List ℕ) (room : ℕ) where
 
       pub decode-ready : room ≡ s .dim → Decodable s (l .rotation) bytes header room
       decode-ready h =
-          let most = setup-accepted s l passed .usable .most in
-          record { paired = decode-paired h; small = omega (arith, h, most); turnable = rw h (setup-turnable s l (append-left (setupChecksButEntries s l) (entryChecks (l .matrix)) accepted passed)) }
+          record { paired = decode-paired h; turnable = rw h (setup-turnable s l (append-left (setupChecksButEntries s l) (entryChecks (l .matrix)) accepted passed)) }
 
   -- the setup is refused
   pub decode-setup : {number place : ℕ} → first (setupChecks s l) accepted ≡ refused number place → decodeApproximateOf s l bytes room ≡ refused number place

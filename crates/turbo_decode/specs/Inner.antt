@@ -17,5 +17,4 @@ pub record Paired (bytes : List ℕ) (header : Header) (n : ℕ) : Type 0 where
 -- Beside that, the values can be rotated back by the setup, for which `entries` are lent.
 pub record Decodable (s : Setup) (entries : List Float) (bytes : List ℕ) (header : Header) (n : ℕ) : Type 0 where
   pub paired : Paired bytes header n
-  pub small : n ≤ 4096
   pub turnable : first (turnChecks s entries n n) accepted ≡ accepted

@@ -1,4 +1,4 @@
--- Private functions of this crate and of `turbo` tell this to their callers. No public promise is stated by this. Assumes nothing.
+-- Private functions of this crate and of `turbo_record` tell this to their callers. No public promise is stated by this. Assumes nothing.
 use Prim.Native.Nat.{ℕ}
 use mathlib.Core.List.{List}
 use Rattle.error.specs.Answer.{Answer, value, first}

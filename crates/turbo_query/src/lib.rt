@@ -107,7 +107,7 @@ fn prepare_at_once(
 }
 
 // Writes both outputs where nothing offends, by way of memory of the same lengths, and else answers false with neither written. Finite values have come of a finite
-// query, rotation and matrix only, so none of these needs a pass of its own.
+// query and matrix only, so neither needs a pass of its own.
 fn prepare_within(
     setup: Setup,
     rotation: &[f32],

@@ -1,4 +1,4 @@
--- Private functions of this crate tell these to their callers. No public promise is stated by these. Assumes nothing.
+-- Private functions of this crate ask some of these of their callers and tell them the others. No public promise is stated by these. Assumes nothing.
 use Prim.Native.Nat.{ℕ}
 use mathlib.Core.Path.{_≡_}
 use mathlib.Core.Bool.{cond, true, false}
@@ -12,7 +12,7 @@ use Rattle.polar_blocks.specs.declared.PayloadSum.the-variants.{Sum, Otherwise}
 use Rattle.setup.specs.declared.Setup.{Setup}
 use Rattle.packed.specs.declared.Header.{Header}
 use Rattle.packed.specs.Reading.{radiiOf}
-use Rattle.packed.specs.Inner.{peekRecordOf}
+use Rattle.packed.specs.Peeking.{peekRecordOf}
 use Rattle.turbo_opening.specs.Opening.{badMatch}
 
 -- A record was peeked at, and it is the setup's.

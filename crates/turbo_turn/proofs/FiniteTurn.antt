@@ -21,7 +21,8 @@ use Rattle.rounding.proofs.Finite.{add-finite, sub-finite, mul-finite}
 use Rattle.rounding.proofs.Lists.{getD-any, length-products, getD-products}
 use Rattle.rounding.proofs.Butterflies.{length-stage, stage-at}
 use Rattle.rounding.proofs.Partial.{dot-finite}
-use Rattle.qjl_rows.proofs.FiniteSums.{is-true, told}
+use lib.Ieee.Bits.{is-true}
+use Rattle.qjl_rows.proofs.FiniteSums.{told}
 use Rattle.rotation.specs.Rotation.{inverseRoot, scaled, hadamardOf, rotated}
 use Rattle.rotation_stored.specs.Stored.{rowOf, storedRotated}
 use Rattle.rotation_stored.proofs.Accepted.{length-stored}

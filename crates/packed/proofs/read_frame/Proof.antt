@@ -10,7 +10,7 @@ use Rattle.error.proofs.Chains as chains
 use Rattle.error.proofs.Chains.{append-refused, append-passed}
 use Rattle.packed.specs.Layout.{headerOf}
 use Rattle.packed.specs.Reading.{headerChecks, isWithdrawn}
-use Rattle.packed.specs.Inner.{frameChecks, readFrameOf}
+use Rattle.packed.specs.Peeking.{frameChecks, readFrameOf}
 use Rattle.packed.proofs.Withdrawn.{unless-none, unless-some}
 use borrow.Author.Needs.{needs}
 use Rattle.packed.proofs.read_frame.Statement.{statement}

@@ -4,7 +4,7 @@ use denote.Ref.{now}
 use Rattle.error.specs.Answer.{value}
 use Rattle.error.specs.Outcomes.{says}
 use Rattle.packed.specs.Reading.{saysReading, readRecordOf}
-use Rattle.packed.specs.Inner.{radiiChecks, readFrameOf}
+use Rattle.packed.specs.Peeking.{radiiChecks, readFrameOf}
 use Rattle.packed.proofs.Frame.{frame-withdrawn, frame-refused, frame-whole, frame-then-refused, frame-then-passed}
 use borrow.Author.Needs.{needs}
 use Rattle.packed.proofs.read_record.Statement.{statement}
