@@ -31,7 +31,7 @@ use Rattle.setup_tables.specs.Checks.{badDirection}
 use Rattle.turbo_distance.specs.Distance.{distanceSum, cutAtZero, distanceBySum}
 use Rattle.turbo.specs.Distance.{l2DistanceEstimateOf}
 use Rattle.turbo_laws.specs.Amended.{formerDistanceOf}
-use Rattle.turbo.specs.Estimates.{innerProductEstimateOf, innerProductEstimatePreparedOf}
+use Rattle.turbo_phased.specs.Estimates.{innerProductEstimateOf, innerProductEstimatePreparedOf}
 use Rattle.turbo_decode.specs.Decode.{decodeApproximateOf}
 use Rattle.turbo_order.specs.Scores.{scoreFrom, exactBy, sizeBy, perUnit, perStep, perRadius, boundBy, scoreOf}
 use Rattle.anchors.specs.Anchors.{Anchors}

@@ -25,7 +25,7 @@ use Rattle.setup_tables.specs.Checks.{setupChecks}
 use Rattle.qjl_residual.specs.Exact.{exactResidual, residualSize}
 use Rattle.qjl_residual.specs.Residual.{scaleOf}
 use Rattle.turbo_order.specs.Scores.{perUnit, perStep, perRadius, accountOf}
-use Rattle.turbo.specs.Estimates.{innerProductEstimateOf, innerProductEstimatePreparedOf}
+use Rattle.turbo_phased.specs.Estimates.{innerProductEstimateOf, innerProductEstimatePreparedOf}
 use Rattle.turbo.specs.Distance.{l2DistanceEstimateOf}
 use Rattle.turbo.specs.Order.{exactOf, boundFor}
 use Rattle.turbo_laws.specs.Amended.{recordSum, formerDistanceOf}

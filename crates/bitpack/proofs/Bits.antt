@@ -5,7 +5,7 @@ use Prim.Native.Nat.{ℕ, zero, suc, _+_, _-_, _*_, _/_, _%_, _^_, _≤_, _<_}
 use mathlib.Core.Path.{_≡_, refl, sym, ap, _∙_}
 use mathlib.Core.Bool.{Bool, true, false, _&&_}
 use mathlib.Core.List.{List, [], _∷_}
-use native.Mathlib.Nat.{zero-div, zero-mod, div-one, div-div-eq-div-mul, add-mul-div-left, add-mul-mod-self-left, mod-eq-of-lt, div-eq-of-lt, zero-add, mul-zero, mul-suc, one-mul, le-div-iff-mul-le, div-add-mod, pow-zero, pow-suc, pow-succ', mod-lt, mul-le-mul-left}
+use native.Mathlib.Nat.{zero-div, zero-mod, div-one, div-div-eq-div-mul, add-mul-div-left, add-mul-mod-self-left, mod-eq-of-lt, div-eq-of-lt, zero-add, one-mul, le-div-iff-mul-le, div-add-mod, pow-zero, pow-succ', mod-lt, mul-le-mul-left}
 use native.Mathlib.Omega.{arith}
 use lib.Dec.{leb, ltb, eqb}
 use lib.Pow.{pow-add, pow-pos, field, mod-mod-pow}
@@ -16,7 +16,8 @@ use Rattle.digits.specs.Digits.{number}
 use Rattle.digits.proofs.Laws.{Below, below-head, below-tail, number-lt}
 use Rattle.error.specs.Checks.{differs}
 use Rattle.bitpack.specs.Padding.{bytesFor, badPadding}
-use Rattle.bitpack.proofs.Digits.{number-drop, number-end, number-run}
+use Rattle.digits.proofs.Digits.{number-drop, number-end, number-run}
+use Rattle.digits.proofs.Powers.{power-power}
 
 -- digit i of a number
 pub digit-at : (base : ℕ) (ds : List ℕ) (i : ℕ) → 0 < base → Below base ds → number base ds / base ^ i % base ≡ getD ds i 0
@@ -26,10 +27,6 @@ digit-at base (d ∷ ds) zero h below = rw (pow-zero, div-one, add-mul-mod-self-
 digit-at base (d ∷ ds) (suc i) h below =
     rw (pow-succ', ← div-div-eq-div-mul, add-mul-div-left d (number base ds) h, div-eq-of-lt (below-head below), zero-add)
     (digit-at base ds i h (below-tail below))
-
-pub power-power : (b q : ℕ) → 2 ^ (b * q) ≡ (2 ^ b) ^ q
-power-power b zero = simp (mul-zero, pow-zero)
-power-power b (suc q) = rw (mul-suc, pow-add, power-power b q, pow-suc) refl
 
 -- a bit within the lowest b bits
 low-bit : (y b j : ℕ) → j < b → y / 2 ^ j % 2 ≡ y % 2 ^ b / 2 ^ j % 2

@@ -1,11 +1,9 @@
 -- Numbers of bits and of bytes: when a product of a count and a width fits a usize, and a division by 8 that is rounded up.
 -- Assumes nothing.
 use Prim.Native.Nat.{ℕ, _+_, _-_, _*_, _/_, _%_, _^_, _≤_, _<_}
-use mathlib.Core.Path.{_≡_, ap, _∙_}
-use native.Mathlib.Nat.{le-div-iff-mul-le, div-lt-iff-lt-mul, one-mul, mod-eq-of-lt, mod-lt, lt-of-lt-of-le}
+use mathlib.Core.Path.{_≡_}
+use native.Mathlib.Nat.{le-div-iff-mul-le, div-lt-iff-lt-mul}
 use native.Mathlib.Omega.{arith}
-use lib.Bits.{bitAnd, and-mask}
-use lib.Pow.{pow-lt, pow-pos, pow-mono}
 use Rattle.bitpack.specs.Padding.{bytesFor}
 
 -- the largest usize, over the width, tells whether the product exceeds it
@@ -18,14 +16,3 @@ product-exceeds count bits h k = div-lt-iff-lt-mul h .0 k
 -- rounding up without a sum that could pass the largest usize
 pub rounded-up : (n : ℕ) → n / 8 + (n % 8 + 7) / 8 ≡ bytesFor n
 rounded-up n = omega arith
-
--- 2 ^ bits, as the code shifts it in `width` bits
-pub power-shifted : (bits width : ℕ) → bits < width → 1 * 2 ^ bits % 2 ^ width ≡ 2 ^ bits
-power-shifted bits width h = ap (λ (n : ℕ). n % 2 ^ width) (one-mul (2 ^ bits)) ∙ mod-eq-of-lt (pow-lt h)
-
--- the lowest `bits` bits, as the code masks them
-pub masked : (n bits : ℕ) → bits ≤ 16 → bitAnd n (1 * 2 ^ bits % 2 ^ 64 - 1) ≡ n % 2 ^ bits
-masked n bits h = ap (λ (m : ℕ). bitAnd n (m - 1)) (power-shifted bits 64 (omega (arith, h))) ∙ and-mask n bits
-
-pub masked-fits : (n bits : ℕ) → bits ≤ 16 → bitAnd n (1 * 2 ^ bits % 2 ^ 64 - 1) < 2 ^ 16
-masked-fits n bits h = rw (masked n bits h) (lt-of-lt-of-le (mod-lt n (pow-pos bits)) (pow-mono h))

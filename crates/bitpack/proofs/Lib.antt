@@ -1,13 +1,7 @@
 pub mod Lengths
 pub mod Padding
 pub mod Merged
-pub mod Digits
-pub mod Windows
-pub mod Packing
-pub mod Unpacking
 pub mod Answers
 pub mod Bits
-pub mod Eights
-pub mod Groups
 pub mod RoundTrip
 pub mod Examples

@@ -21,7 +21,8 @@ use Rattle.bitpack.specs.Signs.{isPlus, badSketchSign, bitOfSign, signOf
 use Rattle.error.proofs.Chains.{Passed, first-passes, first-value, first-accepts, or-false}
 use Rattle.error.proofs.Places.{each-clear, each-none}
 use Rattle.error.proofs.Differs.{differs-not, differs-same}
-use Rattle.bitpack.proofs.Bits.{power-power, number-bit, padded-number}
+use Rattle.digits.proofs.Powers.{power-power}
+use Rattle.bitpack.proofs.Bits.{number-bit, padded-number}
 
 -- ---- digits of `bits` bits each in bytes, and back; `used` is how many bits they take
 

@@ -1,4 +1,3 @@
 pub mod Padding
 pub mod Packing
 pub mod Signs
-pub mod Inner

@@ -1,5 +1,2 @@
 pub mod Signs
-pub mod SignPacking
 pub mod SignUnpacking
-pub mod SignAnswers
-pub mod SignBlocks

@@ -11,8 +11,8 @@ use Rattle.digits.specs.Digits.{number, digits}
 use Rattle.digits.proofs.Laws.{digits-none, digits-append, length-digits}
 use Rattle.bitpack.specs.Signs.{signOfBit}
 use Rattle.lists.proofs.Stores.{store-next, length-store, take-store}
-use Rattle.bitpack.proofs.Digits.{digits-low, digits-next, number-drop}
-use Rattle.bitpack.proofs.Windows.{above}
+use Rattle.digits.proofs.Digits.{digits-low, digits-next, number-drop}
+use Rattle.digits.proofs.Windows.{above}
 
 -- ---- signs written one by one
 

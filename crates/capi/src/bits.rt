@@ -1,13 +1,13 @@
 // Bits: indices and signs in bytes and back.
-use crate::answers::tell;
-use crate::answers::tell_length;
+use capi_answers::answers::tell;
+use capi_answers::answers::tell_length;
 ghost use mathlib.Core.Path.{_≡_};
 ghost use lib.ListN.{length};
 ghost use Rattle.error.specs.Answer.{done, after};
 ghost use Rattle.bitpack.specs.Packing.{packedLenOf, packIndicesOf, unpackIndicesOf};
 ghost use Rattle.bitpack.specs.Padding.{validatePaddingZeroOf};
 ghost use Rattle.bitpack.specs.Signs.{packSignsOf, unpackSignsOf};
-ghost use Rattle.capi.specs.Told.{said, told};
+ghost use Rattle.capi_answers.specs.Told.{said, told};
 
 // The number of bytes that `count` indices of `bits` bits each take.
 #[no_mangle]
@@ -36,7 +36,11 @@ pub extern "C" fn foldrima_pack_indices(
     ensures answer { λ _. ⌜ said (now (number .exit)) (now (place .exit)) ≡ told (done (packIndicesOf (now (indices .entry)) bits (length (now (out .entry))))) ⌝ }
     ensures left { λ _. ⌜ now (out .exit) ≡ after (packIndicesOf (now (indices .entry)) bits (length (now (out .entry)))) (now (out .entry)) ⌝ }
 {
-    tell(bitpack::pack_indices(indices, bits, out), number, place);
+    tell(
+        bitpack_writing::pack_indices(indices, bits, out),
+        number,
+        place,
+    );
 }
 
 // Unpacks `count` indices of `bits` bits each.
@@ -53,7 +57,7 @@ pub extern "C" fn foldrima_unpack_indices(
     ensures left { λ _. ⌜ now (out .exit) ≡ after (unpackIndicesOf (now (packed .entry)) count bits (length (now (out .entry)))) (now (out .entry)) ⌝ }
 {
     tell(
-        bitpack::unpack_indices(packed, count, bits, out),
+        bitpack_reading::unpack_indices(packed, count, bits, out),
         number,
         place,
     );
@@ -70,7 +74,7 @@ pub extern "C" fn foldrima_pack_signs(
     ensures answer { λ _. ⌜ said (now (number .exit)) (now (place .exit)) ≡ told (done (packSignsOf (now (signs .entry)) (length (now (out .entry))))) ⌝ }
     ensures left { λ _. ⌜ now (out .exit) ≡ after (packSignsOf (now (signs .entry)) (length (now (out .entry)))) (now (out .entry)) ⌝ }
 {
-    tell(bitpack_signs::pack_signs(signs, out), number, place);
+    tell(bitpack_signs_writing::pack_signs(signs, out), number, place);
 }
 
 // Unpacks `count` signs.
@@ -86,7 +90,7 @@ pub extern "C" fn foldrima_unpack_signs(
     ensures left { λ _. ⌜ now (out .exit) ≡ after (unpackSignsOf (now (packed .entry)) count (length (now (out .entry)))) (now (out .entry)) ⌝ }
 {
     tell(
-        bitpack_signs::unpack_signs(packed, count, out),
+        bitpack_signs_reading::unpack_signs(packed, count, out),
         number,
         place,
     );

@@ -1,9 +1,9 @@
 // A codebook, which is its bits and its two bounds; the square root, an angle and the two seeds.
-use crate::answers::tell_angle;
-use crate::answers::tell_index;
-use crate::answers::tell_levels;
-use crate::answers::tell_made;
-use crate::answers::tell_midpoint;
+use capi_answers::answers::tell_angle;
+use capi_answers::answers::tell_index;
+use capi_answers::answers::tell_levels;
+use capi_answers::answers::tell_made;
+use capi_answers::answers::tell_midpoint;
 use codebook::ScalarCodebook;
 ghost use mathlib.Core.Path.{_≡_};
 ghost use Rattle.error.specs.Answer.{after};
@@ -11,7 +11,7 @@ ghost use Rattle.codebook.specs.Codebook.{uniformOf, levelsOf, quantizeOf, dequ
 ghost use Rattle.float.specs.SquareRoot.{squareRoot};
 ghost use Rattle.polar.specs.Angle.{dequantizeAngleOf};
 ghost use Rattle.setup.specs.Seeds.{hadamardSeedOf, matrixSeedOf};
-ghost use Rattle.capi.specs.Told.{said, told};
+ghost use Rattle.capi_answers.specs.Told.{said, told};
 
 // Whether these bits and bounds make a codebook.
 #[no_mangle]

@@ -1,15 +1,15 @@
 // Radii in bytes and back. A profile is a number: 0 is F32, 1 BlockLinearU16, every other one BlockLogU8.
-use crate::answers::tell;
-use crate::answers::tell_length;
-use crate::answers::tell_range;
-use crate::codes;
+use capi_answers::answers::tell;
+use capi_answers::answers::tell_length;
+use capi_answers::answers::tell_range;
+use capi_answers::codes;
 use radius::Range;
 ghost use mathlib.Core.Path.{_≡_};
 ghost use lib.ListN.{length};
 ghost use Rattle.error.specs.Answer.{done, after};
 ghost use Rattle.radius.specs.Codec.{compressRangeOf, compressBytesOf, decompressOf, encodedBytesOf};
-ghost use Rattle.capi.specs.Told.{said, told, part};
-ghost use Rattle.capi.specs.Codes.{profileFrom, rangeFrom, minOf, maxOf};
+ghost use Rattle.capi_answers.specs.Told.{said, told, part};
+ghost use Rattle.capi_answers.specs.Codes.{profileFrom, rangeFrom, minOf, maxOf};
 
 // Compresses radii into exactly the bytes that they need, and answers their range.
 #[no_mangle]

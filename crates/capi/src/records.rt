@@ -1,10 +1,10 @@
 // The record: read, its three parts as a start and a length in its own bytes, its values, and written.
-use crate::answers::tell;
-use crate::answers::tell_filled;
-use crate::answers::tell_header;
-use crate::answers::tell_length;
-use crate::answers::tell_read;
-use crate::codes;
+use capi_answers::answers::tell;
+use capi_answers::answers::tell_filled;
+use capi_answers::answers::tell_header;
+use capi_answers::answers::tell_length;
+use capi_answers::answers::tell_read;
+use capi_answers::codes;
 ghost use Prim.Native.Nat.{_+_, _≤_};
 ghost use mathlib.Core.Path.{_≡_};
 ghost use lib.ListN.{length, take, drop};
@@ -15,8 +15,8 @@ ghost use Rattle.packed.specs.Reading.{readRecordOf, radiiPartOf, indicesPartOf
 ghost use Rattle.packed_parts.specs.Parts.{locateOf};
 ghost use Rattle.packed_size.specs.Size.{recordSizeOf};
 ghost use Rattle.packed_writing.specs.Writing.{writeRecordOf};
-ghost use Rattle.capi.specs.Told.{said, told, part};
-ghost use Rattle.capi.specs.Codes.{codeFrom, headerMode, headerProfile, headerDim, headerBits, headerProjections, headerMin, headerMax, headerHasNorm, headerNorm};
+ghost use Rattle.capi_answers.specs.Told.{said, told, part};
+ghost use Rattle.capi_answers.specs.Codes.{codeFrom, headerMode, headerProfile, headerDim, headerBits, headerProjections, headerMin, headerMax, headerHasNorm, headerNorm};
 
 // Reads a record: its header, where nothing offends. A record of no bytes is withdrawn.
 #[no_mangle]
@@ -45,7 +45,7 @@ pub extern "C" fn foldrima_read_record(
     ensures stood { λ _. ⌜ now («has_norm» .exit) ≡ after (part headerHasNorm (readRecordOf (now (bytes .entry)))) (now («has_norm» .entry)) ⌝ }
     ensures norm { λ _. ⌜ now (norm .exit) ≡ after (part headerNorm (readRecordOf (now (bytes .entry)))) (now (norm .entry)) ⌝ }
 {
-    let answer = packed::read_record(bytes);
+    let answer = packed_reading::read_record(bytes);
     tell_read(answer, number, place);
     tell_header(
         answer,

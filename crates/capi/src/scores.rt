@@ -1,19 +1,19 @@
 // Scores of a record by a query or by a prepared one, the distance, and the decoding. A setup's scalars are passed one by one; a mode is a number: 0 is
 // PolarOnly, every other one PolarWithQjl; and so is which rotation it has, its kind: 0 is FastHadamard, every other one Stored.
-use crate::answers::tell;
-use crate::answers::tell_filled;
-use crate::answers::tell_score;
-use crate::codes;
+use capi_answers::answers::tell;
+use capi_answers::answers::tell_filled;
+use capi_answers::answers::tell_score;
+use capi_answers::codes;
 ghost use mathlib.Core.Path.{_≡_};
 ghost use lib.ListN.{length};
 ghost use Rattle.error.specs.Answer.{done, after};
 ghost use Rattle.setup.specs.Lent.{lent};
 ghost use Rattle.turbo_query.specs.Query.{prepareRotatedOf, prepareProjectedOf};
-ghost use Rattle.turbo.specs.Estimates.{innerProductEstimateOf, innerProductEstimatePreparedOf};
+ghost use Rattle.turbo_phased.specs.Estimates.{innerProductEstimateOf, innerProductEstimatePreparedOf};
 ghost use Rattle.turbo.specs.Distance.{l2DistanceEstimateOf};
 ghost use Rattle.turbo_decode.specs.Decode.{decodeApproximateOf};
-ghost use Rattle.capi.specs.Told.{said, told};
-ghost use Rattle.capi.specs.Codes.{setupFrom};
+ghost use Rattle.capi_answers.specs.Told.{said, told};
+ghost use Rattle.capi_answers.specs.Codes.{setupFrom};
 
 // A query rotated and projected once for many records; neither output is written unless both fit.
 #[no_mangle]

@@ -1,8 +1,8 @@
 // The rotations, the check of a setup, and the sketch with its score. A setup's scalars are passed one by one; a mode is a number: 0 is PolarOnly, every
 // other one PolarWithQjl; and so is which rotation it has, its kind: 0 is FastHadamard, every other one Stored.
-use crate::answers::tell;
-use crate::answers::tell_score;
-use crate::codes;
+use capi_answers::answers::tell;
+use capi_answers::answers::tell_score;
+use capi_answers::codes;
 ghost use mathlib.Core.Path.{_≡_};
 ghost use lib.ListN.{length};
 ghost use Rattle.error.specs.Answer.{first, accepted, done, after};
@@ -12,8 +12,8 @@ ghost use Rattle.setup.specs.Lent.{lent};
 ghost use Rattle.setup_tables.specs.Checks.{setupChecks};
 ghost use Rattle.qjl.specs.Sketch.{sketchOf};
 ghost use Rattle.qjl.specs.Score.{sketchScoreOf};
-ghost use Rattle.capi.specs.Told.{said, told};
-ghost use Rattle.capi.specs.Codes.{setupFrom};
+ghost use Rattle.capi_answers.specs.Told.{said, told};
+ghost use Rattle.capi_answers.specs.Codes.{setupFrom};
 
 // The Hadamard rotation of the input into the output.
 #[no_mangle]
@@ -136,7 +136,7 @@ pub extern "C" fn foldrima_sketch(
 {
     let scalars = codes::setup(mode, dim, bits, projections, kind);
     tell(
-        qjl::sketch(scalars, rotation, directions, matrix, vector, out),
+        qjl_sketch::sketch(scalars, rotation, directions, matrix, vector, out),
         number,
         place,
     );
@@ -165,7 +165,7 @@ pub extern "C" fn foldrima_sketch_score(
 {
     let scalars = codes::setup(mode, dim, bits, projections, kind);
     tell_score(
-        qjl::sketch_score(scalars, rotation, directions, matrix, query, sketch, norm),
+        qjl_score::sketch_score(scalars, rotation, directions, matrix, query, sketch, norm),
         number,
         place,
         value,

@@ -3,7 +3,7 @@ use Prim.Native.Nat.{ℕ, _<_}
 use mathlib.Core.Path.{_≡_, refl, sym}
 use native.Mathlib.Omega.{arith}
 use Rattle.error.specs.Answer.{Answer, value, refused, withdrawn, accepted, done}
-use Rattle.capi.specs.Told.{said, withdrawnNumber, told}
+use Rattle.capi_answers.specs.Told.{said, withdrawnNumber, told}
 use Rattle.capi_laws.specs.Numbers.{ThreeKinds, TwoKinds, Numbers}
 use Rattle.capi_laws.proofs.Numbered as numbered
 use Rattle.capi_laws.proofs.Numbered.{Numbered, Plain}

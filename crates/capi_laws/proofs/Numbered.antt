@@ -47,11 +47,11 @@ use Rattle.packed_size.specs.Size.{neededFor, codeChecks, recordSizeOf}
 use Rattle.packed_writing.specs.Writing.{fieldChecks, valueChecks, writeRecordOf}
 use Rattle.turbo_query.specs.Query.{queryChecks, prepareChecks, prepareRotatedOf}
 use Rattle.turbo_record.specs.Scoring.{recordScore, readingChecks}
-use Rattle.turbo.specs.Estimates.{estimate, whereScored, innerProductEstimateOf, preparedChecks, innerProductEstimatePreparedOf}
+use Rattle.turbo_phased.specs.Estimates.{estimate, whereScored, innerProductEstimateOf, preparedChecks, innerProductEstimatePreparedOf}
 use Rattle.turbo_distance.specs.Distance.{distanceSum, cutAtZero, wrongSum, distanceBySum}
 use Rattle.turbo.specs.Distance.{l2DistanceEstimateOf}
 use Rattle.turbo_decode.specs.Decode.{decodeChecks, decodeApproximateOf}
-use Rattle.capi.specs.Told.{withdrawnNumber}
+use Rattle.capi_answers.specs.Told.{withdrawnNumber}
 
 -- whether every check of a list has a number above 0 and below that of a withdrawn position
 abbrev between : List Check → Bool

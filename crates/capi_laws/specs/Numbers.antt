@@ -26,10 +26,10 @@ use Rattle.packed.specs.Reading.{readRecordOf, readRadiiOf, readIndicesOf, read
 use Rattle.packed_size.specs.Size.{recordSizeOf}
 use Rattle.packed_writing.specs.Writing.{writeRecordOf}
 use Rattle.turbo_query.specs.Query.{prepareRotatedOf}
-use Rattle.turbo.specs.Estimates.{innerProductEstimateOf, innerProductEstimatePreparedOf}
+use Rattle.turbo_phased.specs.Estimates.{innerProductEstimateOf, innerProductEstimatePreparedOf}
 use Rattle.turbo.specs.Distance.{l2DistanceEstimateOf}
 use Rattle.turbo_decode.specs.Decode.{decodeApproximateOf}
-use Rattle.capi.specs.Told.{said, withdrawnNumber, told}
+use Rattle.capi_answers.specs.Told.{said, withdrawnNumber, told}
 
 -- What the two lent numbers hold tells which of three kinds of answer it was, and which refusal.
 pub record ThreeKinds {A : Type 0} (a : Answer A) : Type 0 where

@@ -1,5 +1,5 @@
--- A private function asks `Whole` of its caller: the header at hand is the record's own, the checks of the header have passed, and the record has the right length. No
--- public promise is stated by it. Assumes nothing.
+-- Private functions of `packed_reading` ask `Whole` of their callers: the header at hand is the record's own, the checks of the header have passed, and the record has
+-- the right length. No public promise is stated by it. Assumes nothing.
 use Prim.Native.Nat.{ℕ}
 use mathlib.Core.Path.{_≡_}
 use mathlib.Core.List.{List}

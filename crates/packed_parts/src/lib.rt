@@ -45,7 +45,7 @@ pub fn signs_part(bytes: &[u8]) -> &[u8]
 pub fn locate(bytes: &[u8]) -> Places
     ensures { λ r. ⌜ r ≡ locateOf (now (bytes .entry)) ⌝ }
 {
-    match packed::read_record(bytes) {
+    match packed_reading::read_record(bytes) {
         Reading::Read(header) => Places {
             radii: header.radii_start,
             indices: header.indices_start,

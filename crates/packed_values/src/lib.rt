@@ -17,7 +17,7 @@ pub fn read_radii(bytes: &[u8], out: &mut [f32]) -> Filled
     ensures said { λ r. ⌜ saysFilled r ≡ done (readRadiiOf (now (bytes .entry)) (length (now (out .entry)))) ⌝ }
     ensures left { λ r. ⌜ now (out .exit) ≡ after (readRadiiOf (now (bytes .entry)) (length (now (out .entry)))) (now (out .entry)) ⌝ }
 {
-    match packed::read_record(bytes) {
+    match packed_reading::read_record(bytes) {
         Reading::Read(header) => error::as_filled(radii_at(bytes, header, out)),
         Reading::Refused { number, place } => Filled::Refused { number, place },
         Reading::Withdrawn => Filled::Withdrawn,
@@ -29,7 +29,7 @@ pub fn read_indices(bytes: &[u8], out: &mut [u16]) -> Filled
     ensures said { λ r. ⌜ saysFilled r ≡ done (readIndicesOf (now (bytes .entry)) (length (now (out .entry)))) ⌝ }
     ensures left { λ r. ⌜ now (out .exit) ≡ after (readIndicesOf (now (bytes .entry)) (length (now (out .entry)))) (now (out .entry)) ⌝ }
 {
-    match packed::read_record(bytes) {
+    match packed_reading::read_record(bytes) {
         Reading::Read(header) => error::as_filled(indices_at(bytes, header, out)),
         Reading::Refused { number, place } => Filled::Refused { number, place },
         Reading::Withdrawn => Filled::Withdrawn,
@@ -41,7 +41,7 @@ pub fn read_signs(bytes: &[u8], out: &mut [i8]) -> Filled
     ensures said { λ r. ⌜ saysFilled r ≡ done (readSignsOf (now (bytes .entry)) (length (now (out .entry)))) ⌝ }
     ensures left { λ r. ⌜ now (out .exit) ≡ after (readSignsOf (now (bytes .entry)) (length (now (out .entry)))) (now (out .entry)) ⌝ }
 {
-    match packed::read_record(bytes) {
+    match packed_reading::read_record(bytes) {
         Reading::Read(header) => error::as_filled(signs_at(bytes, header, out)),
         Reading::Refused { number, place } => Filled::Refused { number, place },
         Reading::Withdrawn => Filled::Withdrawn,
@@ -77,7 +77,7 @@ pub fn indices_at(bytes: &[u8], header: Header, out: &mut [u16]) -> Outcome
         };
     }
     let payload = packed_parts::cut(bytes, header.indices_start, header.signs_start);
-    bitpack::unpack_indices(payload, header.dim / 2, header.bits, out)
+    bitpack_reading::unpack_indices(payload, header.dim / 2, header.bits, out)
 }
 
 // The signs of a record by the header that was read from it.
@@ -92,5 +92,5 @@ pub fn signs_at(bytes: &[u8], header: Header, out: &mut [i8]) -> Outcome
         };
     }
     let payload = packed_parts::cut(bytes, header.signs_start, header.end);
-    bitpack_signs::unpack_signs(payload, header.projections, out)
+    bitpack_signs_reading::unpack_signs(payload, header.projections, out)
 }

@@ -1,4 +1,4 @@
-// Writing the record that `packed` reads: a polar code and, beside it, a residual sketch, as bytes. Ported from turbo-quant/src/packed.rs and
+// Writing the record that `packed_reading` reads: a polar code and, beside it, a residual sketch, as bytes. Ported from turbo-quant/src/packed.rs and
 // changed: the byte layout is this port's own, inputs and output are lent, refusals are numbers.
 use error::DIMENSION_MISMATCH;
 use error::Length;
@@ -244,7 +244,7 @@ fn put_indices(indices: &[u16], bits: u8, out: &mut [u8])
     requires { ⌜ packIndicesOf (now indices) bits (length (now out)) ≡ value (indexBytes bits (now indices)) ⌝ }
     ensures { λ r. ⌜ now (out .exit) ≡ indexBytes bits (now (indices .entry)) ⌝ }
 {
-    bitpack::pack_indices(indices, bits, out);
+    bitpack_writing::pack_indices(indices, bits, out);
 }
 
 // Writes signs that have passed their checks.
@@ -252,7 +252,7 @@ fn put_signs(signs: &[i8], out: &mut [u8])
     requires { ⌜ packSignsOf (now signs) (length (now out)) ≡ value (signBytes (now signs)) ⌝ }
     ensures { λ r. ⌜ now (out .exit) ≡ signBytes (now (signs .entry)) ⌝ }
 {
-    bitpack_signs::pack_signs(signs, out);
+    bitpack_signs_writing::pack_signs(signs, out);
 }
 
 // Writes the header.

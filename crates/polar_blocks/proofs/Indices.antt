@@ -12,8 +12,8 @@ use Rattle.digits.specs.Digits.{number, digits}
 use Rattle.digits.specs.Inner.{fourAt}
 use Rattle.digits.proofs.Laws.{Below, below-head, below-tail}
 use Rattle.bitpack.specs.Packing.{indicesIn}
-use Rattle.bitpack.proofs.Bits.{power-power}
-use Rattle.bitpack.proofs.Windows.{low-out, shift-out}
+use Rattle.digits.proofs.Powers.{power-power}
+use Rattle.digits.proofs.Windows.{low-out, shift-out}
 use Rattle.polar_blocks.specs.Inner.{indexAt, Four}
 
 -- ---- a digit, by its place

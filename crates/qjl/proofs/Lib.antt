@@ -1,4 +1,2 @@
-pub mod AtOnce
-pub mod Signs
 pub mod Answers
 pub mod Examples

@@ -1,3 +1,2 @@
 pub mod Sketch
 pub mod Score
-pub mod Inner

@@ -13,7 +13,7 @@ use Rattle.rounding.specs.Sums.{running, products}
 use Rattle.digits.specs.Digits.{number, digits}
 use Rattle.digits.proofs.Laws.{number-nil}
 use Rattle.bitpack.specs.Signs.{signOfBit, signsIn}
-use Rattle.bitpack.proofs.Digits.{number-drop}
+use Rattle.digits.proofs.Digits.{number-drop}
 use Rattle.bitpack_signs.proofs.SignUnpacking.{byte-alone}
 use Rattle.qjl_residual.specs.Residual.{signSumOf}
 use Rattle.qjl_bits.specs.Inner.{bitSumFrom}

@@ -43,14 +43,17 @@ fn bytes_written(call: u8, case: &[u8; 512], out: &mut [u8]) -> bool {
 fn pack_indices(case: &[u8; 512], out: &mut [u8]) -> bool {
     let view = frame::index_view(case);
     let indices = frame::indices(case, &view);
-    same::outcome(case, bitpack::pack_indices(indices, frame::bits(case), out))
+    same::outcome(
+        case,
+        bitpack_writing::pack_indices(indices, frame::bits(case), out),
+    )
 }
 
 fn pack_signs(case: &[u8; 512], out: &mut [u8]) -> bool {
     let view = frame::sign_view(case);
     same::outcome(
         case,
-        bitpack_signs::pack_signs(frame::signs(case, &view), out),
+        bitpack_signs_writing::pack_signs(frame::signs(case, &view), out),
     )
 }
 
@@ -103,7 +106,7 @@ pub(crate) fn indices(call: u8, case: &[u8; 512]) -> bool {
 fn indices_written(call: u8, case: &[u8; 512], out: &mut [u16]) -> Filled {
     let bytes = frame::bytes(case, frame::BYTES);
     if call == 18 {
-        return error::as_filled(bitpack::unpack_indices(
+        return error::as_filled(bitpack_reading::unpack_indices(
             bytes,
             frame::count(case),
             frame::bits(case),
@@ -125,7 +128,11 @@ pub(crate) fn signs(call: u8, case: &[u8; 512]) -> bool {
 fn signs_written(call: u8, case: &[u8; 512], out: &mut [i8]) -> Filled {
     let bytes = frame::bytes(case, frame::BYTES);
     if call == 20 {
-        return error::as_filled(bitpack_signs::unpack_signs(bytes, frame::count(case), out));
+        return error::as_filled(bitpack_signs_reading::unpack_signs(
+            bytes,
+            frame::count(case),
+            out,
+        ));
     }
     packed_values::read_signs(bytes, out)
 }

@@ -111,7 +111,7 @@ fn seeds(case: &[u8; 512]) -> bool {
 
 // Whether the list accepts the record too, with the same norm, says this refusal, or says that the position is withdrawn.
 fn read_record(case: &[u8; 512]) -> bool {
-    match packed::read_record(frame::bytes(case, frame::BYTES)) {
+    match packed_reading::read_record(frame::bytes(case, frame::BYTES)) {
         Reading::Read(header) => same::norm(case, header.has_norm, header.norm),
         Reading::Refused { number, place } => same::refused(case, number, place),
         Reading::Withdrawn => same::withdrawn(case),

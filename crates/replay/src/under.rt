@@ -98,7 +98,7 @@ fn sketch(
     let wanted = frame::signs(case, &view);
     let count = wanted.len();
     let mut out = outputs::marked_signs();
-    let given = qjl::sketch(
+    let given = qjl_sketch::sketch(
         setup,
         entries,
         directions,
@@ -172,7 +172,7 @@ fn score(
         let view = frame::sign_view(case);
         let sketch = frame::signs(case, &view);
         let norm = frame::float_at(case, frame::VALUE);
-        return qjl::sketch_score(setup, entries, directions, matrix, query, sketch, norm);
+        return qjl_score::sketch_score(setup, entries, directions, matrix, query, sketch, norm);
     }
     let record = frame::bytes(case, frame::BYTES);
     if call == 34 {

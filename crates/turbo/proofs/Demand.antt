@@ -28,7 +28,7 @@ use Rattle.turbo_opening.specs.Opening.{contentOf}
 use Rattle.turbo_opening.specs.Inner.{openedOf}
 use Rattle.turbo_opening.proofs.Answers.{opened-projections}
 use Rattle.turbo_record.specs.Scoring.{sinceReading}
-use Rattle.turbo.specs.Estimates.{estimate, innerProductEstimateOf}
+use Rattle.turbo_phased.specs.Estimates.{estimate, innerProductEstimateOf}
 use Rattle.turbo.proofs.Since.{since-open, since-pairs, since-value, since-finite}
 use Rattle.turbo.specs.Order.{IsScored, atScale, exactOf, boundFor, Demand}
 

@@ -35,7 +35,7 @@ use Rattle.packed.proofs.Radii.{length-signsOf}
 use Rattle.turbo_opening.specs.Opening.{contentOf}
 use Rattle.turbo_opening.proofs.Answers.{opened-projections}
 use Rattle.turbo_record.specs.Scoring.{recordScore, recordScoreOf}
-use Rattle.turbo.specs.Estimates.{preparedChecks, innerProductEstimatePreparedOf}
+use Rattle.turbo_phased.specs.Estimates.{preparedChecks, innerProductEstimatePreparedOf}
 use Rattle.turbo.specs.Inner.{Lengths}
 use Rattle.turbo.proofs.Answers.{ready-rest, prepared-passed}
 use Rattle.turbo.proofs.Since.{since-open, since-pairs, since-finite}

@@ -19,7 +19,7 @@ use Rattle.setup_rotation.proofs.Rotations.{length-rotated-by}
 use Rattle.qjl.specs.Sketch.{vectorChecks}
 use Rattle.qjl.proofs.Answers.{vector-setup, vector-rowed}
 use Rattle.turbo_query.specs.Query.{rotatedQuery, projectedQuery, finiteChecks, queryChecks, prepareChecks, prepareRotatedOf, prepareProjectedOf}
-use Rattle.turbo.specs.Estimates.{preparedChecks, innerProductEstimateOf, innerProductEstimatePreparedOf, lengthsAndValues}
+use Rattle.turbo_phased.specs.Estimates.{preparedChecks, innerProductEstimateOf, innerProductEstimatePreparedOf, lengthsAndValues}
 use Rattle.turbo.specs.Prepared.{IsPrepared, Prepared}
 use Rattle.float.specs.Bytes.{AreFloats}
 use Rattle.turbo.proofs.Demand.{demand}

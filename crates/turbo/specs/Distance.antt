@@ -8,7 +8,7 @@ use Rattle.setup.specs.Lent.{Lent}
 use Rattle.setup.specs.declared.Setup.{Setup}
 use Rattle.packed.specs.Reading.{radiiOf}
 use Rattle.turbo_distance.specs.Distance.{distanceFromScoreOf}
-use Rattle.turbo.specs.Estimates.{estimate, whereScored}
+use Rattle.turbo_phased.specs.Estimates.{estimate, whereScored}
 
 unfoldable pub l2DistanceEstimateOf : Setup → Lent → List Float → List ℕ → Answer Float
 l2DistanceEstimateOf s l query bytes = whereScored s l query bytes (distanceFromScoreOf query (radiiOf bytes) (estimate s l query bytes))

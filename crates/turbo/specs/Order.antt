@@ -12,7 +12,7 @@ use Rattle.setup.specs.Lent.{Lent}
 use Rattle.setup.specs.declared.Setup.{Setup}
 use Rattle.turbo_order.specs.Scores.{perUnit, scaledExact, scoreBound}
 use Rattle.turbo_opening.specs.Opening.{contentOf}
-use Rattle.turbo.specs.Estimates.{innerProductEstimateOf}
+use Rattle.turbo_phased.specs.Estimates.{innerProductEstimateOf}
 
 -- 'A record counts as scored under a setup and a query where scoring it under them answers a number with its value.'
 abbrev pub IsScored : Setup → Lent → List Float → List ℕ → Float → Type 0

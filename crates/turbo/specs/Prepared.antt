@@ -9,7 +9,7 @@ use Rattle.float.specs.Bytes.{AreFloats}
 use Rattle.setup.specs.Lent.{Lent, lent}
 use Rattle.setup.specs.declared.Setup.{Setup}
 use Rattle.turbo_query.specs.Query.{prepareRotatedOf, prepareProjectedOf}
-use Rattle.turbo.specs.Estimates.{innerProductEstimateOf, innerProductEstimatePreparedOf}
+use Rattle.turbo_phased.specs.Estimates.{innerProductEstimateOf, innerProductEstimatePreparedOf}
 use Rattle.turbo.specs.Order.{Demand}
 
 -- The two lists are what `prepare_query` answers for the query, into outputs of some two lengths.

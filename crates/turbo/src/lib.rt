@@ -3,34 +3,23 @@
 // and a place; of a withdrawn position no score is answered.
 
 use error::DIMENSION_MISMATCH;
-use error::NON_FINITE_INPUT;
 use error::Outcome;
 use error::Scored;
 use setup::Setup;
+use turbo_phased::Phased;
 ghost use mathlib.Core.Path.{_≡_};
 ghost use mathlib.Core.Bool.{true};
-ghost use lib.ListN.{length};
 ghost use Rattle.error.specs.Answer.{value, first, accepted};
 ghost use Rattle.error.specs.Outcomes.{says, saysScore};
 ghost use Rattle.setup.specs.Lent.{lent};
-ghost use Rattle.setup.specs.Checks.{scalarChecks};
 ghost use Rattle.packed.specs.Layout.{pairsOf, headerOf};
 ghost use Rattle.packed.specs.Reading.{readRecordOf, radiiOf};
 ghost use Rattle.turbo_distance.specs.Distance.{distanceFromScoreOf};
-ghost use Rattle.turbo.specs.Estimates.{innerProductEstimateOf, saysPhased, innerProductEstimatePhasedOf, preparedChecks, innerProductEstimatePreparedOf, lengthsAndValues};
+ghost use Rattle.turbo_phased.specs.Estimates.{innerProductEstimateOf, saysPhased, preparedChecks, innerProductEstimatePreparedOf, lengthsAndValues};
 ghost use Rattle.turbo.specs.Distance.{l2DistanceEstimateOf};
-ghost use Rattle.turbo.specs.Inner.{joined, queryValueChecks, Fitting, Turned, Clean, Lengths};
+ghost use Rattle.turbo.specs.Inner.{joined, Lengths};
 ghost use Rattle.turbo.specs.Order.{Demand};
 ghost use Rattle.turbo.specs.Prepared.{Prepared};
-
-// A score with its value, or a refusal with its phase: before the record is read, or from its reading on. A withdrawn position is told from its reading
-// on.
-pub enum Phased {
-    Score(f32),
-    BeforeReading { number: u32, place: usize },
-    FromReading { number: u32, place: usize },
-    Withdrawn,
-}
 
 // The estimated inner product of a query and the vector that a record stands for; of a withdrawn position that it is withdrawn, behind the query's
 // checks.
@@ -45,24 +34,14 @@ pub fn inner_product_estimate(
     ensures said { λ r. ⌜ saysScore r ≡ innerProductEstimateOf setup (lent (now (rotation .entry)) (now (directions .entry)) (now (matrix .entry))) (now (query .entry)) (now (bytes .entry)) ⌝ }
     ensures ordered { λ r. ⌜ Demand setup (lent (now (rotation .entry)) (now (directions .entry)) (now (matrix .entry))) (now (query .entry)) ⌝ }
 {
-    without_phase(inner_product_estimate_phased(setup, rotation, directions, matrix, query, bytes))
-}
-
-// The answer of `inner_product_estimate`, with a refusal that tells whether it came before the record was read; a withdrawn position never does.
-pub fn inner_product_estimate_phased(
-    setup: Setup,
-    rotation: &[f32],
-    directions: &[f32],
-    matrix: &[f32],
-    query: &[f32],
-    bytes: &[u8],
-) -> Phased
-    ensures { λ r. ⌜ saysPhased r ≡ innerProductEstimatePhasedOf setup (lent (now (rotation .entry)) (now (directions .entry)) (now (matrix .entry))) (now (query .entry)) (now (bytes .entry)) ⌝ }
-{
-    match setup::check_scalars(setup) {
-        Outcome::Done => measure_query(setup, rotation, directions, matrix, query, bytes),
-        Outcome::Refused { number, place } => Phased::BeforeReading { number, place },
-    }
+    without_phase(turbo_phased::inner_product_estimate_phased(
+        setup,
+        rotation,
+        directions,
+        matrix,
+        query,
+        bytes,
+    ))
 }
 
 // The estimated inner product by a query that is prepared, which needs neither what the rotation is lent nor the matrix. A withdrawn position is told
@@ -118,169 +97,6 @@ fn distance_by(query: &[f32], bytes: &[u8], pairs: usize, score: f32) -> Scored
     turbo_distance::distance_from_score(query, &radii[0..pairs], score)
 }
 
-// What `inner_product_estimate_phased` answers under a setup whose scalars have passed: the query is turned in room of the setup's size.
-fn measure_query(
-    setup: Setup,
-    rotation: &[f32],
-    directions: &[f32],
-    matrix: &[f32],
-    query: &[f32],
-    bytes: &[u8],
-) -> Phased
-    requires { ⌜ first (scalarChecks setup) accepted ≡ accepted ⌝ }
-    ensures { λ r. ⌜ saysPhased r ≡ innerProductEstimatePhasedOf setup (lent (now (rotation .entry)) (now (directions .entry)) (now (matrix .entry))) (now (query .entry)) (now (bytes .entry)) ⌝ }
-{
-    let dim = setup.dim;
-    let rows = setup::counted_projections(setup);
-    if 256 < dim || 256 < rows {
-        let mut rotated = zeros();
-        let mut projected = zeros();
-        return measure_within(
-            setup,
-            rotation,
-            directions,
-            matrix,
-            query,
-            bytes,
-            &mut rotated[0..dim],
-            &mut projected[0..rows],
-        );
-    }
-    let mut rotated = few_zeros();
-    let mut projected = few_zeros();
-    measure_within(
-        setup,
-        rotation,
-        directions,
-        matrix,
-        query,
-        bytes,
-        &mut rotated[0..dim],
-        &mut projected[0..rows],
-    )
-}
-
-// The same, with room of just their lengths for the query rotated and projected.
-fn measure_within(
-    setup: Setup,
-    rotation: &[f32],
-    directions: &[f32],
-    matrix: &[f32],
-    query: &[f32],
-    bytes: &[u8],
-    rotated: &mut [f32],
-    projected: &mut [f32],
-) -> Phased
-    requires { ⌜ (first (scalarChecks setup) accepted ≡ accepted) × Fitting setup (length (now rotated)) (length (now projected)) ⌝ }
-    ensures { λ r. ⌜ saysPhased r ≡ innerProductEstimatePhasedOf setup (lent (now (rotation .entry)) (now (directions .entry)) (now (matrix .entry))) (now (query .entry)) (now (bytes .entry)) ⌝ }
-{
-    let turned = turn(
-        setup,
-        rotation,
-        directions,
-        matrix,
-        query,
-        rotated,
-        projected,
-    );
-    if let Outcome::Refused { number, place } = turned {
-        return Phased::BeforeReading { number, place };
-    }
-    from_reading(turbo_record::record_score(setup, directions, rotated, projected, bytes))
-}
-
-// The query rotated and projected into room of just their lengths, and all its checks. Finite values tell that nothing of the query offends; else it goes check by
-// check.
-fn turn(
-    setup: Setup,
-    rotation: &[f32],
-    directions: &[f32],
-    matrix: &[f32],
-    query: &[f32],
-    rotated: &mut [f32],
-    projected: &mut [f32],
-) -> Outcome
-    requires { ⌜ Fitting setup (length (now rotated)) (length (now projected)) ⌝ }
-    ensures { λ r. ⌜ Turned setup (lent (now (rotation .entry)) (now (directions .entry)) (now (matrix .entry))) (now (query .entry)) (says r) (now (rotated .exit)) (now (projected .exit)) ⌝ }
-{
-    let turned = turbo_turn::turn_query(
-        setup,
-        rotation,
-        directions,
-        matrix,
-        query,
-        rotated,
-        projected,
-    );
-    if is_clean(turned, rotated, projected) {
-        return Outcome::Done;
-    }
-    turn_checked(
-        setup,
-        rotation,
-        directions,
-        matrix,
-        query,
-        rotated,
-        projected,
-    )
-}
-
-// The same, check by check.
-fn turn_checked(
-    setup: Setup,
-    rotation: &[f32],
-    directions: &[f32],
-    matrix: &[f32],
-    query: &[f32],
-    rotated: &mut [f32],
-    projected: &mut [f32],
-) -> Outcome
-    requires { ⌜ Fitting setup (length (now rotated)) (length (now projected)) ⌝ }
-    ensures { λ r. ⌜ Turned setup (lent (now (rotation .entry)) (now (directions .entry)) (now (matrix .entry))) (now (query .entry)) (says r) (now (rotated .exit)) (now (projected .exit)) ⌝ }
-{
-    let checked = qjl::check_vector(setup, rotation, directions, matrix, query);
-    if let Outcome::Refused { number, place } = checked {
-        return Outcome::Refused { number, place };
-    }
-    turbo_turn::turn_query(
-        setup,
-        rotation,
-        directions,
-        matrix,
-        query,
-        rotated,
-        projected,
-    );
-    check_values(rotated, projected)
-}
-
-// Whether a call was done and all values of both lists are finite.
-fn is_clean(outcome: Outcome, rotated: &[f32], projected: &[f32]) -> bool
-    ensures { λ r. ⌜ (r ≡ true → Clean (says outcome) (now (rotated .entry)) (now (projected .entry))) ⌝ }
-{
-    match outcome {
-        Outcome::Done => {
-            if !error::all_finite(rotated) {
-                return false;
-            }
-            error::all_finite(projected)
-        }
-        Outcome::Refused { number, place } => false,
-    }
-}
-
-// An answer from record reading on, with its phase.
-fn from_reading(scored: Scored) -> Phased
-    ensures { λ r. ⌜ saysPhased r ≡ value (saysScore scored) ⌝ }
-{
-    match scored {
-        Scored::Score(score) => Phased::Score(score),
-        Scored::Refused { number, place } => Phased::FromReading { number, place },
-        Scored::Withdrawn => Phased::Withdrawn,
-    }
-}
-
 // Whether the checks of a prepared query pass but for those of the scalars and of its values.
 fn is_fitting(setup: Setup, directions: &[f32], rotated: usize, projected: usize) -> bool
     ensures { λ r. ⌜ (r ≡ true → Lengths setup (now (directions .entry)) rotated projected) ⌝ }
@@ -328,38 +144,7 @@ fn check_lengths_and_values(setup: Setup, rotated: &[f32], projected: &[f32]) ->
             place: projected.len(),
         };
     }
-    check_values(rotated, projected)
-}
-
-// The values of the query rotated, then those of the query projected.
-fn check_values(rotated: &[f32], projected: &[f32]) -> Outcome
-    ensures { λ r. ⌜ says r ≡ first (queryValueChecks (now (rotated .entry)) (now (projected .entry))) accepted ⌝ }
-{
-    let rotated_place = error::first_non_finite(rotated);
-    if rotated_place < rotated.len() {
-        return Outcome::Refused {
-            number: NON_FINITE_INPUT,
-            place: rotated_place,
-        };
-    }
-    let projected_place = error::first_non_finite(projected);
-    if projected_place < projected.len() {
-        return Outcome::Refused {
-            number: NON_FINITE_INPUT,
-            place: projected_place,
-        };
-    }
-    Outcome::Done
-}
-
-// Room for a rotated or a projected query, of at most 4,096 values.
-fn zeros() -> [f32; 4096] {
-    [0.0f32; 4096]
-}
-
-// The same for at most 256.
-fn few_zeros() -> [f32; 256] {
-    [0.0f32; 256]
+    turbo_query::check_values(rotated, projected)
 }
 
 // Room for the radii of a record, of which there are at most 2,048.

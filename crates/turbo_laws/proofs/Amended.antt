@@ -12,7 +12,7 @@ use Rattle.setup.specs.Lent.{Lent}
 use Rattle.setup.specs.declared.Setup.{Setup}
 use Rattle.turbo_distance.specs.Distance.{cutAtZero, distanceBySum}
 use Rattle.turbo_distance.proofs.Answers.{by-sum-nan, by-sum-number, by-sum-lowest, by-sum-highest, cut-nan}
-use Rattle.turbo.specs.Estimates.{whereScored, innerProductEstimateOf}
+use Rattle.turbo_phased.specs.Estimates.{whereScored, innerProductEstimateOf}
 use Rattle.turbo.specs.Distance.{l2DistanceEstimateOf}
 use Rattle.turbo.specs.Order.{IsScored}
 use Rattle.turbo.proofs.Answers.{behind-refused, behind-withdrawn, behind-scored, distance-refused, distance-withdrawn}

@@ -28,7 +28,7 @@ use Rattle.turbo_opening.proofs.Answers.{opened-dim}
 use Rattle.turbo_decode.specs.Decode.{decoded, decodeApproximateOf}
 use Rattle.turbo_distance.specs.Distance.{distanceFromScoreOf}
 use Rattle.turbo_record.specs.Scoring.{recordScore}
-use Rattle.turbo.specs.Estimates.{lengthsAndValues, innerProductEstimateOf, innerProductEstimatePhasedOf, innerProductEstimatePreparedOf}
+use Rattle.turbo_phased.specs.Estimates.{lengthsAndValues, innerProductEstimateOf, innerProductEstimatePhasedOf, innerProductEstimatePreparedOf}
 use Rattle.turbo.specs.Distance.{l2DistanceEstimateOf}
 use Rattle.turbo.specs.Order.{IsScored}
 use Rattle.turbo.proofs.Demand.{scored-open}

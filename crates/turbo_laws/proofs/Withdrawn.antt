@@ -17,7 +17,7 @@ use Rattle.turbo_query.specs.Query.{queryChecks}
 use Rattle.turbo_opening.specs.Opening.{openChecks, openRecordOf}
 use Rattle.turbo_decode.specs.Decode.{decodeChecks, decodeApproximateOf}
 use Rattle.turbo_record.specs.Scoring.{recordScore, readingChecks}
-use Rattle.turbo.specs.Estimates.{estimate, innerProductEstimateOf, innerProductEstimatePhasedOf, preparedChecks, innerProductEstimatePreparedOf}
+use Rattle.turbo_phased.specs.Estimates.{estimate, innerProductEstimateOf, innerProductEstimatePhasedOf, preparedChecks, innerProductEstimatePreparedOf}
 use Rattle.turbo.specs.Distance.{l2DistanceEstimateOf}
 use Rattle.turbo.specs.Order.{IsScored}
 use Rattle.turbo_laws.specs.Withdrawn.{WithdrawnScores}

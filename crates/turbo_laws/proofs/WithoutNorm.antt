@@ -36,9 +36,9 @@ use Rattle.turbo_distance.specs.Distance.{distanceFromScoreOf}
 use Rattle.turbo_record.specs.Scoring.{recordScore, sinceReading}
 use Rattle.setup_tables.specs.Checks.{setupChecks}
 use Rattle.turbo_decode.specs.Decode.{decoded, decodeApproximateOf}
-use Rattle.turbo.specs.Estimates.{estimate, innerProductEstimateOf, innerProductEstimatePhasedOf, preparedChecks, innerProductEstimatePreparedOf}
+use Rattle.turbo_phased.specs.Estimates.{estimate, innerProductEstimateOf, innerProductEstimatePhasedOf, preparedChecks, innerProductEstimatePreparedOf}
 use Rattle.turbo.specs.Distance.{l2DistanceEstimateOf}
-use Rattle.turbo.proofs.Answers.{account-entries}
+use Rattle.turbo_phased.proofs.Answers.{account-entries}
 use Rattle.turbo.specs.Order.{exactOf, boundFor}
 use Rattle.turbo_laws.specs.WithoutNorm.{formerResidual, formerScore, formerEstimate, formerExact, formerBound, formerReading, formerSketchScore, ScoresWithoutNorm}
 

@@ -13,7 +13,7 @@ use Rattle.setup.specs.Lent.{Lent}
 use Rattle.setup.specs.declared.Setup.{Setup}
 use Rattle.packed.specs.Reading.{radiiOf}
 use Rattle.turbo_distance.specs.Distance.{distanceSum, cutAtZero}
-use Rattle.turbo.specs.Estimates.{estimate, whereScored, innerProductEstimateOf}
+use Rattle.turbo_phased.specs.Estimates.{estimate, whereScored, innerProductEstimateOf}
 use Rattle.turbo.specs.Distance.{l2DistanceEstimateOf}
 use Rattle.turbo.specs.Order.{IsScored}
 

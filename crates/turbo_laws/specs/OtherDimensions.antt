@@ -34,7 +34,7 @@ use Rattle.turbo_opening.specs.Opening.{contentOf, matchChecks, openRecordOf}
 use Rattle.turbo_distance.specs.Distance.{distanceFromScoreOf}
 use Rattle.turbo_decode.specs.Decode.{decodeApproximateOf}
 use Rattle.turbo_record.specs.Scoring.{recordScore}
-use Rattle.turbo.specs.Estimates.{lengthsAndValues, innerProductEstimateOf, innerProductEstimatePhasedOf, innerProductEstimatePreparedOf}
+use Rattle.turbo_phased.specs.Estimates.{lengthsAndValues, innerProductEstimateOf, innerProductEstimatePhasedOf, innerProductEstimatePreparedOf}
 use Rattle.turbo.specs.Distance.{l2DistanceEstimateOf}
 use Rattle.turbo.specs.Order.{IsScored, exactOf, boundFor}
 

@@ -19,7 +19,7 @@ use Rattle.turbo_opening.specs.Opening.{openChecks, openRecordOf}
 use Rattle.turbo_decode.specs.Decode.{decoded, decodeApproximateOf}
 use Rattle.turbo_distance.specs.Distance.{distanceFromScoreOf}
 use Rattle.turbo_record.specs.Scoring.{recordScore, readingChecks}
-use Rattle.turbo.specs.Estimates.{estimate, innerProductEstimateOf, innerProductEstimatePhasedOf, preparedChecks, innerProductEstimatePreparedOf}
+use Rattle.turbo_phased.specs.Estimates.{estimate, innerProductEstimateOf, innerProductEstimatePhasedOf, preparedChecks, innerProductEstimatePreparedOf}
 use Rattle.turbo.specs.Distance.{l2DistanceEstimateOf}
 use Rattle.turbo.specs.Order.{IsScored}
 

@@ -35,7 +35,7 @@ use Rattle.turbo_opening.specs.Opening.{contentOf, matchChecks, openRecordOf}
 use Rattle.turbo_distance.specs.Distance.{distanceFromScoreOf}
 use Rattle.turbo_decode.specs.Decode.{decoded, decodeApproximateOf}
 use Rattle.setup_tables.specs.Checks.{setupChecks}
-use Rattle.turbo.specs.Estimates.{innerProductEstimateOf, innerProductEstimatePhasedOf, preparedChecks, innerProductEstimatePreparedOf}
+use Rattle.turbo_phased.specs.Estimates.{innerProductEstimateOf, innerProductEstimatePhasedOf, preparedChecks, innerProductEstimatePreparedOf}
 use Rattle.turbo.specs.Distance.{l2DistanceEstimateOf}
 use Rattle.turbo.specs.Order.{exactOf, boundFor}
 

@@ -27,7 +27,7 @@ pub fn open_record(setup: Setup, bytes: &[u8]) -> Reading
 fn hold_against(setup: Setup, bytes: &[u8]) -> Reading
     ensures { λ r. ⌜ saysReading r ≡ openedOf setup (now (bytes .entry)) ⌝ }
 {
-    match packed::read_record(bytes) {
+    match packed_reading::read_record(bytes) {
         Reading::Read(header) => {
             let other = other_match(setup, header.bits, header.projections);
             let dim = header.dim;

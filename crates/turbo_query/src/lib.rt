@@ -1,4 +1,4 @@
-// A query prepared once for many records: rotated, and projected on the rows of the matrix.
+// A query that was rotated and projected on the rows of the matrix is judged, for scoring and for preparing; and it is prepared once for many records.
 // Ported from turbo-quant/src/turbo.rs (`prepare_query`) and changed: the outputs are lent, and an error is a number and a place.
 
 use error::NON_FINITE_INPUT;
@@ -9,13 +9,11 @@ ghost use mathlib.Core.Path.{_≡_};
 ghost use lib.ListN.{length};
 ghost use Rattle.error.specs.Answer.{first, accepted, done, after};
 ghost use Rattle.error.specs.Outcomes.{says};
-ghost use Rattle.error.specs.Inner.{AtOnce};
-ghost use Rattle.setup_rotation.specs.Rotations.{rotatedBy, turnChecks};
 ghost use Rattle.setup.specs.Lent.{lent};
-ghost use Rattle.qjl_rows.specs.Inner.{Rowed};
-ghost use Rattle.rounding.specs.Rows.{projected as projectedOn};
+ghost use Rattle.setup.specs.Checks.{scalarChecks};
 ghost use Rattle.turbo_query.specs.Query.{prepareRotatedOf, prepareProjectedOf};
-ghost use Rattle.turbo_query.specs.Inner.{handedChecks, Handed, Queryable};
+ghost use Rattle.turbo_query.specs.Judging.{queryValueChecks, isClean, judgedOf};
+ghost use Rattle.turbo_query.specs.Inner.{Fitting, handedChecks, Handed};
 
 // Prepares a query: rotated into one output, projected into the other. Neither is written unless both fit.
 pub fn prepare_query(
@@ -31,30 +29,70 @@ pub fn prepare_query(
     ensures rotated { λ _. ⌜ now (rotated .exit) ≡ after (prepareRotatedOf setup (lent (now (rotation .entry)) (now (directions .entry)) (now (matrix .entry))) (now (query .entry)) (length (now (rotated .entry))) (length (now (projected .entry)))) (now (rotated .entry)) ⌝ }
     ensures projected { λ _. ⌜ now (projected .exit) ≡ after (prepareProjectedOf setup (lent (now (rotation .entry)) (now (directions .entry)) (now (matrix .entry))) (now (query .entry)) (length (now (rotated .entry))) (length (now (projected .entry)))) (now (projected .entry)) ⌝ }
 {
-    if prepare_at_once(
-        setup,
-        rotation,
-        directions,
-        matrix,
-        query,
-        rotated,
-        projected,
-    ) {
-        return Outcome::Done;
+    match setup::check_scalars(setup) {
+        Outcome::Done => prepare(
+            setup,
+            rotation,
+            directions,
+            matrix,
+            query,
+            rotated,
+            projected,
+        ),
+        Outcome::Refused { number, place } => Outcome::Refused { number, place },
     }
-    prepare_checked(
-        setup,
-        rotation,
-        directions,
-        matrix,
-        query,
-        rotated,
-        projected,
-    )
 }
 
-// Writes both outputs where nothing offends, and else answers false with neither written. A few values want no more than a few zeros.
-fn prepare_at_once(
+// What becomes of a query that `turn_query` has turned, with the answer that it gave. Where it was done and all values are finite, nothing of the query offends; else the
+// query goes check by check: its own checks, what turning it said, and the values.
+pub fn judge(
+    turned: Outcome,
+    setup: Setup,
+    rotation: &[f32],
+    directions: &[f32],
+    matrix: &[f32],
+    query: &[f32],
+    rotated: &[f32],
+    projected: &[f32],
+) -> Outcome
+    ensures { λ r. ⌜ says r ≡ judgedOf setup (lent (now (rotation .entry)) (now (directions .entry)) (now (matrix .entry))) (now (query .entry)) (says turned) (now (rotated .entry)) (now (projected .entry)) ⌝ }
+{
+    if is_clean(turned, rotated, projected) {
+        return Outcome::Done;
+    }
+    let checked = qjl::check_vector(setup, rotation, directions, matrix, query);
+    if let Outcome::Refused { number, place } = checked {
+        return Outcome::Refused { number, place };
+    }
+    if let Outcome::Refused { number, place } = turned {
+        return Outcome::Refused { number, place };
+    }
+    check_values(rotated, projected)
+}
+
+// The checks of the values, 11: of the query rotated, then of the query projected.
+pub fn check_values(rotated: &[f32], projected: &[f32]) -> Outcome
+    ensures { λ r. ⌜ says r ≡ first (queryValueChecks (now (rotated .entry)) (now (projected .entry))) accepted ⌝ }
+{
+    let rotated_place = error::first_non_finite(rotated);
+    if rotated_place < rotated.len() {
+        return Outcome::Refused {
+            number: NON_FINITE_INPUT,
+            place: rotated_place,
+        };
+    }
+    let projected_place = error::first_non_finite(projected);
+    if projected_place < projected.len() {
+        return Outcome::Refused {
+            number: NON_FINITE_INPUT,
+            place: projected_place,
+        };
+    }
+    Outcome::Done
+}
+
+// What `prepare_query` answers under a setup whose scalars have passed: the query is turned in room of the setup's size.
+fn prepare(
     setup: Setup,
     rotation: &[f32],
     directions: &[f32],
@@ -62,37 +100,31 @@ fn prepare_at_once(
     query: &[f32],
     rotated: &mut [f32],
     projected: &mut [f32],
-) -> bool
-    ensures rotated { λ r. ⌜ AtOnce (prepareRotatedOf setup (lent (now (rotation .entry)) (now (directions .entry)) (now (matrix .entry))) (now (query .entry)) (length (now (rotated .entry))) (length (now (projected .entry)))) (now (rotated .entry)) r (now (rotated .exit)) ⌝ }
-    ensures projected { λ r. ⌜ AtOnce (prepareProjectedOf setup (lent (now (rotation .entry)) (now (directions .entry)) (now (matrix .entry))) (now (query .entry)) (length (now (rotated .entry))) (length (now (projected .entry)))) (now (projected .entry)) r (now (projected .exit)) ⌝ }
+) -> Outcome
+    requires { ⌜ first (scalarChecks setup) accepted ≡ accepted ⌝ }
+    ensures said { λ r. ⌜ says r ≡ done (prepareRotatedOf setup (lent (now (rotation .entry)) (now (directions .entry)) (now (matrix .entry))) (now (query .entry)) (length (now (rotated .entry))) (length (now (projected .entry)))) ⌝ }
+    ensures rotated { λ _. ⌜ now (rotated .exit) ≡ after (prepareRotatedOf setup (lent (now (rotation .entry)) (now (directions .entry)) (now (matrix .entry))) (now (query .entry)) (length (now (rotated .entry))) (length (now (projected .entry)))) (now (rotated .entry)) ⌝ }
+    ensures projected { λ _. ⌜ now (projected .exit) ≡ after (prepareProjectedOf setup (lent (now (rotation .entry)) (now (directions .entry)) (now (matrix .entry))) (now (query .entry)) (length (now (rotated .entry))) (length (now (projected .entry)))) (now (projected .entry)) ⌝ }
 {
-    let dim = rotated.len();
-    let rows = projected.len();
-    if 4096 < dim {
-        return false;
+    let dim = setup.dim;
+    let rows = setup::counted_projections(setup);
+    if 256 < dim || 256 < rows {
+        let mut turned = zeros();
+        let mut sums = zeros();
+        return prepare_within(
+            setup,
+            rotation,
+            directions,
+            matrix,
+            query,
+            &mut turned[0..dim],
+            &mut sums[0..rows],
+            rotated,
+            projected,
+        );
     }
-    if 4096 < rows {
-        return false;
-    }
-    if dim <= 256 {
-        if rows <= 256 {
-            let mut turned = few_zeros();
-            let mut sums = few_zeros();
-            return prepare_within(
-                setup,
-                rotation,
-                directions,
-                matrix,
-                query,
-                &mut turned[0..dim],
-                &mut sums[0..rows],
-                rotated,
-                projected,
-            );
-        }
-    }
-    let mut turned = zeros();
-    let mut sums = zeros();
+    let mut turned = few_zeros();
+    let mut sums = few_zeros();
     prepare_within(
         setup,
         rotation,
@@ -106,8 +138,7 @@ fn prepare_at_once(
     )
 }
 
-// Writes both outputs where nothing offends, by way of memory of the same lengths, and else answers false with neither written. Finite values have come of a finite
-// query and matrix only, so neither needs a pass of its own.
+// The same, with room of just their lengths for the query rotated and projected, which is handed over where no check of the query offends.
 fn prepare_within(
     setup: Setup,
     rotation: &[f32],
@@ -118,97 +149,34 @@ fn prepare_within(
     sums: &mut [f32],
     rotated: &mut [f32],
     projected: &mut [f32],
-) -> bool
-    requires { ⌜ (length (now turned) ≡ length (now rotated)) × (length (now sums) ≡ length (now projected)) ⌝ }
-    ensures rotated { λ r. ⌜ AtOnce (prepareRotatedOf setup (lent (now (rotation .entry)) (now (directions .entry)) (now (matrix .entry))) (now (query .entry)) (length (now (rotated .entry))) (length (now (projected .entry)))) (now (rotated .entry)) r (now (rotated .exit)) ⌝ }
-    ensures projected { λ r. ⌜ AtOnce (prepareProjectedOf setup (lent (now (rotation .entry)) (now (directions .entry)) (now (matrix .entry))) (now (query .entry)) (length (now (rotated .entry))) (length (now (projected .entry)))) (now (projected .entry)) r (now (projected .exit)) ⌝ }
-{
-    let written = turbo_turn::turn_query(setup, rotation, directions, matrix, query, turned, sums);
-    if let Outcome::Refused { number, place } = written {
-        return false;
-    }
-    if !error::all_finite(turned) {
-        return false;
-    }
-    if !error::all_finite(sums) {
-        return false;
-    }
-    float::copy_into(turned, rotated);
-    float::copy_into(sums, projected);
-    true
-}
-
-// Writes both outputs, or refuses, check by check: the checks of the projection matrix's entries come before those of the query.
-fn prepare_checked(
-    setup: Setup,
-    rotation: &[f32],
-    directions: &[f32],
-    matrix: &[f32],
-    query: &[f32],
-    rotated: &mut [f32],
-    projected: &mut [f32],
 ) -> Outcome
+    requires { ⌜ Fitting setup (length (now turned)) (length (now sums)) ⌝ }
     ensures said { λ r. ⌜ says r ≡ done (prepareRotatedOf setup (lent (now (rotation .entry)) (now (directions .entry)) (now (matrix .entry))) (now (query .entry)) (length (now (rotated .entry))) (length (now (projected .entry)))) ⌝ }
     ensures rotated { λ _. ⌜ now (rotated .exit) ≡ after (prepareRotatedOf setup (lent (now (rotation .entry)) (now (directions .entry)) (now (matrix .entry))) (now (query .entry)) (length (now (rotated .entry))) (length (now (projected .entry)))) (now (rotated .entry)) ⌝ }
     ensures projected { λ _. ⌜ now (projected .exit) ≡ after (prepareProjectedOf setup (lent (now (rotation .entry)) (now (directions .entry)) (now (matrix .entry))) (now (query .entry)) (length (now (rotated .entry))) (length (now (projected .entry)))) (now (projected .entry)) ⌝ }
 {
-    let checked = qjl::check_vector(setup, rotation, directions, matrix, query);
-    if let Outcome::Refused { number, place } = checked {
-        return Outcome::Refused { number, place };
-    }
-    let rows = setup::counted_projections(setup);
-    prepare(setup, rows, rotation, matrix, query, rotated, projected)
-}
-
-// Prepares a query of the right length under tables of the right lengths: it is rotated and projected in memory of its own, then handed over.
-fn prepare(
-    setup: Setup,
-    rows: usize,
-    rotation: &[f32],
-    matrix: &[f32],
-    query: &[f32],
-    out: &mut [f32],
-    other: &mut [f32],
-) -> Outcome
-    requires { ⌜ Queryable setup rows (now rotation) (now matrix) (now query) ⌝ }
-    ensures { λ r. ⌜ Handed (setup .dim) rows (rotatedBy setup (now (rotation .entry)) (now (query .entry))) (projectedOn (setup .dim) rows (now (matrix .entry)) (now (query .entry))) (now (out .entry)) (now (other .entry)) (says r) (now (out .exit)) (now (other .exit)) ⌝ }
-{
-    let dim = setup.dim;
-    let mut rotated = zeros();
-    let mut projected = zeros();
-    fill_query(
+    let told = turbo_turn::turn_query(setup, rotation, directions, matrix, query, turned, sums);
+    let judged = judge(
+        told,
         setup,
         rotation,
+        directions,
         matrix,
         query,
-        &mut rotated[0..dim],
-        &mut projected[0..rows],
+        turned,
+        sums,
     );
-    hand_over(&rotated[0..dim], &projected[0..rows], out, other)
+    if let Outcome::Refused { number, place } = judged {
+        return Outcome::Refused { number, place };
+    }
+    hand_over(turned, sums, rotated, projected)
 }
 
-// Writes the query rotated, and the query projected, each into an output of just its length.
-fn fill_query(
-    setup: Setup,
-    rotation: &[f32],
-    matrix: &[f32],
-    query: &[f32],
-    rotated: &mut [f32],
-    projected: &mut [f32],
-)
-    requires { ⌜ (first (turnChecks setup (now rotation) (length (now query)) (length (now rotated))) accepted ≡ accepted) × Rowed (setup .dim) (now matrix) (now query) (length (now projected)) ⌝ }
-    ensures { λ _. ⌜ now (rotated .exit) ≡ rotatedBy setup (now (rotation .entry)) (now (query .entry)) ⌝ }
-    ensures { λ _. ⌜ now (projected .exit) ≡ projectedOn (setup .dim) (length (now (projected .entry))) (now (matrix .entry)) (now (query .entry)) ⌝ }
-{
-    setup_rotation::rotate(setup, rotation, query, rotated);
-    qjl_rows::project(setup.dim, matrix, query, projected);
-}
-
-// Copies the rotated query to the one output and the projected query to the other, unless a value or a length is refused.
+// Copies the rotated query to the one output and the projected query to the other, unless a length is refused.
 fn hand_over(rotated: &[f32], projected: &[f32], out: &mut [f32], other: &mut [f32]) -> Outcome
     ensures { λ r. ⌜ Handed (length (now (rotated .entry))) (length (now (projected .entry))) (now (rotated .entry)) (now (projected .entry)) (now (out .entry)) (now (other .entry)) (says r) (now (out .exit)) (now (other .exit)) ⌝ }
 {
-    let checked = check_handed(rotated, projected, out.len(), other.len());
+    let checked = check_rooms(rotated.len(), projected.len(), out.len(), other.len());
     if let Outcome::Refused { number, place } = checked {
         return Outcome::Refused { number, place };
     }
@@ -217,37 +185,38 @@ fn hand_over(rotated: &[f32], projected: &[f32], out: &mut [f32], other: &mut [f
     Outcome::Done
 }
 
-// The checks of the rotated and the projected query, then of the outputs' lengths.
-fn check_handed(rotated: &[f32], projected: &[f32], room: usize, space: usize) -> Outcome
-    ensures { λ r. ⌜ says r ≡ first (handedChecks (length (now (rotated .entry))) (length (now (projected .entry))) (now (rotated .entry)) (now (projected .entry)) room space) accepted ⌝ }
+// The checks of the lengths of two outputs, `room` and `space`, to which n and m values are to be copied.
+fn check_rooms(n: usize, m: usize, room: usize, space: usize) -> Outcome
+    ensures { λ r. ⌜ says r ≡ first (handedChecks n m room space) accepted ⌝ }
 {
-    let bad = error::first_non_finite(rotated);
-    if bad < rotated.len() {
-        return Outcome::Refused {
-            number: NON_FINITE_INPUT,
-            place: bad,
-        };
-    }
-    let stray = error::first_non_finite(projected);
-    if stray < projected.len() {
-        return Outcome::Refused {
-            number: NON_FINITE_INPUT,
-            place: stray,
-        };
-    }
-    if room != rotated.len() {
+    if room != n {
         return Outcome::Refused {
             number: OUTPUT_LENGTH,
-            place: rotated.len(),
+            place: n,
         };
     }
-    if space != projected.len() {
+    if space != m {
         return Outcome::Refused {
             number: OUTPUT_LENGTH,
-            place: projected.len(),
+            place: m,
         };
     }
     Outcome::Done
+}
+
+// Whether a call was done and all values of both lists are finite.
+fn is_clean(outcome: Outcome, rotated: &[f32], projected: &[f32]) -> bool
+    ensures { λ r. ⌜ r ≡ isClean (says outcome) (now (rotated .entry)) (now (projected .entry)) ⌝ }
+{
+    match outcome {
+        Outcome::Done => {
+            if !error::all_finite(rotated) {
+                return false;
+            }
+            error::all_finite(projected)
+        }
+        Outcome::Refused { number, place } => false,
+    }
 }
 
 // Room for the rotated query, or for its projections: at most 4,096 values.

@@ -57,7 +57,7 @@ fn score_at_once(
 ) -> PayloadSum
     ensures { λ r. ⌜ Answered r (recordScoreOf setup (now (directions .entry)) (now (rotated .entry)) (now (projected .entry)) (now (bytes .entry))) ⌝ }
 {
-    match packed::peek_record(bytes) {
+    match packed_reading::peek_record(bytes) {
         Reading::Read(header) => {
             let other = turbo_opening::other_match(setup, header.bits, header.projections);
             let dim = header.dim;

@@ -23,7 +23,7 @@ use Rattle.setup_tables.proofs.Accepted.{but-entries-rest}
 use Rattle.rotation.specs.Checks.{rotationChecks}
 use Rattle.rotation_stored.specs.Checks.{storedChecks}
 use Rattle.setup_rotation.specs.Rotations.{rotatedBy, turnChecks, rotateOf}
-use Rattle.setup_rotation.proofs.Rotations.{rotate-value, length-rotated-by}
+use Rattle.setup_rotation.proofs.Rotations.{rotate-value}
 use Rattle.rounding.specs.Rows.{projected}
 use Rattle.qjl_rows.specs.Projection.{projectOf}
 use Rattle.qjl_rows.proofs.Answers.{project-ready}
@@ -136,12 +136,6 @@ module _ (s : Setup) (l : Lent) (query : List Float) (room space : ℕ) where
 
     pub turned-long : length query ≡ s .dim
     turned-long = turnable .input-long
-
-    pub turned-rooms : (room ≡ s .dim) × (space ≡ countedProjectionsOf s)
-    turned-rooms = (turnable .output-long, space-matrix s (l .directions) (length (l .matrix)) space spaced .1)
-
-    pub turned-length : length (rotatedBy s (l .rotation) query) ≡ s .dim
-    turned-length = length-rotated-by s (l .rotation) query (turnable .input-long) (turnable .entries-long)
 
     -- all checks of the setup pass but those of the projection matrix's entries
     pub turned-setup : first (setupChecksButEntries s l) accepted ≡ accepted

@@ -1,5 +1,5 @@
--- A query is rotated and projected under a setup, and no value is judged: these are the checks of that, and what the call answers. Other crates' private functions need
--- it; no promise of document 01 is stated by it. Assumes nothing.
+-- A query is rotated and projected under a setup, and no value is judged: these are the checks of that, and what the call answers. Preparing and scoring
+-- share it; no promise of document 01 is stated by it. Assumes nothing.
 use Prim.Native.Nat.{ℕ}
 use mathlib.Core.List.{List, [], _∷_, _++_}
 use lib.ListN.{length}

@@ -25,27 +25,27 @@ fn main() {
 fn packing() {
     let p1 = [1u16, 2, 3];
     let mut one = [0u8; 1];
-    show::bytes(bitpack::pack_indices(&p1, 2, &mut one), &one);
+    show::bytes(bitpack_writing::pack_indices(&p1, 2, &mut one), &one);
     let p2 = [0x79u8];
     let mut three = [0u16; 3];
-    show::bytes(bitpack::unpack_indices(&p2, 3, 2, &mut three), &p2);
+    show::bytes(bitpack_reading::unpack_indices(&p2, 3, 2, &mut three), &p2);
 }
 
 // P3 and P4.
 fn wider() {
     let p3 = [5u16, 2];
     let mut one = [0u8; 1];
-    show::bytes(bitpack::pack_indices(&p3, 3, &mut one), &one);
+    show::bytes(bitpack_writing::pack_indices(&p3, 3, &mut one), &one);
     let p4 = [256u16, 1];
     let mut wide = [0u8; 3];
-    show::bytes(bitpack::pack_indices(&p4, 9, &mut wide), &wide);
+    show::bytes(bitpack_writing::pack_indices(&p4, 9, &mut wide), &wide);
 }
 
 // P7, and the lengths of 2^60 indices and of one fewer.
 fn lengths() {
     let p7 = [0u16; 0];
     let mut none = [0u8; 0];
-    show::bytes(bitpack::pack_indices(&p7, 2, &mut none), &none);
+    show::bytes(bitpack_writing::pack_indices(&p7, 2, &mut none), &none);
     show::length(bitpack::packed_len(1152921504606846976, 16));
     show::length(bitpack::packed_len(1152921504606846975, 16));
 }
@@ -54,10 +54,10 @@ fn lengths() {
 fn signs() {
     let p5 = [1i8, -1, 1];
     let mut one = [0u8; 1];
-    show::bytes(bitpack_signs::pack_signs(&p5, &mut one), &one);
+    show::bytes(bitpack_signs_writing::pack_signs(&p5, &mut one), &one);
     let p6 = [0x0Du8];
     let mut three = [0i8; 3];
-    show::bytes(bitpack_signs::unpack_signs(&p6, 3, &mut three), &p6);
+    show::bytes(bitpack_signs_reading::unpack_signs(&p6, 3, &mut three), &p6);
 }
 
 // P8 to P10.
@@ -135,7 +135,7 @@ fn record(signs: &[i8], made: &mut [u8], back: &mut [i8]) {
 
 // What a record's header says: dimension, bits, projections, and where radii, indices and signs start and the record ends.
 fn header(made: &[u8]) {
-    match packed::read_record(made) {
+    match packed_reading::read_record(made) {
         Reading::Read(found) => {
             let told = [
                 found.dim,

@@ -10,7 +10,7 @@ use borrow.Author.Needs.{scaled-fits}
 use borrow.Author.Tests.{lt-ltb}
 use Rattle.error.specs.Checks.{badIndex}
 use Rattle.error.proofs.Sweep.{Swept, swept-start, swept-end}
-use Rattle.bitpack.proofs.Lengths.{power-shifted}
+use Rattle.digits.proofs.Masks.{power-shifted}
 use Rattle.bitpack.proofs.Merged.{merged-turn}
 use Rattle.bitpack.proofs.all_small.Statement.{statement}
 use Rattle.bitpack.proofs.all_small.Tie as tie

@@ -9,7 +9,7 @@ use borrow.Author.Tests.{le-leb, lt-leb}
 use Rattle.error.specs.Answer.{place}
 use Rattle.error.proofs.Places.{place-start, place-skip, place-here, place-end}
 use Rattle.error.specs.Checks.{badIndex}
-use Rattle.bitpack.proofs.Lengths.{power-shifted}
+use Rattle.digits.proofs.Masks.{power-shifted}
 use Rattle.bitpack.proofs.find_large.Statement.{statement}
 use Rattle.bitpack.proofs.find_large.Tie as tie
 

@@ -1,4 +1,4 @@
--- `signs::all_signs` meets its contract, by the laws of `Sweep`. Assumes nothing.
+-- `bitpack_signs::all_signs` meets its contract, by the laws of `Sweep`. Assumes nothing.
 use Prim.Native.Nat.{ℕ, _-_}
 use mathlib.Core.Path.{_≡_, refl, sym, ap, _∙_}
 use mathlib.Core.Bool.{Bool, true, false, cond}

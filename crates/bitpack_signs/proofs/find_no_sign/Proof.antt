@@ -1,4 +1,4 @@
--- `signs::find_no_sign` meets its contract: the loop keeps that the place is i and the place in the rest. Assumes nothing.
+-- `bitpack_signs::find_no_sign` meets its contract: the loop keeps that the place is i and the place in the rest. Assumes nothing.
 use Prim.Native.Nat.{_+_, _-_, _≤_}
 use mathlib.Core.Path.{_≡_, sym, ap, _∙_}
 use native.Mathlib.Omega.{arith}

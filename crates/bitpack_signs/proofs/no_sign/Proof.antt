@@ -1,4 +1,4 @@
--- `signs::no_sign` meets its contract: both tests go by the byte of the sign. Assumes nothing.
+-- `bitpack_signs::no_sign` meets its contract: both tests go by the byte of the sign. Assumes nothing.
 use mathlib.Core.Path.{refl}
 use Rattle.bitpack_signs.proofs.Signs.{plus-is, plus-is-not, minus-bits}
 use Rattle.bitpack_signs.proofs.no_sign.Statement.{statement}

@@ -1,4 +1,4 @@
--- `writing::check_lengths` meets its contract. Assumes nothing.
+-- `packed_writing::check_lengths` meets its contract. Assumes nothing.
 use borrow.Author.Tests.{eq-eqb, ne-eqb}
 use Rattle.packed_writing.proofs.check_lengths.Statement.{statement}
 use Rattle.packed_writing.proofs.check_lengths.Tie as tie

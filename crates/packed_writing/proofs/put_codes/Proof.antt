@@ -1,4 +1,4 @@
--- `writing::put_codes` meets its contract: two parts of the memory, one behind the other. Assumes nothing.
+-- `packed_writing::put_codes` meets its contract: two parts of the memory, one behind the other. Assumes nothing.
 use Prim.Native.Nat.{ℕ, _+_, _*_, _/_}
 use mathlib.Core.Path.{ap, _∙_}
 use mathlib.Core.List.{List, _++_}

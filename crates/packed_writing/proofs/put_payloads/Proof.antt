@@ -1,4 +1,4 @@
--- `writing::put_payloads` meets its contract: two parts of the memory, one behind the other. Assumes nothing.
+-- `packed_writing::put_payloads` meets its contract: two parts of the memory, one behind the other. Assumes nothing.
 use Prim.Native.Nat.{ℕ, _+_, _*_}
 use mathlib.Core.Path.{_≡_, sym, ap, _∙_, subst}
 use mathlib.Core.List.{List, _++_}

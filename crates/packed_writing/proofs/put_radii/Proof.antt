@@ -1,4 +1,4 @@
--- `writing::put_radii` meets its contract: compressing answers a value. Assumes nothing.
+-- `packed_writing::put_radii` meets its contract: compressing answers a value. Assumes nothing.
 use Prim.Native.Nat.{ℕ}
 use mathlib.Core.Path.{_≡_, sym, ap, _∙_}
 use mathlib.Core.List.{List}

@@ -3,7 +3,7 @@ use borrow.Author.Needs.{needs}
 use native.Mathlib.Nat.{mod-lt}
 use native.Mathlib.Omega.{arith}
 use lib.Pow.{pow-pos}
-use Rattle.bitpack.proofs.Lengths.{power-shifted, masked}
+use Rattle.digits.proofs.Masks.{power-shifted, masked}
 use Rattle.polar_blocks.proofs.lowest.Statement.{statement}
 use Rattle.polar_blocks.proofs.lowest.Tie as tie
 

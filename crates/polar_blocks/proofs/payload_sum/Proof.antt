@@ -6,7 +6,7 @@ use mathlib.Core.Bool.{true}
 use native.Mathlib.Omega.{arith}
 use borrow.Author.Tests.{not-true, not-false, le-leb, lt-leb}
 use lib.ListN.{length}
-use Rattle.bitpack.proofs.Lengths.{power-shifted}
+use Rattle.digits.proofs.Masks.{power-shifted}
 use Rattle.polar_blocks.specs.Payload.{fitsPayload, payloadSumOf}
 use Rattle.polar_blocks.proofs.Blocks.{fits-told}
 use Rattle.polar_blocks.proofs.payload_sum.Statement.{statement}

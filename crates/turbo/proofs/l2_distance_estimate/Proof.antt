@@ -8,7 +8,7 @@ use Rattle.error.specs.Outcomes.{saysScore}
 use Rattle.setup.specs.Lent.{lent}
 use Rattle.packed.proofs.Payloads.{length-radiiOf}
 use Rattle.turbo_opening.proofs.Answers.{opened-read}
-use Rattle.turbo.specs.Estimates.{innerProductEstimateOf}
+use Rattle.turbo_phased.specs.Estimates.{innerProductEstimateOf}
 use Rattle.turbo.proofs.Answers.{distance-refused, distance-withdrawn, distance-scored}
 use Rattle.turbo.proofs.Demand.{scored-open, scored-pairs}
 use Rattle.turbo.proofs.l2_distance_estimate.Statement.{statement}

@@ -1,8 +1,8 @@
 -- `turbo::without_phase` meets its contract: a score keeps its value, a refusal its number and place, and a withdrawn position stays one. Assumes nothing.
 use mathlib.Core.Path.{sym, ap}
 use borrow.Author.Needs.{needs}
-use Rattle.turbo.specs.declared.Phased.{Phased}
-use Rattle.turbo.specs.Estimates.{saysPhased}
+use Rattle.turbo_phased.specs.declared.Phased.{Phased}
+use Rattle.turbo_phased.specs.Estimates.{saysPhased}
 use Rattle.turbo.specs.Inner.{joined}
 use Rattle.turbo.proofs.without_phase.Statement.{statement}
 use Rattle.turbo.proofs.without_phase.Tie as tie

@@ -6,14 +6,14 @@ use Rattle.turbo_query.proofs.Answers.{handed-refused, handed-copied}
 use Rattle.turbo_query.proofs.hand_over.Statement.{statement}
 use Rattle.turbo_query.proofs.hand_over.Tie as tie
 
-check-handed-requires : tie.Need-check-handed-requires
-check-handed-requires c κs = search needs
+check-rooms-requires : tie.Need-check-rooms-requires
+check-rooms-requires c κs = search needs
 
 enum-known-checked : tie.Need-enum-known-checked
 enum-known-checked c = search needs
 
 returns : tie.Need-returns
-returns c = handed-refused _ _ _ _ _ _ (sym (c .before .before .before .check-handed .ensures) ∙ ap says (c .before .checked .given .1))
+returns c = handed-refused _ _ _ _ _ _ (sym (c .before .before .before .check-rooms .ensures) ∙ ap says (c .before .checked .given .1))
 
 enum-told : tie.Need-enum-told
 enum-told c = search needs
@@ -35,13 +35,13 @@ returns-2 c =
     let second = c .before .before in
     let top = second .before .before .before .before in
     let told = top .before .before in
-    handed-copied _ _ _ _ (sym (told .before .before .check-handed .ensures) ∙ ap says (told .enum-told .given .1)) (top .copy-into .ensures) (second .copy-into2 .ensures)
+    handed-copied _ _ _ _ (sym (told .before .before .check-rooms .ensures) ∙ ap says (told .enum-told .given .1)) (top .copy-into .ensures) (second .copy-into2 .ensures)
 
 pub hand-over-spec : {M : Type 1} → statement M
 hand-over-spec =
     tie.close
     (tie.spec
-    check-handed-requires
+    check-rooms-requires
     enum-known-checked
     returns
     enum-told

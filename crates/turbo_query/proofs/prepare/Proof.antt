@@ -1,24 +1,31 @@
--- `turbo_query::prepare` meets its contract: the parts of the two arrays that `fill_query` wrote are the parts that are handed over. Assumes nothing.
-use Prim.Native.Nat.{ℕ, _-_, _*_, _≤_}
-use mathlib.Core.Path.{_≡_, sym, ap, _∙_, subst}
+-- `turbo_query::prepare` meets its contract: either pair of arrays has room for the query. Assumes nothing.
+use Prim.Native.Nat.{_≤_}
+use mathlib.Core.Path.{_∙_}
 use native.Mathlib.Omega.{arith}
-use borrow.Author.Needs.{needs}
-use borrow.Rule.Slice.PartMut.{postOf}
+use borrow.Author.Tests.{ltb-false}
 use lib.ListN.{length}
-use Rattle.lists.proofs.Parts.{part-long, part-read, part-again, part-enough, part-filled}
-use Rattle.error.specs.Answer.{first, accepted}
-use Rattle.setup_rotation.specs.Rotations.{turnChecks}
-use Rattle.rounding.specs.Rows.{projected}
-use Rattle.turbo_query.proofs.Answers.{handed-same}
+use Rattle.lists.proofs.Parts.{part-long}
+use Rattle.setup.proofs.Scalars.{scalars-usable}
+use borrow.Author.Needs.{needs}
 use Rattle.turbo_query.proofs.prepare.Statement.{statement}
 use Rattle.turbo_query.proofs.prepare.Tie as tie
 
--- both arrays have room
-rotated-fits : (c : tie.After-zeros2) → c .before .before .before .before .before .before .before .args .setup .dim ≤ length (c .before .zeros .result)
-rotated-fits c = omega (arith, c .before .before .before .before .before .before .before .pre .small, c .before .zeros .ok)
+-- the larger arrays have room for all
+room : (c : tie.After-zeros2) → c .before .before .before .before .before .before .before .before .before .before .args .setup .dim ≤ length (c .before .zeros .result)
+room c = let start = c .before .before .before .before .before .before .before .before .before .before in let most = scalars-usable (start .args .setup) (start .pre) .most in omega (arith, most, c .before .zeros .ok)
 
-projected-fits : (c : tie.After-zeros2) → c .before .before .before .before .before .before .before .args .rows ≤ length (c .zeros2 .result)
-projected-fits c = omega (arith, c .before .before .before .before .before .before .before .pre .few, c .zeros2 .ok)
+space : (c : tie.After-zeros2) → c .before .before .before .counted-projections .result ≤ length (c .zeros2 .result)
+space c = let start = c .before .before .before .before .before .before .before .before .before .before in let most = scalars-usable (start .args .setup) (start .pre) .most-projections in omega (arith, most, c .before .before .before .counted-projections .ensures, c .zeros2 .ok)
+
+-- the smaller ones for few
+few-room : (c : tie.After-few-zeros2) → c .before .before .before .before .before .before .before .before .before .before .before .args .setup .dim ≤ length (c .before .few-zeros .result)
+few-room c = omega (arith, c .before .before .before .if1 .left, c .before .few-zeros .ok)
+
+few-space : (c : tie.After-few-zeros2) → c .before .before .before .before .counted-projections .result ≤ length (c .few-zeros2 .result)
+few-space c = omega (arith, ltb-false 256 (c .before .before .before .before .counted-projections .result) (c .before .before .if2 .left), c .few-zeros2 .ok)
+
+counted-projections-requires : tie.Need-counted-projections-requires
+counted-projections-requires c κs = search needs
 
 zeros-requires : tie.Need-zeros-requires
 zeros-requires c κs = search needs
@@ -26,61 +33,29 @@ zeros-requires c κs = search needs
 zeros-requires-2 : tie.Need-zeros-requires-2
 zeros-requires-2 c κs = search needs
 
-sub-fill-query : tie.Need-sub-fill-query
-sub-fill-query c = search needs
+sub-prepare-within : tie.Need-sub-prepare-within
+sub-prepare-within c = search needs
 
-part-rotated-start : tie.Need-part-rotated-start
-part-rotated-start c = search needs
+part-turned-start : tie.Need-part-turned-start
+part-turned-start c = search needs
 
-part-rotated-end : tie.Need-part-rotated-end
-part-rotated-end c = search needs
+part-turned-end : tie.Need-part-turned-end
+part-turned-end c = room c
 
-sub-fill-query-2 : tie.Need-sub-fill-query-2
-sub-fill-query-2 c = search needs
+sub-prepare-within-2 : tie.Need-sub-prepare-within-2
+sub-prepare-within-2 c = search needs
 
-part-projected-start : tie.Need-part-projected-start
-part-projected-start c = search needs
+part-sums-start : tie.Need-part-sums-start
+part-sums-start c = search needs
 
-part-projected-end : tie.Need-part-projected-end
-part-projected-end c = search needs
+part-sums-end : tie.Need-part-sums-end
+part-sums-end c = space (c .before)
 
-fill-query-requires : tie.Need-fill-query-requires
-fill-query-requires c κs =
-    let z = c .before .before in
-    let s = z .before .before .before .before .before .before .before in
-    let a = s .args in (
-      subst (λ (k : ℕ). first (turnChecks (a .setup) (a .rotation .now) (length (a .query .now)) k) accepted ≡ accepted) (sym (part-long _ _ (rotated-fits z))) (s .pre .turnable),
-      record { query-long = s .pre .rowed .query-long; matrix-long = s .pre .rowed .matrix-long ∙ ap (λ (k : ℕ). k * a .setup .dim) (sym (part-long _ _ (projected-fits z))) },
-    )
-
-sub-hand-over : tie.Need-sub-hand-over
-sub-hand-over c = search needs
-
-part-hand-over-start : tie.Need-part-hand-over-start
-part-hand-over-start c = search needs
-
-part-hand-over-end : tie.Need-part-hand-over-end
-part-hand-over-end c =
-    let f = c .before .before .before in
-    let z = f .before .before .before in
-    let a = z .before .before .before .before .before .before .before .args in
-    part-enough (a .setup .dim) (z .before .zeros .result) (rotated-fits z) (f .fill-query .last .1 .1 .1 .1 .0) (postOf 0 (a .setup .dim - 0) (z .before .zeros .result)) (f .fill-query .kept .1 .1 .1 .1 .0)
-
-sub-hand-over-2 : tie.Need-sub-hand-over-2
-sub-hand-over-2 c = search needs
-
-part-hand-over-start-2 : tie.Need-part-hand-over-start-2
-part-hand-over-start-2 c = search needs
-
-part-hand-over-end-2 : tie.Need-part-hand-over-end-2
-part-hand-over-end-2 c =
-    let f = c .before .before .before .before .before in
-    let z = f .before .before .before in
-    let a = z .before .before .before .before .before .before .before .args in
-    part-enough (a .rows) (z .zeros2 .result) (projected-fits z) (f .fill-query .last .1 .1 .1 .1 .1 .0) (postOf 0 (a .rows - 0) (z .zeros2 .result)) (f .fill-query .kept .1 .1 .1 .1 .1 .0)
-
-hand-over-requires : tie.Need-hand-over-requires
-hand-over-requires c κs = search needs
+prepare-within-requires : tie.Need-prepare-within-requires
+prepare-within-requires c κs =
+    let z = c .before .before .before .before in
+    let a = z .before .before .before .before .before .before .before .before .before .before .args in
+    record { rotated-room = part-long (a .setup .dim) (z .before .zeros .result) (room z); projected-room = part-long (z .before .before .before .counted-projections .result) (z .zeros2 .result) (space z) ∙ z .before .before .before .counted-projections .ensures }
 
 same-length : tie.Need-same-length
 same-length c = search needs
@@ -89,42 +64,73 @@ same-length-2 : tie.Need-same-length-2
 same-length-2 c = search needs
 
 returns : tie.Need-returns
-returns c =
-    let h = c .before .before .before .before in
-    let f = h .before .before .before .before .before .before .before .before .before in
-    let z = f .before .before .before in
-    let a = z .before .before .before .before .before .before .before .args in
-    let xs = z .before .zeros .result in
-    let ys = f .fill-query .last .1 .1 .1 .1 .0 in
-    let us = z .zeros2 .result in
-    let vs = f .fill-query .last .1 .1 .1 .1 .1 .0 in
-    handed-same
-    (part-again (a .setup .dim) xs (rotated-fits z) ys (postOf 0 (a .setup .dim - 0) xs) (f .fill-query .kept .1 .1 .1 .1 .0))
-    (part-again (a .rows) us (projected-fits z) vs (postOf 0 (a .rows - 0) us) (f .fill-query .kept .1 .1 .1 .1 .1 .0))
-    (part-read (a .setup .dim) xs (rotated-fits z) ys (postOf 0 (a .setup .dim - 0) xs) (f .fill-query .kept .1 .1 .1 .1 .0) ∙ f .fill-query .ensures .0)
-    (part-filled (a .rows) us (projected-fits z) vs (postOf 0 (a .rows - 0) us) (f .fill-query .kept .1 .1 .1 .1 .1 .0) (λ (k : ℕ). projected (a .setup .dim) k (a .matrix .now) (a .query .now)) (f .fill-query .ensures .1))
-    (h .hand-over .ensures)
+returns c = search needs
+
+few-zeros-requires : tie.Need-few-zeros-requires
+few-zeros-requires c κs = search needs
+
+few-zeros-requires-2 : tie.Need-few-zeros-requires-2
+few-zeros-requires-2 c κs = search needs
+
+sub-prepare-within-3 : tie.Need-sub-prepare-within-3
+sub-prepare-within-3 c = search needs
+
+part-turned-start-2 : tie.Need-part-turned-start-2
+part-turned-start-2 c = search needs
+
+part-turned-end-2 : tie.Need-part-turned-end-2
+part-turned-end-2 c = few-room c
+
+sub-prepare-within-4 : tie.Need-sub-prepare-within-4
+sub-prepare-within-4 c = search needs
+
+part-sums-start-2 : tie.Need-part-sums-start-2
+part-sums-start-2 c = search needs
+
+part-sums-end-2 : tie.Need-part-sums-end-2
+part-sums-end-2 c = few-space (c .before)
+
+prepare-within-requires-2 : tie.Need-prepare-within-requires-2
+prepare-within-requires-2 c κs =
+    let z = c .before .before .before .before in
+    let a = z .before .before .before .before .before .before .before .before .before .before .before .args in
+    record { rotated-room = part-long (a .setup .dim) (z .before .few-zeros .result) (few-room z); projected-room = part-long (z .before .before .before .before .counted-projections .result) (z .few-zeros2 .result) (few-space z) ∙ z .before .before .before .before .counted-projections .ensures }
+
+same-length-3 : tie.Need-same-length-3
+same-length-3 c = search needs
+
+same-length-4 : tie.Need-same-length-4
+same-length-4 c = search needs
+
+returns-2 : tie.Need-returns-2
+returns-2 c = search needs
 
 pub prepare-spec : {M : Type 1} → statement M
 prepare-spec =
     tie.close
     (tie.spec
+    counted-projections-requires
     zeros-requires
     zeros-requires-2
-    sub-fill-query
-    part-rotated-start
-    part-rotated-end
-    sub-fill-query-2
-    part-projected-start
-    part-projected-end
-    fill-query-requires
-    sub-hand-over
-    part-hand-over-start
-    part-hand-over-end
-    sub-hand-over-2
-    part-hand-over-start-2
-    part-hand-over-end-2
-    hand-over-requires
+    sub-prepare-within
+    part-turned-start
+    part-turned-end
+    sub-prepare-within-2
+    part-sums-start
+    part-sums-end
+    prepare-within-requires
     same-length
     same-length-2
-    returns)
+    returns
+    few-zeros-requires
+    few-zeros-requires-2
+    sub-prepare-within-3
+    part-turned-start-2
+    part-turned-end-2
+    sub-prepare-within-4
+    part-sums-start-2
+    part-sums-end-2
+    prepare-within-requires-2
+    same-length-3
+    same-length-4
+    returns-2)

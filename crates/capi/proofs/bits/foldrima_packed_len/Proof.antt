@@ -1,6 +1,6 @@
 -- `capi::bits::foldrima_packed_len` meets its contract. Assumes nothing.
 use denote.Ref.{now}
-use Rattle.capi.proofs.Tell.{told-as, left-as}
+use Rattle.capi_answers.proofs.Tell.{told-as, left-as}
 use borrow.Author.Needs.{needs}
 use Rattle.capi.proofs.bits.foldrima_packed_len.Statement.{statement}
 use Rattle.capi.proofs.bits.foldrima_packed_len.Tie as tie

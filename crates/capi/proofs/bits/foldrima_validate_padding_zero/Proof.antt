@@ -1,5 +1,5 @@
 -- `capi::bits::foldrima_validate_padding_zero` meets its contract. Assumes nothing.
-use Rattle.capi.proofs.Tell.{told-as}
+use Rattle.capi_answers.proofs.Tell.{told-as}
 use borrow.Author.Needs.{needs}
 use Rattle.capi.proofs.bits.foldrima_validate_padding_zero.Statement.{statement}
 use Rattle.capi.proofs.bits.foldrima_validate_padding_zero.Tie as tie

@@ -1,6 +1,6 @@
 -- `capi::books::foldrima_dequantize_midpoint` meets its contract. Assumes nothing.
 use denote.Ref.{now}
-use Rattle.capi.proofs.Tell.{told-as, left-as}
+use Rattle.capi_answers.proofs.Tell.{told-as, left-as}
 use borrow.Author.Needs.{needs}
 use Rattle.capi.proofs.books.foldrima_dequantize_midpoint.Statement.{statement}
 use Rattle.capi.proofs.books.foldrima_dequantize_midpoint.Tie as tie

@@ -1,5 +1,5 @@
 -- `capi::books::foldrima_uniform` meets its contract. Assumes nothing.
-use Rattle.capi.proofs.Tell.{told-as}
+use Rattle.capi_answers.proofs.Tell.{told-as}
 use borrow.Author.Needs.{needs}
 use Rattle.capi.proofs.books.foldrima_uniform.Statement.{statement}
 use Rattle.capi.proofs.books.foldrima_uniform.Tie as tie

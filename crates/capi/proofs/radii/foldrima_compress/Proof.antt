@@ -3,10 +3,10 @@ use lib.ListN.{length}
 use Rattle.error.specs.Answer.{after}
 use Rattle.radius.specs.declared.RadiusCodecProfileV1.{RadiusCodecProfileV1}
 use Rattle.radius.specs.Codec.{compressRangeOf, compressBytesOf}
-use Rattle.capi.specs.Codes.{minOf, maxOf}
+use Rattle.capi_answers.specs.Codes.{minOf, maxOf}
 use mathlib.Core.Path.{ap, _∙_}
 use denote.Ref.{now}
-use Rattle.capi.proofs.Tell.{told-as, part-as}
+use Rattle.capi_answers.proofs.Tell.{told-as, part-as}
 use borrow.Author.Needs.{needs}
 use Rattle.capi.proofs.radii.foldrima_compress.Statement.{statement}
 use Rattle.capi.proofs.radii.foldrima_compress.Tie as tie

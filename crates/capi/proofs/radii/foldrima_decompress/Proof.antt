@@ -3,10 +3,10 @@ use lib.ListN.{length}
 use Rattle.error.specs.Answer.{done, after}
 use Rattle.radius.specs.declared.RadiusCodecProfileV1.{RadiusCodecProfileV1}
 use Rattle.radius.specs.Codec.{decompressOf}
-use Rattle.capi.specs.Codes.{rangeFrom}
+use Rattle.capi_answers.specs.Codes.{rangeFrom}
 use mathlib.Core.Path.{ap, _∙_}
 use denote.Ref.{now}
-use Rattle.capi.proofs.Tell.{told-as}
+use Rattle.capi_answers.proofs.Tell.{told-as}
 use borrow.Author.Needs.{needs}
 use Rattle.capi.proofs.radii.foldrima_decompress.Statement.{statement}
 use Rattle.capi.proofs.radii.foldrima_decompress.Tie as tie

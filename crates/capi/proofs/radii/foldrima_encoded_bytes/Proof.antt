@@ -3,7 +3,7 @@ use Rattle.radius.specs.declared.RadiusCodecProfileV1.{RadiusCodecProfileV1}
 use Rattle.radius.specs.Codec.{encodedBytesOf}
 use mathlib.Core.Path.{ap, _∙_}
 use denote.Ref.{now}
-use Rattle.capi.proofs.Tell.{told-as, left-as}
+use Rattle.capi_answers.proofs.Tell.{told-as, left-as}
 use borrow.Author.Needs.{needs}
 use Rattle.capi.proofs.radii.foldrima_encoded_bytes.Statement.{statement}
 use Rattle.capi.proofs.radii.foldrima_encoded_bytes.Tie as tie

@@ -1,7 +1,7 @@
 -- `capi::records::foldrima_read_record` meets its contract. Assumes nothing.
 use denote.Ref.{now}
-use Rattle.capi.specs.Codes.{headerMode, headerProfile, headerDim, headerBits, headerProjections, headerMin, headerMax, headerHasNorm, headerNorm}
-use Rattle.capi.proofs.Tell.{told-as, part-as}
+use Rattle.capi_answers.specs.Codes.{headerMode, headerProfile, headerDim, headerBits, headerProjections, headerMin, headerMax, headerHasNorm, headerNorm}
+use Rattle.capi_answers.proofs.Tell.{told-as, part-as}
 use borrow.Author.Needs.{needs}
 use Rattle.capi.proofs.records.foldrima_read_record.Statement.{statement}
 use Rattle.capi.proofs.records.foldrima_read_record.Tie as tie

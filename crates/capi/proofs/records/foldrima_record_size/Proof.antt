@@ -3,7 +3,7 @@ use mathlib.Core.Path.{ap, _∙_}
 use denote.Ref.{now}
 use lib.Ieee.{ofBits}
 use Rattle.packed_size.specs.Size.{recordSizeOf}
-use Rattle.capi.proofs.Tell.{told-as, left-as}
+use Rattle.capi_answers.proofs.Tell.{told-as, left-as}
 use borrow.Author.Needs.{needs}
 use Rattle.capi.proofs.records.foldrima_record_size.Statement.{statement}
 use Rattle.capi.proofs.records.foldrima_record_size.Tie as tie

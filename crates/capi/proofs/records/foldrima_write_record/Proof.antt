@@ -7,7 +7,7 @@ use lib.ListN.{length}
 use Rattle.error.specs.Answer.{Answer, done, after}
 use Rattle.packed.specs.declared.Code.{Code}
 use Rattle.packed_writing.specs.Writing.{writeRecordOf}
-use Rattle.capi.proofs.Tell.{told-as}
+use Rattle.capi_answers.proofs.Tell.{told-as}
 use borrow.Author.Needs.{needs}
 use Rattle.capi.proofs.records.foldrima_write_record.Statement.{statement}
 use Rattle.capi.proofs.records.foldrima_write_record.Tie as tie

@@ -6,7 +6,7 @@ use Rattle.error.specs.Answer.{done, after}
 use Rattle.setup.specs.Lent.{lent}
 use Rattle.setup.specs.declared.Setup.{Setup}
 use Rattle.turbo_decode.specs.Decode.{decodeApproximateOf}
-use Rattle.capi.proofs.Tell.{told-as}
+use Rattle.capi_answers.proofs.Tell.{told-as}
 use borrow.Author.Needs.{needs}
 use Rattle.capi.proofs.scores.foldrima_decode_approximate.Statement.{statement}
 use Rattle.capi.proofs.scores.foldrima_decode_approximate.Tie as tie

@@ -3,8 +3,8 @@ use mathlib.Core.Path.{ap, _∙_}
 use denote.Ref.{now}
 use Rattle.setup.specs.Lent.{lent}
 use Rattle.setup.specs.declared.Setup.{Setup}
-use Rattle.turbo.specs.Estimates.{innerProductEstimateOf}
-use Rattle.capi.proofs.Tell.{told-as, left-as}
+use Rattle.turbo_phased.specs.Estimates.{innerProductEstimateOf}
+use Rattle.capi_answers.proofs.Tell.{told-as, left-as}
 use borrow.Author.Needs.{needs}
 use Rattle.capi.proofs.scores.foldrima_inner_product_estimate.Statement.{statement}
 use Rattle.capi.proofs.scores.foldrima_inner_product_estimate.Tie as tie

@@ -4,7 +4,7 @@ use denote.Ref.{now}
 use Rattle.setup.specs.Lent.{lent}
 use Rattle.setup.specs.declared.Setup.{Setup}
 use Rattle.turbo.specs.Distance.{l2DistanceEstimateOf}
-use Rattle.capi.proofs.Tell.{told-as, left-as}
+use Rattle.capi_answers.proofs.Tell.{told-as, left-as}
 use borrow.Author.Needs.{needs}
 use Rattle.capi.proofs.scores.foldrima_l2_distance_estimate.Statement.{statement}
 use Rattle.capi.proofs.scores.foldrima_l2_distance_estimate.Tie as tie

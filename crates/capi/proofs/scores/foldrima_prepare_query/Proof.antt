@@ -6,7 +6,7 @@ use Rattle.error.specs.Answer.{done, after}
 use Rattle.setup.specs.Lent.{lent}
 use Rattle.setup.specs.declared.Setup.{Setup}
 use Rattle.turbo_query.specs.Query.{prepareRotatedOf, prepareProjectedOf}
-use Rattle.capi.proofs.Tell.{told-as}
+use Rattle.capi_answers.proofs.Tell.{told-as}
 use borrow.Author.Needs.{needs}
 use Rattle.capi.proofs.scores.foldrima_prepare_query.Statement.{statement}
 use Rattle.capi.proofs.scores.foldrima_prepare_query.Tie as tie

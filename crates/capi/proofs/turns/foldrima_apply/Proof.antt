@@ -1,5 +1,5 @@
 -- `capi::turns::foldrima_apply` meets its contract. Assumes nothing.
-use Rattle.capi.proofs.Tell.{told-as}
+use Rattle.capi_answers.proofs.Tell.{told-as}
 use borrow.Author.Needs.{needs}
 use Rattle.capi.proofs.turns.foldrima_apply.Statement.{statement}
 use Rattle.capi.proofs.turns.foldrima_apply.Tie as tie

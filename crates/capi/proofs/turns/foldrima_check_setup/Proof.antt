@@ -5,7 +5,7 @@ use Rattle.setup.specs.declared.Setup.{Setup}
 use Rattle.setup_tables.specs.Checks.{setupChecks}
 use mathlib.Core.Path.{ap, _∙_}
 use denote.Ref.{now}
-use Rattle.capi.proofs.Tell.{told-as}
+use Rattle.capi_answers.proofs.Tell.{told-as}
 use borrow.Author.Needs.{needs}
 use Rattle.capi.proofs.turns.foldrima_check_setup.Statement.{statement}
 use Rattle.capi.proofs.turns.foldrima_check_setup.Tie as tie

@@ -6,7 +6,7 @@ use Rattle.setup.specs.declared.Setup.{Setup}
 use Rattle.qjl.specs.Sketch.{sketchOf}
 use mathlib.Core.Path.{ap, _∙_}
 use denote.Ref.{now}
-use Rattle.capi.proofs.Tell.{told-as}
+use Rattle.capi_answers.proofs.Tell.{told-as}
 use borrow.Author.Needs.{needs}
 use Rattle.capi.proofs.turns.foldrima_sketch.Statement.{statement}
 use Rattle.capi.proofs.turns.foldrima_sketch.Tie as tie

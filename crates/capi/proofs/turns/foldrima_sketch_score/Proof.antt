@@ -4,7 +4,7 @@ use Rattle.setup.specs.declared.Setup.{Setup}
 use Rattle.qjl.specs.Score.{sketchScoreOf}
 use mathlib.Core.Path.{ap, _∙_}
 use denote.Ref.{now}
-use Rattle.capi.proofs.Tell.{told-as, left-as}
+use Rattle.capi_answers.proofs.Tell.{told-as, left-as}
 use borrow.Author.Needs.{needs}
 use Rattle.capi.proofs.turns.foldrima_sketch_score.Statement.{statement}
 use Rattle.capi.proofs.turns.foldrima_sketch_score.Tie as tie

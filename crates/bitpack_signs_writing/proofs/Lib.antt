@@ -1,0 +1,3 @@
+pub mod SignPacking
+pub mod SignAnswers
+pub mod SignBlocks
