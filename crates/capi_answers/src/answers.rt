@@ -12,6 +12,7 @@ use error::Scored;
 use packed::Reading;
 use polar::Angle;
 use radius_writing::Compressed;
+use turbo_phased::Phased;
 ghost use mathlib.Core.Path.{_≡_};
 ghost use Rattle.error.specs.Answer.{after};
 ghost use Rattle.error.specs.Outcomes.{says, saysFilled, saysScore};
@@ -20,6 +21,7 @@ ghost use Rattle.codebook.specs.Says.{saysMade, saysCount, saysIndex, saysPoint
 ghost use Rattle.packed.specs.Reading.{saysReading};
 ghost use Rattle.polar.specs.Angle.{saysAngle};
 ghost use Rattle.radius_writing.specs.Says.{saysRange};
+ghost use Rattle.turbo_phased.specs.Estimates.{saysPhased, joined};
 ghost use Rattle.capi_answers.specs.Told.{said, told, part};
 ghost use Rattle.capi_answers.specs.Codes.{minOf, maxOf, headerMode, headerProfile, headerDim, headerBits, headerProjections, headerMin, headerMax, headerHasNorm, headerNorm};
 
@@ -240,6 +242,38 @@ pub fn tell_score(answer: Scored, number: &mut u32, place: &mut usize, value: &m
             *place = p;
         }
         Scored::Withdrawn => {
+            *number = WITHDRAWN;
+            *place = 0;
+        }
+    }
+}
+
+// A score without the phase of a refusal.
+pub fn tell_phased(answer: Phased, number: &mut u32, place: &mut usize, value: &mut f32)
+    ensures answer { λ _. ⌜ said (now (number .exit)) (now (place .exit)) ≡ told (joined (saysPhased answer)) ⌝ }
+    ensures left { λ _. ⌜ now (value .exit) ≡ after (joined (saysPhased answer)) (now (value .entry)) ⌝ }
+{
+    match answer {
+        Phased::Score(x) => {
+            *number = 0;
+            *place = 0;
+            *value = x;
+        }
+        Phased::BeforeReading {
+            number: n,
+            place: p,
+        } => {
+            *number = n;
+            *place = p;
+        }
+        Phased::FromReading {
+            number: n,
+            place: p,
+        } => {
+            *number = n;
+            *place = p;
+        }
+        Phased::Withdrawn => {
             *number = WITHDRAWN;
             *place = 0;
         }

@@ -1,11 +1,11 @@
 -- No call refuses with the number 0 or with that of a withdrawn position, and one that takes no record does not answer withdrawn. Assumes nothing.
-use Prim.Native.Nat.{ℕ, _*_, _<_}
-use mathlib.Core.Path.{_≡_, refl}
-use mathlib.Core.Bool.{Bool, true, false, _&&_}
+use Prim.Native.Nat.{ℕ, _*_, _-_, _<_}
+use mathlib.Core.Path.{_≡_, refl, sym, subst}
+use mathlib.Core.Bool.{Bool, true, false, _&&_, _||_, cond}
 use mathlib.Core.List.{List, [], _∷_, _++_}
 use native.Mathlib.Omega.{arith}
 use borrow.Author.Tests.{ltb-true}
-use lib.Dec.{ltb}
+use lib.Dec.{ltb, leb}
 use lib.IntN.{ℤ}
 use lib.ListN.{length}
 use lib.Ieee.{Float}
@@ -47,10 +47,19 @@ use Rattle.packed_size.specs.Size.{neededFor, codeChecks, recordSizeOf}
 use Rattle.packed_writing.specs.Writing.{fieldChecks, valueChecks, writeRecordOf}
 use Rattle.turbo_query.specs.Query.{queryChecks, prepareChecks, prepareRotatedOf}
 use Rattle.turbo_record.specs.Scoring.{recordScore, readingChecks}
-use Rattle.turbo_phased.specs.Estimates.{estimate, whereScored, innerProductEstimateOf, preparedChecks, innerProductEstimatePreparedOf}
+use Rattle.turbo_phased.specs.Estimates.{estimate, whereScored, innerProductEstimateOf, preparedChecks, innerProductEstimatePreparedOf, joined}
 use Rattle.turbo_distance.specs.Distance.{distanceSum, cutAtZero, wrongSum, distanceBySum}
 use Rattle.turbo.specs.Distance.{l2DistanceEstimateOf}
+use Rattle.turbo.proofs.Answers.{phased-joined, prepared-phased-joined}
 use Rattle.turbo_decode.specs.Decode.{decodeChecks, decodeApproximateOf}
+use Rattle.scan.specs.declared.Tally.{Tally}
+use Rattle.scan.specs.declared.Scan.{Scan}
+use Rattle.scan.specs.Opening.{wrongScanLength, openOf}
+use Rattle.scan.specs.Entering.{most}
+use Rattle.scan.specs.Events.{takeOf}
+use Rattle.scan_taking.specs.Taking.{byQuery, byPrepared, eventOf}
+use Rattle.scan_many.specs.Many.{wrongEnds, takeManyOf}
+use Rattle.scan_closing.specs.Closing.{closeOf}
 use Rattle.capi_answers.specs.Told.{withdrawnNumber}
 
 -- whether every check of a list has a number above 0 and below that of a withdrawn position
@@ -271,3 +280,54 @@ pub estimate-prepared-numbered : (s : Setup) (directions rotated values : List F
 unfolding innerProductEstimatePreparedOf
 estimate-prepared-numbered s directions rotated values bytes =
     first-numbered (preparedChecks s directions rotated values) _ (rotations (λ z. preparedChecks z directions rotated values) s refl refl) (unless-numbered bytes _ (chain (readingChecks s bytes (recordScore s directions rotated values bytes)) _ refl .0))
+
+-- ---- scan
+
+pub open-numbered : (k : ℕ) → Plain (openOf k)
+unfolding openOf
+open-numbered k = chain (wrongScanLength k ∷ []) _ refl
+
+pub close-numbered : (scan : Scan) (room : ℕ) → Plain (closeOf scan room)
+unfolding closeOf
+close-numbered scan room = chain (wrongRoom room (scan .tally .kept) ∷ []) _ refl
+
+-- 22 first, and then an answer with the phase of its refusal
+asked-numbered : {A : Type 0} (full : Bool) (e : Answer (Answer A)) → Numbered (joined e) → Numbered (joined (first (check full 22 0 ∷ []) e))
+asked-numbered true e end = first-numbered (check true 22 0 ∷ []) (joined e) refl end
+asked-numbered false e end = end
+
+pub take-numbered : (tally : Tally) (s : Setup) (l : Lent) (query : List Float) (bytes : List ℕ) → Numbered (joined (takeOf (tally .taken) (eventOf (byQuery s l query bytes))))
+take-numbered tally s l query bytes =
+    asked-numbered (leb most (tally .taken)) (eventOf (byQuery s l query bytes)) (subst (λ (a : Answer Float). Numbered a) (sym (phased-joined s l query bytes)) (estimate-numbered s l query bytes))
+
+pub take-prepared-numbered : (tally : Tally) (s : Setup) (directions rotated values : List Float) (bytes : List ℕ) → Numbered (joined (takeOf (tally .taken) (eventOf (byPrepared s directions rotated values bytes))))
+take-prepared-numbered tally s directions rotated values bytes =
+    asked-numbered (leb most (tally .taken)) (eventOf (byPrepared s directions rotated values bytes))
+    (subst (λ (a : Answer Float). Numbered a) (sym (prepared-phased-joined s directions rotated values bytes)) (estimate-prepared-numbered s directions rotated values bytes))
+
+-- one list of checks behind another
+between-append : (cs ds : List Check) → between cs ≡ true → between ds ≡ true → between (cs ++ ds) ≡ true
+between-append [] ds t u = u
+between-append (check offends n p ∷ cs) ds t u =
+    let low = and-true (ltb 0 n) (ltb n withdrawnNumber && between cs) t in
+    let high = and-true (ltb n withdrawnNumber) (between cs) (low .1) in
+    simp (low .0, high .0, between-append cs ds (high .1) u)
+
+-- one check or another
+cond-between : (other : Bool) (c d : Check) → between (c ∷ []) ≡ true → between (d ∷ []) ≡ true → between (cond other c d ∷ []) ≡ true
+cond-between true c d t u = t
+cond-between false c d t u = u
+
+ends-between : (long start : ℕ) (ends : List ℕ) → between (wrongEnds long start ends ∷ []) ≡ true
+unfolding wrongEnds
+ends-between long start [] = refl
+ends-between long start (end ∷ ends) = cond-between (ltb end start || ltb long end) (check true 5 end) (wrongEnds long end ends) refl (ends-between long end ends)
+
+pub take-many-numbered : (scan : Scan) (s : Setup) (directions rotated values : List Float) (bytes ends : List ℕ) → Plain (takeManyOf scan s directions rotated values bytes ends)
+unfolding takeManyOf
+take-many-numbered scan s directions rotated values bytes ends =
+    let full = check (ltb (most - scan .tally .taken) (length ends)) 22 0 in
+    chain ((full ∷ preparedChecks s directions rotated values) ++ (wrongEnds (length bytes) 0 ends ∷ [])) _
+    (between-append (full ∷ preparedChecks s directions rotated values) (wrongEnds (length bytes) 0 ends ∷ [])
+    (rotations (λ z. full ∷ preparedChecks z directions rotated values) s refl refl)
+    (ends-between (length bytes) 0 ends))

@@ -26,9 +26,16 @@ use Rattle.packed.specs.Reading.{readRecordOf, readRadiiOf, readIndicesOf, read
 use Rattle.packed_size.specs.Size.{recordSizeOf}
 use Rattle.packed_writing.specs.Writing.{writeRecordOf}
 use Rattle.turbo_query.specs.Query.{prepareRotatedOf}
-use Rattle.turbo_phased.specs.Estimates.{innerProductEstimateOf, innerProductEstimatePreparedOf}
+use Rattle.turbo_phased.specs.Estimates.{innerProductEstimateOf, innerProductEstimatePreparedOf, joined}
 use Rattle.turbo.specs.Distance.{l2DistanceEstimateOf}
 use Rattle.turbo_decode.specs.Decode.{decodeApproximateOf}
+use Rattle.scan.specs.declared.Tally.{Tally}
+use Rattle.scan.specs.declared.Scan.{Scan}
+use Rattle.scan.specs.Opening.{openOf}
+use Rattle.scan.specs.Events.{takeOf}
+use Rattle.scan_taking.specs.Taking.{byQuery, byPrepared, eventOf}
+use Rattle.scan_many.specs.Many.{takeManyOf}
+use Rattle.scan_closing.specs.Closing.{closeOf}
 use Rattle.capi_answers.specs.Told.{said, withdrawnNumber, told}
 
 -- What the two lent numbers hold tells which of three kinds of answer it was, and which refusal.
@@ -54,6 +61,10 @@ pub record Numbers : Type 1 where
   pub read-radii : (bytes : List ℕ) (room : ℕ) → ThreeKinds (readRadiiOf bytes room)
   pub read-indices : (bytes : List ℕ) (room : ℕ) → ThreeKinds (readIndicesOf bytes room)
   pub read-signs : (bytes : List ℕ) (room : ℕ) → ThreeKinds (readSignsOf bytes room)
+  pub scan-take : (tally : Tally) (s : Setup) (l : Lent) (query : List Float) (bytes : List ℕ) → ThreeKinds (joined (takeOf (tally .taken) (eventOf (byQuery s l query bytes))))
+  pub scan-take-prepared : (tally : Tally) (s : Setup) (directions rotated values : List Float) (bytes : List ℕ) → ThreeKinds (joined (takeOf (tally .taken) (eventOf (byPrepared s directions rotated values bytes))))
+  -- This takes many records and answers for all of them at once: the withdrawn ones are counted.
+  pub scan-take-many : (scan : Scan) (s : Setup) (directions rotated values : List Float) (bytes ends : List ℕ) → TwoKinds (takeManyOf scan s directions rotated values bytes ends)
   -- These take none.
   pub check-setup : (s : Setup) (l : Lent) → TwoKinds (first (setupChecks s l) accepted)
   pub packed-len : (count bits : ℕ) → TwoKinds (packedLenOf count bits)
@@ -79,3 +90,5 @@ pub record Numbers : Type 1 where
   pub dequantize-midpoint : (bits : ℕ) (lo hi : Float) (index : ℕ) → TwoKinds (dequantizeMidpointOf bits lo hi index)
   pub record-size : (code : Code) → TwoKinds (recordSizeOf code)
   pub write-record : (code : Code) (radii : List Float) (indices : List ℕ) (signs : List ℤ) (room : ℕ) → TwoKinds (writeRecordOf code radii indices signs room)
+  pub scan-open : (k : ℕ) → TwoKinds (openOf k)
+  pub scan-close : (scan : Scan) (room : ℕ) → TwoKinds (closeOf scan room)

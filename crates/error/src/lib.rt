@@ -49,6 +49,10 @@ pub const UNDEFINED_PROFILE: u32 = 18;
 pub const LENGTH_OVERFLOW: u32 = 19;
 // A record's bits or projections are not the setup's. Place 0.
 pub const PROFILE_MISMATCH: u32 = 20;
+// A scan's length is 0 or above 64. Place 0.
+pub const SCAN_LENGTH: u32 = 21;
+// A scan has already taken 4,294,967,295 records, or has fewer numbers left than many records need. Place 0.
+pub const SCAN_FULL: u32 = 22;
 // A source norm is not finite or below zero. Place 0.
 pub const MALFORMED_NORM: u32 = 23;
 // A stored rotation's dimension is above 512. Place 0.

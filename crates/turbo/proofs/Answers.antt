@@ -2,19 +2,15 @@
 use Prim.Native.Nat.{ℕ, _≤_}
 use mathlib.Core.Path.{_≡_, refl, sym, ap, _∙_}
 use mathlib.Core.Bool.{true, false}
-use mathlib.Core.List.{List, [], _∷_, _++_}
+use mathlib.Core.List.{List, [], _∷_}
 use native.Mathlib.Omega.{arith}
-use borrow.Author.Tests.{eq-eqb, ne-eqb}
-use lib.ListN.{length}
+use borrow.Author.Tests.{eq-eqb}
 use lib.Ieee.{Float}
 use Rattle.error.specs.Answer.{Answer, value, refused, withdrawn, Check, check, first, accepted, done}
 use Rattle.error.specs.Checks.{wrongRoom}
-use Rattle.error.proofs.Chains.{refused-not-withdrawn, first-passed, first-refused, first-done, first-clear, first-ends, append-left, append-passed, append-refused}
+use Rattle.error.proofs.Chains.{refused-not-withdrawn, first-passed, first-refused, first-done, first-clear, first-ends, append-passed}
 use Rattle.setup.specs.Lent.{Lent}
 use Rattle.setup.specs.declared.Setup.{Setup}
-use Rattle.setup.specs.Setups.{countedProjectionsOf}
-use Rattle.setup.specs.Checks.{scalarChecks}
-use Rattle.setup_tables.specs.Checks.{directionChecks}
 use Rattle.packed.specs.declared.Header.{Header}
 use Rattle.packed.specs.Layout.{pairsOf, headerOf}
 use Rattle.packed.specs.Reading.{unlessWithdrawn, recordChecks, readRecordOf, readRadiiOf, radiiOf}
@@ -24,9 +20,8 @@ use Rattle.packed_values.proofs.Scratch.{read-pairs-most}
 use Rattle.packed.proofs.Withdrawn.{unless-none, unless-some, unless-value, unless-refused, unless-withdrawn, read-passed}
 use Rattle.turbo_query.specs.Query.{rotatedQuery, projectedQuery, queryChecks}
 use Rattle.turbo_record.specs.Scoring.{readingChecks, sinceReading, recordScoreOf}
-use Rattle.turbo_query.specs.Judging.{queryValueChecks}
-use Rattle.turbo.specs.Inner.{joined}
-use Rattle.turbo_phased.specs.Estimates.{innerProductEstimatePhasedOf, estimate, whereScored, innerProductEstimateOf, preparedChecks, innerProductEstimatePreparedOf, lengthsAndValues}
+use Rattle.turbo_phased.specs.Estimates.{innerProductEstimatePhasedOf, estimate, whereScored, innerProductEstimateOf, preparedChecks, innerProductEstimatePreparedOf, joined}
+use Rattle.turbo_prepared.specs.Phases.{innerProductEstimatePreparedPhasedOf}
 use Rattle.turbo_distance.specs.Distance.{distanceFromScoreOf}
 use Rattle.turbo.specs.Distance.{l2DistanceEstimateOf}
 use Rattle.turbo_phased.proofs.Answers.{phased-passed}
@@ -52,42 +47,11 @@ module _ (s : Setup) (l : Lent) (query : List Float) (bytes : List ℕ) where
 
 -- ---- by a prepared query
 
-module _ (s : Setup) (rotated projected : List Float) where
-  pub lengths-rotated : (length rotated ≡ s .dim → ⊥) → first (lengthsAndValues s rotated projected) accepted ≡ refused 5 (length rotated)
-  lengths-rotated h = simp (ne-eqb (length rotated) (s .dim) h)
-
-  module _ (long : length rotated ≡ s .dim) where
-    pub lengths-projected : {m : ℕ} → m ≡ countedProjectionsOf s → (length projected ≡ m → ⊥) → first (lengthsAndValues s rotated projected) accepted ≡ refused 5 (length projected)
-    lengths-projected c h = simp (eq-eqb (length rotated) (s .dim) long, ne-eqb (length projected) (countedProjectionsOf s) (λ f. h (f ∙ sym c)))
-
-    pub lengths-passed : {m : ℕ} → m ≡ countedProjectionsOf s → length projected ≡ m → first (lengthsAndValues s rotated projected) accepted ≡ first (queryValueChecks rotated projected) accepted
-    lengths-passed c h = simp (eq-eqb (length rotated) (s .dim) long, eq-eqb (length projected) (countedProjectionsOf s) (h ∙ c))
-
-module _ (s : Setup) (directions rotated projected : List Float) where
-  pub ready-scalars : {n p : ℕ} → first (scalarChecks s) accepted ≡ refused n p → first (preparedChecks s directions rotated projected) accepted ≡ refused n p
-  ready-scalars e = append-refused (scalarChecks s) (directionChecks s directions ++ lengthsAndValues s rotated projected) tt accepted e
-
-  pub ready-usable : first (preparedChecks s directions rotated projected) accepted ≡ accepted → first (scalarChecks s) accepted ≡ accepted
-  ready-usable e = append-left (scalarChecks s) (directionChecks s directions ++ lengthsAndValues s rotated projected) accepted e
-
-  module _ (scalars : first (scalarChecks s) accepted ≡ accepted) where
-    ready-after : first (preparedChecks s directions rotated projected) accepted ≡ first (directionChecks s directions ++ lengthsAndValues s rotated projected) accepted
-    ready-after = append-passed (scalarChecks s) (directionChecks s directions ++ lengthsAndValues s rotated projected) tt accepted scalars
-
-    pub ready-directions : {n p : ℕ} → first (directionChecks s directions) accepted ≡ refused n p → first (preparedChecks s directions rotated projected) accepted ≡ refused n p
-    ready-directions e = ready-after ∙ append-refused (directionChecks s directions) (lengthsAndValues s rotated projected) tt accepted e
-
-    pub ready-rest : first (directionChecks s directions) accepted ≡ accepted → first (preparedChecks s directions rotated projected) accepted ≡ first (lengthsAndValues s rotated projected) accepted
-    ready-rest table = ready-after ∙ append-passed (directionChecks s directions) (lengthsAndValues s rotated projected) tt accepted table
-
-  module _ (bytes : List ℕ) where
-    pub prepared-refused : {n p : ℕ} → first (preparedChecks s directions rotated projected) accepted ≡ refused n p → innerProductEstimatePreparedOf s directions rotated projected bytes ≡ refused n p
-    unfolding innerProductEstimatePreparedOf
-    prepared-refused e = first-refused (preparedChecks s directions rotated projected) _ e
-
-    pub prepared-passed : first (preparedChecks s directions rotated projected) accepted ≡ accepted → innerProductEstimatePreparedOf s directions rotated projected bytes ≡ recordScoreOf s directions rotated projected bytes
-    unfolding innerProductEstimatePreparedOf recordScoreOf
-    prepared-passed e = first-passed (preparedChecks s directions rotated projected) _ e
+module _ (s : Setup) (directions rotated projected : List Float) (bytes : List ℕ) where
+  -- without the phase it is the estimate by the prepared query
+  pub prepared-phased-joined : joined (innerProductEstimatePreparedPhasedOf s directions rotated projected bytes) ≡ innerProductEstimatePreparedOf s directions rotated projected bytes
+  unfolding innerProductEstimatePreparedPhasedOf innerProductEstimatePreparedOf recordScoreOf
+  prepared-phased-joined = joined-first (preparedChecks s directions rotated projected) (recordScoreOf s directions rotated projected bytes)
 
 -- ---- the distance
 

@@ -36,8 +36,8 @@ use Rattle.turbo_opening.specs.Opening.{contentOf}
 use Rattle.turbo_opening.proofs.Answers.{opened-projections}
 use Rattle.turbo_record.specs.Scoring.{recordScore, recordScoreOf}
 use Rattle.turbo_phased.specs.Estimates.{preparedChecks, innerProductEstimatePreparedOf}
+use Rattle.turbo_prepared.proofs.Answers.{ready-rest, prepared-passed}
 use Rattle.turbo.specs.Inner.{Lengths}
-use Rattle.turbo.proofs.Answers.{ready-rest, prepared-passed}
 use Rattle.turbo.proofs.Since.{since-open, since-pairs, since-finite}
 
 -- each term of a finite sum over the numbers from `start` on

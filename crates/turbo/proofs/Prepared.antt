@@ -1,5 +1,5 @@
 -- Scoring by a prepared query equals scoring by the query: what `prepare_query` answers passes the checks of a prepared query, and the score is the same.
--- So demand 3 holds of it too. Assumes nothing.
+-- So demand 3 holds of it too, and with the phase of a refusal both answers are the same. Assumes nothing.
 use Prim.Native.Nat.{ℕ}
 use mathlib.Core.Path.{_≡_, sym, ap, _∙_}
 use mathlib.Core.List.{List, [], _∷_}
@@ -19,11 +19,14 @@ use Rattle.setup_rotation.proofs.Rotations.{length-rotated-by}
 use Rattle.qjl.specs.Sketch.{vectorChecks}
 use Rattle.qjl.proofs.Answers.{vector-setup, vector-rowed}
 use Rattle.turbo_query.specs.Query.{rotatedQuery, projectedQuery, finiteChecks, queryChecks, prepareChecks, prepareRotatedOf, prepareProjectedOf}
-use Rattle.turbo_phased.specs.Estimates.{preparedChecks, innerProductEstimateOf, innerProductEstimatePreparedOf, lengthsAndValues}
+use Rattle.turbo_phased.specs.Estimates.{preparedChecks, innerProductEstimateOf, innerProductEstimatePhasedOf, innerProductEstimatePreparedOf, lengthsAndValues}
+use Rattle.turbo_phased.proofs.Answers.{phased-passed}
+use Rattle.turbo_prepared.specs.Phases.{innerProductEstimatePreparedPhasedOf}
+use Rattle.turbo_prepared.proofs.Answers.{ready-rest, prepared-passed, prepared-phased-passed}
 use Rattle.turbo.specs.Prepared.{IsPrepared, Prepared}
 use Rattle.float.specs.Bytes.{AreFloats}
 use Rattle.turbo.proofs.Demand.{demand}
-use Rattle.turbo.proofs.Answers.{estimate-passed, ready-rest, prepared-passed}
+use Rattle.turbo.proofs.Answers.{estimate-passed}
 use Rattle.rounding.proofs.Rows.{length-projected}
 
 module _ (s : Setup) (l : Lent) (query : List Float) (passed : first (queryChecks s l query) accepted ≡ accepted) where
@@ -51,6 +54,11 @@ module _ (s : Setup) (l : Lent) (query : List Float) (passed : first (queryCheck
   estimate-equal-prepared bytes =
       prepared-passed s (l .directions) (rotatedQuery s l query) (projectedQuery s l query) bytes passed-ready ∙ sym (estimate-passed s l query bytes passed)
 
+  -- a refusal comes in the same phase
+  pub phased-equal-prepared : (bytes : List ℕ) → innerProductEstimatePreparedPhasedOf s (l .directions) (rotatedQuery s l query) (projectedQuery s l query) bytes ≡ innerProductEstimatePhasedOf s l query bytes
+  phased-equal-prepared bytes =
+      prepared-phased-passed s (l .directions) (rotatedQuery s l query) (projectedQuery s l query) bytes passed-ready ∙ sym (phased-passed s l query bytes passed)
+
 -- So do the lists that `prepare_query` has answered, and demand 3 is that of the query.
 module _ (s : Setup) (l : Lent) (query : List Float) {xs ys : List Float} (prepared : IsPrepared s l query xs ys) where
   prepared-clear : first (prepareChecks s l query (prepared .room) (prepared .space)) accepted ≡ accepted
@@ -73,6 +81,12 @@ module _ (s : Setup) (l : Lent) (query : List Float) {xs ys : List Float} (prepa
       ap (λ (ts : List Float). innerProductEstimatePreparedOf s (l .directions) ts ys bytes) (sym prepared-rotated)
       ∙ ap (λ (rs : List Float). innerProductEstimatePreparedOf s (l .directions) (rotatedQuery s l query) rs bytes) (sym prepared-projected)
       ∙ estimate-equal-prepared s l query prepared-query bytes
+
+  pub phased-equal-left : (bytes : List ℕ) → innerProductEstimatePreparedPhasedOf s (l .directions) xs ys bytes ≡ innerProductEstimatePhasedOf s l query bytes
+  phased-equal-left bytes =
+      ap (λ (ts : List Float). innerProductEstimatePreparedPhasedOf s (l .directions) ts ys bytes) (sym prepared-rotated)
+      ∙ ap (λ (rs : List Float). innerProductEstimatePreparedPhasedOf s (l .directions) (rotatedQuery s l query) rs bytes) (sym prepared-projected)
+      ∙ phased-equal-prepared s l query prepared-query bytes
 
 pub prepared-stands : (s : Setup) (directions rotated projected : List Float) → AreFloats directions → Prepared s directions rotated projected
 prepared-stands s directions rotated projected fit =

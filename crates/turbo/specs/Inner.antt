@@ -3,16 +3,10 @@ use Prim.Native.Nat.{ℕ}
 use mathlib.Core.Path.{_≡_}
 use mathlib.Core.List.{List}
 use lib.Ieee.{Float}
-use Rattle.error.specs.Answer.{Answer, value, refused, withdrawn, first, accepted}
+use Rattle.error.specs.Answer.{first, accepted}
 use Rattle.setup.specs.Setups.{countedProjectionsOf}
 use Rattle.setup_tables.specs.Checks.{directionChecks}
 use Rattle.setup.specs.declared.Setup.{Setup}
-
--- This is an answer without the phase of its refusal.
-abbrev pub joined : {A : Type 0} → Answer (Answer A) → Answer A
-joined (value a) = a
-joined (refused n p) = refused n p
-joined withdrawn = withdrawn
 
 -- The directions pass, and the lengths of a prepared query are the setup's.
 pub record Lengths (s : Setup) (directions : List Float) (rotated projected : ℕ) : Type 0 where

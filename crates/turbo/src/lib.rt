@@ -2,22 +2,21 @@
 // Ported from turbo-quant/src/turbo.rs and changed: the setup is lent and checked at each call, the code is a record's bytes, and an error is a number
 // and a place; of a withdrawn position no score is answered.
 
-use error::DIMENSION_MISMATCH;
 use error::Outcome;
 use error::Scored;
 use setup::Setup;
 use turbo_phased::Phased;
 ghost use mathlib.Core.Path.{_≡_};
 ghost use mathlib.Core.Bool.{true};
-ghost use Rattle.error.specs.Answer.{value, first, accepted};
-ghost use Rattle.error.specs.Outcomes.{says, saysScore};
+ghost use Rattle.error.specs.Answer.{value};
+ghost use Rattle.error.specs.Outcomes.{saysScore};
 ghost use Rattle.setup.specs.Lent.{lent};
 ghost use Rattle.packed.specs.Layout.{pairsOf, headerOf};
 ghost use Rattle.packed.specs.Reading.{readRecordOf, radiiOf};
 ghost use Rattle.turbo_distance.specs.Distance.{distanceFromScoreOf};
-ghost use Rattle.turbo_phased.specs.Estimates.{innerProductEstimateOf, saysPhased, preparedChecks, innerProductEstimatePreparedOf, lengthsAndValues};
+ghost use Rattle.turbo_phased.specs.Estimates.{innerProductEstimateOf, saysPhased, innerProductEstimatePreparedOf, joined};
 ghost use Rattle.turbo.specs.Distance.{l2DistanceEstimateOf};
-ghost use Rattle.turbo.specs.Inner.{joined, Lengths};
+ghost use Rattle.turbo.specs.Inner.{Lengths};
 ghost use Rattle.turbo.specs.Order.{Demand};
 ghost use Rattle.turbo.specs.Prepared.{Prepared};
 
@@ -62,7 +61,7 @@ pub fn inner_product_estimate_prepared(
             return Scored::Score(score);
         }
     }
-    let checked = check_prepared(setup, directions, rotated, projected);
+    let checked = turbo_prepared::check_prepared(setup, directions, rotated, projected);
     if let Outcome::Refused { number, place } = checked {
         return Scored::Refused { number, place };
     }
@@ -109,42 +108,6 @@ fn is_fitting(setup: Setup, directions: &[f32], rotated: usize, projected: usize
         return false;
     }
     projected == setup::counted_projections(setup)
-}
-
-// The checks of a prepared query: the scalars of the setup and its directions, both lengths, and that every value is finite.
-fn check_prepared(setup: Setup, directions: &[f32], rotated: &[f32], projected: &[f32]) -> Outcome
-    ensures { λ r. ⌜ says r ≡ first (preparedChecks setup (now (directions .entry)) (now (rotated .entry)) (now (projected .entry))) accepted ⌝ }
-{
-    let scalars = setup::check_scalars(setup);
-    if let Outcome::Refused { number, place } = scalars {
-        return Outcome::Refused { number, place };
-    }
-    let table = setup_tables::check_directions(setup, directions);
-    if let Outcome::Refused { number, place } = table {
-        return Outcome::Refused { number, place };
-    }
-    check_lengths_and_values(setup, rotated, projected)
-}
-
-// The lengths of a prepared query, then its values.
-fn check_lengths_and_values(setup: Setup, rotated: &[f32], projected: &[f32]) -> Outcome
-    ensures { λ r. ⌜ says r ≡ first (lengthsAndValues setup (now (rotated .entry)) (now (projected .entry))) accepted ⌝ }
-{
-    let dim = setup.dim;
-    if rotated.len() != dim {
-        return Outcome::Refused {
-            number: DIMENSION_MISMATCH,
-            place: rotated.len(),
-        };
-    }
-    let rows = setup::counted_projections(setup);
-    if projected.len() != rows {
-        return Outcome::Refused {
-            number: DIMENSION_MISMATCH,
-            place: projected.len(),
-        };
-    }
-    turbo_query::check_values(rotated, projected)
 }
 
 // Room for the radii of a record, of which there are at most 2,048.

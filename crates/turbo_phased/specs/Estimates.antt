@@ -44,6 +44,12 @@ saysPhased Withdrawn = value withdrawn
 unfoldable pub innerProductEstimatePhasedOf : Setup → Lent → List Float → List ℕ → Answer (Answer Float)
 innerProductEstimatePhasedOf s l query bytes = first (queryChecks s l query) (value (sinceReading s bytes (estimate s l query bytes) (value (estimate s l query bytes))))
 
+-- This is an answer without the phase of its refusal.
+abbrev pub joined : {A : Type 0} → Answer (Answer A) → Answer A
+joined (value a) = a
+joined (refused n p) = refused n p
+joined withdrawn = withdrawn
+
 -- ---- by a prepared query, which needs neither what the rotation is lent nor the matrix
 
 -- The two lengths are checked, 5, then the values of either list, 11.

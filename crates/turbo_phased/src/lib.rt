@@ -40,6 +40,17 @@ pub fn inner_product_estimate_phased(
     }
 }
 
+// An answer from record reading on, with its phase.
+pub fn from_reading(scored: Scored) -> Phased
+    ensures { λ r. ⌜ saysPhased r ≡ value (saysScore scored) ⌝ }
+{
+    match scored {
+        Scored::Score(score) => Phased::Score(score),
+        Scored::Refused { number, place } => Phased::FromReading { number, place },
+        Scored::Withdrawn => Phased::Withdrawn,
+    }
+}
+
 // What `inner_product_estimate_phased` answers under a setup whose scalars have passed: the query is turned in room of the setup's size.
 fn measure_query(
     setup: Setup,
@@ -119,17 +130,6 @@ fn measure_within(
         return Phased::BeforeReading { number, place };
     }
     from_reading(turbo_record::record_score(setup, directions, rotated, projected, bytes))
-}
-
-// An answer from record reading on, with its phase.
-fn from_reading(scored: Scored) -> Phased
-    ensures { λ r. ⌜ saysPhased r ≡ value (saysScore scored) ⌝ }
-{
-    match scored {
-        Scored::Score(score) => Phased::Score(score),
-        Scored::Refused { number, place } => Phased::FromReading { number, place },
-        Scored::Withdrawn => Phased::Withdrawn,
-    }
 }
 
 // Room for a rotated or a projected query, of at most 4,096 values.

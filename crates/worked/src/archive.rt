@@ -165,7 +165,7 @@ fn mode_of(rows: usize) -> TurboMode {
 }
 
 // The setup of n 4 with 2 polar bits: without residual, or with a sketch of so many rows.
-fn setup_of(rows: usize) -> Setup {
+pub(crate) fn setup_of(rows: usize) -> Setup {
     let mode = mode_of(rows);
     Setup {
         mode,
@@ -177,11 +177,11 @@ fn setup_of(rows: usize) -> Setup {
 }
 
 // What the host lends: signs, the directions of 2 bits, three rows of a matrix; and the query.
-fn turns() -> [f32; 4] {
+pub(crate) fn turns() -> [f32; 4] {
     [1.0f32, -1.0, 1.0, 1.0]
 }
 
-fn compass() -> [f32; 8] {
+pub(crate) fn compass() -> [f32; 8] {
     [-1.0f32, 0.0, 0.0, -1.0, 1.0, 0.0, 0.0, 1.0]
 }
 
@@ -202,7 +202,7 @@ fn three_rows() -> [f32; 12] {
     ]
 }
 
-fn asked() -> [f32; 4] {
+pub(crate) fn asked() -> [f32; 4] {
     [1.0f32, 2.0, 3.0, 4.0]
 }
 

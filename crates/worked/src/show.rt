@@ -4,6 +4,7 @@ use error::Length;
 use error::Outcome;
 use error::Scored;
 use polar::Angle;
+use turbo_phased::Phased;
 
 // Copies the text up to the next `|` or its end, and at most 4,096 bytes.
 pub(crate) fn text() {
@@ -41,6 +42,19 @@ pub(crate) fn refusal(number: u32, place: usize) {
 pub(crate) fn withdrawn() {
     text();
     io::write_all(1, b" withdrawn");
+}
+
+// That a call is done, or its refusal.
+pub(crate) fn outcome(answer: Outcome) {
+    match answer {
+        Outcome::Done => done(),
+        Outcome::Refused { number, place } => refusal(number, place),
+    }
+}
+
+fn done() {
+    text();
+    io::write_all(1, b" done");
 }
 
 // The bytes that a call wrote, hexadecimal, or its refusal.
@@ -85,6 +99,28 @@ pub(crate) fn score(answer: Scored) {
         Scored::Refused { number, place } => refusal(number, place),
         Scored::Withdrawn => withdrawn(),
     }
+}
+
+// What a record that is taken into a scan answers: as a score, and of a refusal before the record was read that it came there.
+pub(crate) fn phased(answer: Phased) {
+    match answer {
+        Phased::Score(x) => float(x),
+        Phased::BeforeReading { number, place } => unread(number, place),
+        Phased::FromReading { number, place } => refusal(number, place),
+        Phased::Withdrawn => withdrawn(),
+    }
+}
+
+fn unread(number: u32, place: usize) {
+    refusal(number, place);
+    io::write_all(1, b" before reading");
+}
+
+// A hit: a record's number and the pattern of its score.
+pub(crate) fn hit(number: u32, score: f32) {
+    text();
+    decimal(number as usize);
+    pattern(score);
 }
 
 // A length, or its refusal.

@@ -4,8 +4,8 @@ use borrow.Author.Needs.{needs}
 use lib.Ieee.{nan}
 use Rattle.rounding.proofs.Folds.{all-fit-from}
 use Rattle.setup.specs.Lent.{lent}
-use Rattle.turbo.specs.Inner.{joined}
 use Rattle.turbo.specs.Order.{Demand}
+use Rattle.turbo_phased.specs.Estimates.{joined}
 use Rattle.turbo.proofs.Answers.{phased-joined}
 use Rattle.turbo.proofs.Demand.{demand}
 use Rattle.turbo.proofs.inner_product_estimate.Statement.{statement}

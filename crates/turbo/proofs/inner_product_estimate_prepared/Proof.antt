@@ -6,7 +6,7 @@ use Rattle.error.specs.Outcomes.{says, saysScore}
 use Rattle.error.proofs.Chains.{first-passed}
 use Rattle.setup.specs.Checks.{scalarChecks}
 use Rattle.turbo.specs.Prepared.{Prepared}
-use Rattle.turbo.proofs.Answers.{prepared-refused, prepared-passed, ready-usable}
+use Rattle.turbo_prepared.proofs.Answers.{prepared-refused, prepared-passed, ready-usable}
 use Rattle.turbo.proofs.Hidden.{prepared-scored}
 use Rattle.turbo.proofs.Prepared.{prepared-stands}
 use Rattle.turbo.proofs.inner_product_estimate_prepared.Statement.{statement}

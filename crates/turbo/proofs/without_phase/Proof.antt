@@ -2,8 +2,7 @@
 use mathlib.Core.Path.{sym, ap}
 use borrow.Author.Needs.{needs}
 use Rattle.turbo_phased.specs.declared.Phased.{Phased}
-use Rattle.turbo_phased.specs.Estimates.{saysPhased}
-use Rattle.turbo.specs.Inner.{joined}
+use Rattle.turbo_phased.specs.Estimates.{saysPhased, joined}
 use Rattle.turbo.proofs.without_phase.Statement.{statement}
 use Rattle.turbo.proofs.without_phase.Tie as tie
 

@@ -1,13 +1,13 @@
--- `turbo::check_prepared` meets its contract: the setup is judged first, and what is left of the checks is another call's. Assumes nothing.
+-- `turbo_prepared::check_prepared` meets its contract: the setup is judged first, and what is left of the checks is another call's. Assumes nothing.
 use mathlib.Core.Path.{_≡_, sym, ap, _∙_}
 use borrow.Author.Needs.{needs}
 use Rattle.error.specs.Answer.{first, accepted}
 use Rattle.error.specs.Outcomes.{says}
 use Rattle.setup.specs.Checks.{scalarChecks}
 use Rattle.setup_tables.specs.Checks.{directionChecks}
-use Rattle.turbo.proofs.Answers.{ready-scalars, ready-directions, ready-rest}
-use Rattle.turbo.proofs.check_prepared.Statement.{statement}
-use Rattle.turbo.proofs.check_prepared.Tie as tie
+use Rattle.turbo_prepared.proofs.Answers.{ready-scalars, ready-directions, ready-rest}
+use Rattle.turbo_prepared.proofs.check_prepared.Statement.{statement}
+use Rattle.turbo_prepared.proofs.check_prepared.Tie as tie
 
 -- what the first two calls leave, where they are done
 scalars : (c : tie.After-enum-told) → first (scalarChecks (c .before .before .before .before .before .before .args .setup)) accepted ≡ accepted

@@ -1,9 +1,9 @@
--- `turbo::check_lengths_and_values` meets its contract: each return is one case of the laws of these checks. Assumes nothing.
+-- `turbo_prepared::check_lengths_and_values` meets its contract: each return is one case of the laws of these checks. Assumes nothing.
 use mathlib.Core.Path.{sym, _∙_}
 use borrow.Author.Needs.{needs}
-use Rattle.turbo.proofs.Answers.{lengths-rotated, lengths-projected, lengths-passed}
-use Rattle.turbo.proofs.check_lengths_and_values.Statement.{statement}
-use Rattle.turbo.proofs.check_lengths_and_values.Tie as tie
+use Rattle.turbo_prepared.proofs.Answers.{lengths-rotated, lengths-projected, lengths-passed}
+use Rattle.turbo_prepared.proofs.check_lengths_and_values.Statement.{statement}
+use Rattle.turbo_prepared.proofs.check_lengths_and_values.Tie as tie
 
 returns : tie.Need-returns
 returns c = let a = c .before .before .before .args in sym (lengths-rotated (a .setup) (a .rotated .now) (a .projected .now) (c .if1 .taken))

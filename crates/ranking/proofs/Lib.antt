@@ -1,0 +1,5 @@
+pub mod Computed
+pub mod FloatOrder
+pub mod Orders
+pub mod Ranking
+pub mod Sorting

@@ -1,0 +1,208 @@
+-- A scan stays what its history leads to: an opened one, with no record yet; one that a record's answer enters; and one whose record was refused before it was read.
+-- Assumes nothing.
+use Prim.Native.Nat.{ℕ, zero, suc, _-_, min, _≤_, _<_}
+use mathlib.Core.Path.{_≡_, refl, sym, ap, _∙_, subst}
+use mathlib.Core.Bool.{true, false}
+use mathlib.Core.List.{List, [], _∷_}
+use mathlib.Core.Logic.{⊎-elim}
+use native.Mathlib.Nat.{mod-eq-of-lt}
+use native.Mathlib.Omega.{arith}
+use lib.Dec.{T, leb, ltb}
+use lib.ListN.{length, take, drop, getD, length-take, List·getD-map}
+use lib.Seq.{take-all, take-at, getD-take}
+use lib.Ieee.{Float, nan, lt}
+use lib.Ieee.Scale.{finite}
+use borrow.Author.Tests.{ltb-true, ltb-false, leb-false}
+use Rattle.error.specs.Answer.{Answer, value, refused, withdrawn}
+use Rattle.ranking.specs.declared.Hit.{Hit}
+use Rattle.ranking.specs.Ranked.{beats, sorted}
+use Rattle.ranking.specs.Sorting.{Finites}
+use Rattle.ranking.proofs.Ranking.{either, insert-at, none-before}
+use Rattle.scan.specs.declared.Scan.{Scan}
+use Rattle.scan.specs.Opening.{emptyOf}
+use Rattle.scan.specs.Entering.{most, roomOf, heldOf, placeUp, oneMore, withHit, sameHits, scoredIn, withAnswer, enterOf}
+use Rattle.scan.specs.Events.{Event}
+use Rattle.scan.specs.History.{numbered, acceptedOf, refusedOf, withdrawnOf, hitsOf, Led}
+use Rattle.scan.proofs.Placing.{place-within, place-beaten, place-stopped, between, put-length, put-count, put-in}
+use Rattle.scan.proofs.Histories.{FiniteAnswer, refused-few, withdrawn-few, numbered-full, numbered-next, numbered-skipped}
+use Rattle.scan.proofs.Hits.{hits-few, hits-next, finite-hits, falling-hits, newest}
+
+-- ---- opened, and refused before reading
+
+pub opened-led : (k : ℕ) → 1 ≤ k → k ≤ 64 → Led k [] (emptyOf k)
+unfolding emptyOf numbered acceptedOf sorted refusedOf withdrawnOf
+opened-led zero some few = absurd (omega arith)
+opened-led (suc k) some few = record {
+  some = some;
+  few = few;
+  long = refl;
+  numbers-room = few;
+  scores-room = few;
+  hits = record { kept = refl; numbers = refl; scores = refl };
+  counts = record { taken = refl; refusals = refl; withdrawals = refl };
+}
+
+-- a history that numbers the same leads to the same
+pub led-same : (k : ℕ) (es fs : List Event) (scan : Scan) → numbered fs ≡ numbered es → Led k es scan → Led k fs scan
+led-same k es fs scan e led = record {
+  some = led .some;
+  few = led .few;
+  long = led .long;
+  numbers-room = led .numbers-room;
+  scores-room = led .scores-room;
+  hits = record { kept = rw e (led .hits .kept); numbers = rw e (led .hits .numbers); scores = rw e (led .hits .scores) };
+  counts = record { taken = rw e (led .counts .taken); refusals = rw e (led .counts .refusals); withdrawals = rw e (led .counts .withdrawals) };
+}
+
+pub skipped-led : (k : ℕ) (es : List Event) (scan : Scan) (n p : ℕ) → Led k es scan → Led k (refused n p ∷ es) scan
+skipped-led k es scan n p led = led-same k es (refused n p ∷ es) scan (numbered-skipped es n p) led
+
+-- ---- a record's answer
+
+-- the last place: the kept hits or the last that has room
+least-above : (n kept k : ℕ) → n ≤ kept → n < k → n ≤ min kept (k - 1)
+least-above n kept k a b = omega arith
+
+least-below : (kept k n : ℕ) → 1 ≤ k → k ≤ n → min kept (k - 1) < n
+least-below kept k n a b = omega arith
+
+module _ (k : ℕ) (es : List Event) (scan : Scan) (led : Led k es scan) where
+  room-is : roomOf scan ≡ k
+  room-is = omega (arith, led .long, led .numbers-room, led .scores-room)
+
+  held-is : heldOf scan ≡ scan .tally .kept
+  held-is = omega (arith, room-is, led .hits .kept, hits-few k es)
+
+  module _ (free : leb most (scan .tally .taken) ≡ false) where
+    next : (a : Answer Float) → numbered (value a ∷ es) ≡ a ∷ numbered es
+    next a = numbered-next es a (rw (led .counts .taken) at free)
+
+    small : scan .tally .taken < most
+    small = leb-false most (scan .tally .taken) free
+
+    one-more : (n : ℕ) → n ≤ scan .tally .taken → oneMore n ≡ suc n
+    one-more n le = mod-eq-of-lt (omega (arith, small)) ∙ omega arith
+
+    -- neither hits nor room change
+    counted-led : (a : Answer Float) (hs : take k (sorted (acceptedOf (a ∷ numbered es))) ≡ hitsOf k es) (r w : ℕ) → r ≡ refusedOf (a ∷ numbered es) → w ≡ withdrawnOf (a ∷ numbered es)
+        → Led k (value a ∷ es) (sameHits scan r w)
+    counted-led a hs r w e g = record {
+      some = led .some;
+      few = led .few;
+      long = led .long;
+      numbers-room = led .numbers-room;
+      scores-room = led .scores-room;
+      hits = record {
+        kept = rw (next a, hs) (led .hits .kept);
+        numbers = rw (next a, hs) (led .hits .numbers);
+        scores = rw (next a, hs) (led .hits .scores);
+      };
+      counts = record { taken = rw (next a) (ap suc (led .counts .taken)); refusals = rw (next a) e; withdrawals = rw (next a) g };
+    }
+
+    refused-led : (n p : ℕ) → Led k (value (refused n p) ∷ es) (withAnswer scan (refused n p))
+    unfolding acceptedOf refusedOf withdrawnOf
+    refused-led n p =
+        counted-led (refused n p) refl (oneMore (scan .tally .refused)) (scan .tally .withdrawn)
+        (one-more (scan .tally .refused) (omega (arith, led .counts .taken, led .counts .refusals, refused-few (numbered es))) ∙ ap suc (led .counts .refusals))
+        (led .counts .withdrawals)
+
+    withdrawn-led : Led k (value withdrawn ∷ es) (withAnswer scan withdrawn)
+    unfolding acceptedOf refusedOf withdrawnOf
+    withdrawn-led =
+        counted-led withdrawn refl (scan .tally .refused) (oneMore (scan .tally .withdrawn))
+        (led .counts .refusals)
+        (one-more (scan .tally .withdrawn) (omega (arith, led .counts .taken, led .counts .withdrawals, withdrawn-few (numbered es))) ∙ ap suc (led .counts .withdrawals))
+
+    module _ (x : Float) (f : T (finite x)) (all : Finites (acceptedOf (numbered es))) where
+      abbrev at : ℕ
+      at = placeUp x (scan .scores) (heldOf scan)
+
+      abbrev none : Hit
+      none = record { number = 0; score = nan }
+
+      among : at ≤ scan .tally .kept
+      among = omega (arith, place-within x (scan .scores) (heldOf scan), held-is)
+
+      many : length (hitsOf k es) ≡ scan .tally .kept
+      many = sym (led .hits .kept)
+
+      score-at : (j : ℕ) → j < scan .tally .kept → getD (hitsOf k es) j none .score ≡ getD (scan .scores) j nan
+      score-at j l =
+          sym (List·getD-map (λ (h : Hit). h .score) (hitsOf k es) j none)
+          ∙ ap (λ (l : List Float). getD l j nan) (sym (led .hits .scores))
+          ∙ getD-take (scan .tally .kept) (scan .scores) j nan l
+
+      none-beaten : (j : ℕ) → j < at → beats (newest (numbered es) x) (getD (hitsOf k es) j none) ≡ false
+      unfolding beats
+      none-beaten j l =
+          none-before (at - 1) (newest (numbered es) x) none (hitsOf k es) f (finite-hits k es all) (falling-hits k es all) (omega (arith, among, many))
+          (ap (λ (y : Float). lt y x) (score-at (at - 1) (omega (arith, among))) ∙ place-stopped x (scan .scores) (heldOf scan) (omega arith))
+          j (omega arith)
+
+      -- the hits with the new one between them, as many as there is room for
+      hits-between : take k (sorted (acceptedOf (value x ∷ numbered es))) ≡ take k (between at (newest (numbered es) x) (hitsOf k es))
+      unfolding beats
+      hits-between =
+          hits-next k es x f all
+          ∙ ap (take k) (insert-at at (newest (numbered es) x) none (hitsOf k es) (omega (arith, among, many)) none-beaten
+          (λ l. ap (λ (y : Float). lt y x) (score-at at (omega (arith, many))) ∙ place-beaten x (scan .scores) (heldOf scan) at (omega arith) (omega (arith, many, held-is))))
+
+      -- behind all that there is room for: nothing moves
+      behind-led : roomOf scan ≤ at → Led k (value (value x) ∷ es) (sameHits scan (scan .tally .refused) (scan .tally .withdrawn))
+      unfolding refusedOf withdrawnOf
+      behind-led out =
+          counted-led (value x)
+          (hits-between
+          ∙ take-at (take at (hitsOf k es)) (newest (numbered es) x ∷ drop at (hitsOf k es)) k (omega (arith, length-take at (hitsOf k es), among, many, room-is, hits-few k es))
+          ∙ take-all at (hitsOf k es) (omega (arith, many, room-is, hits-few k es)))
+          (scan .tally .refused) (scan .tally .withdrawn) (led .counts .refusals) (led .counts .withdrawals)
+
+      -- among them: it is put in
+      among-led : at < roomOf scan → Led k (value (value x) ∷ es) (withHit scan at x)
+      unfolding refusedOf withdrawnOf
+      among-led room =
+          let hit = newest (numbered es) x in
+          let kept = scan .tally .kept in
+          let last : min (heldOf scan) (roomOf scan - 1) ≡ min kept (k - 1) = ap (λ (n : ℕ). min n (roomOf scan - 1)) held-is ∙ ap (λ (n : ℕ). min kept (n - 1)) room-is in
+          let free : at < k = subst (λ (n : ℕ). at < n) room-is room in
+          let full : kept ≤ k = omega (arith, many, hits-few k es) in
+          let within : at ≤ min kept (k - 1) = least-above at kept k among free in
+          record {
+            some = led .some;
+            few = led .few;
+            long = led .long;
+            numbers-room = rw (last, put-length at (min kept (k - 1)) (scan .tally .taken) (scan .numbers) within (least-below kept k (length (scan .numbers)) (led .some) (led .numbers-room))) (led .numbers-room);
+            scores-room = rw (last, put-length at (min kept (k - 1)) x (scan .scores) within (least-below kept k (length (scan .scores)) (led .some) (led .scores-room))) (led .scores-room);
+            hits = record {
+              kept = rw (next (value x), hits-between, last) (sym (put-count (λ (h : Hit). h .number) hit (hitsOf k es) (scan .numbers) at kept k (led .hits .numbers) (led .hits .kept) among full free (led .numbers-room)));
+              numbers = rw (next (value x), hits-between, last, led .counts .taken) (put-in (λ (h : Hit). h .number) hit (hitsOf k es) (scan .numbers) at kept k (led .hits .numbers) (led .hits .kept) among full free (led .numbers-room));
+              scores = rw (next (value x), hits-between, last) (put-in (λ (h : Hit). h .score) hit (hitsOf k es) (scan .scores) at kept k (led .hits .scores) (led .hits .kept) among full free (led .scores-room));
+            };
+            counts = record {
+              taken = rw (next (value x)) (ap suc (led .counts .taken));
+              refusals = rw (next (value x)) (led .counts .refusals);
+              withdrawals = rw (next (value x)) (led .counts .withdrawals);
+            };
+          }
+
+      scored-led : Led k (value (value x) ∷ es) (scoredIn scan at x)
+      scored-led =
+          ⊎-elim
+          (λ (b : ltb at (roomOf scan) ≡ true). rw b (among-led (ltb-true at (roomOf scan) b)))
+          (λ (b : ltb at (roomOf scan) ≡ false). rw b (behind-led (ltb-false at (roomOf scan) b)))
+          (either (ltb at (roomOf scan)))
+
+    numbered-led : (a : Answer Float) → FiniteAnswer a → Finites (acceptedOf (numbered es)) → Led k (value a ∷ es) (withAnswer scan a)
+    numbered-led (value x) f all = scored-led x f all
+    numbered-led (refused n p) f all = refused-led n p
+    numbered-led withdrawn f all = withdrawn-led
+
+pub entered-led : (k : ℕ) (es : List Event) (scan : Scan) (a : Answer Float) → FiniteAnswer a → Finites (acceptedOf (numbered es)) → Led k es scan
+    → Led k (value a ∷ es) (enterOf scan a)
+unfolding enterOf
+entered-led k es scan a f all led =
+    ⊎-elim
+    (λ (b : leb most (scan .tally .taken) ≡ true). rw b (led-same k es (value a ∷ es) scan (numbered-full es a (rw (led .counts .taken) at b)) led))
+    (λ (b : leb most (scan .tally .taken) ≡ false). rw b (numbered-led k es scan led b a f all))
+    (either (leb most (scan .tally .taken)))

@@ -1,0 +1,78 @@
+-- The scan that a history leads to. A history is what scoring answered of each record that was lent, from the newest on, with the phase of a refusal. Document 02,
+-- request a): 'Records number from 0, refused ones too. Hits stand by falling score; equal scores, both zeros included, stand by number. A refused record takes its
+-- number, is counted as refused and changes nothing else .. After each record the list is what a full sort of the accepted records so far would give in its first k
+-- places .. a refusal before record reading is answered, numbers nothing and leaves the scan unchanged, and any later refusal makes a refused record.' Request b):
+-- 'A scan numbers it and counts it as withdrawn.' Assumes nothing.
+use Prim.Native.Nat.{ℕ, suc, _≤_}
+use mathlib.Core.Path.{_≡_}
+use mathlib.Core.Bool.{cond}
+use mathlib.Core.List.{List, [], _∷_, _++_, map}
+use lib.Dec.{leb}
+use lib.ListN.{length, take}
+use lib.Ieee.{Float}
+use Rattle.error.specs.Answer.{Answer, value, refused, withdrawn}
+use Rattle.ranking.specs.declared.Hit.{Hit}
+use Rattle.ranking.specs.Ranked.{sorted}
+use Rattle.scan.specs.declared.Tally.{Tally}
+use Rattle.scan.specs.declared.Scan.{Scan}
+use Rattle.scan.specs.Entering.{most}
+use Rattle.scan.specs.Events.{Event}
+
+-- One more answer, where it takes a number.
+abbrev pub numberedBy : Event → List (Answer Float) → List (Answer Float)
+numberedBy (value a) earlier = cond (leb most (length earlier)) earlier (a ∷ earlier)
+numberedBy (refused n p) earlier = earlier
+numberedBy withdrawn earlier = earlier
+
+-- These are the answers of the records that took a number, from the newest on: the number of each is how many were there before it. '22 when the scan has already
+-- taken 4,294,967,295 records .. the scan is then unchanged.'
+unfoldable pub numbered : List Event → List (Answer Float)
+numbered [] = []
+numbered (e ∷ es) = numberedBy e (numbered es)
+
+-- These are the accepted records with their numbers, from the oldest on.
+unfoldable pub acceptedOf : List (Answer Float) → List Hit
+acceptedOf [] = []
+acceptedOf (value x ∷ rest) = acceptedOf rest ++ (record { number = length rest; score = x } ∷ [])
+acceptedOf (refused n p ∷ rest) = acceptedOf rest
+acceptedOf (withdrawn ∷ rest) = acceptedOf rest
+
+-- '.. is counted as refused'.
+unfoldable pub refusedOf : List (Answer Float) → ℕ
+refusedOf [] = 0
+refusedOf (value x ∷ rest) = refusedOf rest
+refusedOf (refused n p ∷ rest) = suc (refusedOf rest)
+refusedOf (withdrawn ∷ rest) = refusedOf rest
+
+-- '.. counts it as withdrawn'.
+unfoldable pub withdrawnOf : List (Answer Float) → ℕ
+withdrawnOf [] = 0
+withdrawnOf (value x ∷ rest) = withdrawnOf rest
+withdrawnOf (refused n p ∷ rest) = withdrawnOf rest
+withdrawnOf (withdrawn ∷ rest) = suc (withdrawnOf rest)
+
+-- 'the list is what a full sort of the accepted records so far would give in its first k places'
+abbrev pub hitsOf : ℕ → List Event → List Hit
+hitsOf k es = take k (sorted (acceptedOf (numbered es)))
+
+-- The hits of a scan are those of the history. Behind them its lists may hold anything.
+pub record Holds (k : ℕ) (es : List Event) (scan : Scan) : Type 0 where
+  pub kept : scan .tally .kept ≡ length (hitsOf k es)
+  pub numbers : take (scan .tally .kept) (scan .numbers) ≡ map (λ (h : Hit). h .number) (hitsOf k es)
+  pub scores : take (scan .tally .kept) (scan .scores) ≡ map (λ (h : Hit). h .score) (hitsOf k es)
+
+-- The counts of a scan are those of the history.
+pub record Counts (es : List Event) (tally : Tally) : Type 0 where
+  pub taken : tally .taken ≡ length (numbered es)
+  pub refusals : tally .refused ≡ refusedOf (numbered es)
+  pub withdrawals : tally .withdrawn ≡ withdrawnOf (numbered es)
+
+-- A scan of length k is what the history leads to.
+pub record Led (k : ℕ) (es : List Event) (scan : Scan) : Type 0 where
+  pub some : 1 ≤ k
+  pub few : k ≤ 64
+  pub long : scan .tally .length ≡ k
+  pub numbers-room : k ≤ length (scan .numbers)
+  pub scores-room : k ≤ length (scan .scores)
+  pub hits : Holds k es scan
+  pub counts : Counts es (scan .tally)

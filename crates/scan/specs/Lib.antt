@@ -1,0 +1,5 @@
+pub mod Scans
+pub mod Opening
+pub mod Entering
+pub mod Events
+pub mod History

@@ -1,0 +1,3 @@
+pub mod Filling
+pub mod Closing
+pub mod Facts

@@ -1,0 +1,82 @@
+-- What entering a record's answer comes to, case by case: the scan is full, the record is refused or withdrawn, its score stands behind all that have room, or it is
+-- put in. Assumes nothing.
+use Prim.Native.Nat.{ℕ, suc, _+_, _-_, _%_, _^_, min, _≤_, _<_}
+use mathlib.Core.Path.{_≡_, sym, ap, ap₂, _∙_}
+use mathlib.Core.Bool.{Bool, cond}
+use mathlib.Core.List.{List}
+use native.Mathlib.Omega.{arith}
+use borrow.Author.Tests.{lt-ltb, le-ltb, le-leb, lt-leb}
+use lib.ListN.{length}
+use lib.Ieee.{Float}
+use Rattle.error.specs.Answer.{Answer, value, refused, withdrawn}
+use Rattle.error.specs.Outcomes.{saysScore}
+use Rattle.error.specs.declared.Scored.{Scored}
+use Rattle.error.specs.declared.Scored.the-variants.{Score, Refused, Withdrawn}
+use Rattle.scan.specs.declared.Tally.{Tally}
+use Rattle.scan.specs.declared.Scan.{Scan}
+use Rattle.scan.specs.Scans.{scanOf, tallyOf}
+use Rattle.scan.specs.Entering.{most, roomOf, heldOf, placeUp, putIn, scoredIn, withHit, sameHits, withAnswer, enterOf}
+
+one-more : (n : ℕ) → n + 1 ≡ suc n
+one-more n = omega arith
+
+module _ (t : Tally) (ns : List ℕ) (ss : List Float) where
+  abbrev scan : Scan
+  scan = scanOf t ns ss
+
+  -- the taken are counted as the program counts them
+  counted-more : (refusals withdrawals : ℕ) → scanOf (tallyOf (t .length) (t .kept) (t .taken + 1) refusals withdrawals) ns ss ≡ sameHits scan refusals withdrawals
+  counted-more refusals withdrawals = ap (λ (n : ℕ). scanOf (tallyOf (t .length) (t .kept) n refusals withdrawals) ns ss) (one-more (t .taken))
+
+  -- two scans of the same length and counts of refused and withdrawn, part by part
+  alike : {k k' n n' : ℕ} {ms ms' : List ℕ} {bs bs' : List Float} → k ≡ k' → n ≡ n' → ms ≡ ms' → bs ≡ bs'
+      → scanOf (tallyOf (t .length) k n (t .refused) (t .withdrawn)) ms bs ≡ scanOf (tallyOf (t .length) k' n' (t .refused) (t .withdrawn)) ms' bs'
+  alike {k' = k'} {n = n} {n' = n'} {ms = ms} {ms' = ms'} {bs = bs} a b c d =
+      ap (λ (m : ℕ). scanOf (tallyOf (t .length) m n (t .refused) (t .withdrawn)) ms bs) a
+      ∙ ap (λ (m : ℕ). scanOf (tallyOf (t .length) k' m (t .refused) (t .withdrawn)) ms bs) b
+      ∙ ap (λ (l : List ℕ). scanOf (tallyOf (t .length) k' n' (t .refused) (t .withdrawn)) l bs) c
+      ∙ ap (scanOf (tallyOf (t .length) k' n' (t .refused) (t .withdrawn)) ms') d
+
+  -- ---- a score
+
+  module _ (x : Float) {rest room held at : ℕ} (shorter : rest ≡ min (length ns) (length ss)) (roomy : room ≡ min (t .length) rest) (there : held ≡ min (t .kept) room) (placed : at ≡ placeUp x ss held) where
+    room-is : room ≡ roomOf scan
+    room-is = roomy ∙ ap (min (t .length)) shorter
+
+    held-is : held ≡ heldOf scan
+    held-is = there ∙ ap (min (t .kept)) room-is
+
+    place-is : placeUp x ss (heldOf scan) ≡ at
+    place-is = sym (placed ∙ ap (placeUp x ss) held-is)
+
+    pub entered-out : room ≤ at → scanOf (tallyOf (t .length) (t .kept) (t .taken + 1) (t .refused) (t .withdrawn)) ns ss ≡ scoredIn scan (placeUp x ss (heldOf scan)) x
+    entered-out h =
+        counted-more (t .refused) (t .withdrawn)
+        ∙ sym (ap (λ (b : Bool). cond b (withHit scan (placeUp x ss (heldOf scan)) x) (sameHits scan (t .refused) (t .withdrawn))) (le-ltb (placeUp x ss (heldOf scan)) (roomOf scan) (omega (arith, h, room-is, place-is))))
+
+    pub entered-in : {last : ℕ} {ns' : List ℕ} {ss' : List Float} → at < room → last ≡ min held (room - 1) → ns' ≡ putIn at last (t .taken) ns → ss' ≡ putIn at last x ss
+        → scanOf (tallyOf (t .length) (last + 1) (t .taken + 1) (t .refused) (t .withdrawn)) ns' ss' ≡ scoredIn scan (placeUp x ss (heldOf scan)) x
+    entered-in {last} h l n s =
+        let end : last ≡ min (heldOf scan) (roomOf scan - 1) = l ∙ ap (λ (m : ℕ). min m (room - 1)) held-is ∙ ap (λ (m : ℕ). min (heldOf scan) (m - 1)) room-is in
+        alike (one-more last ∙ ap suc end) (one-more (t .taken)) (n ∙ ap₂ (λ (i j : ℕ). putIn i j (t .taken) ns) (sym place-is) end) (s ∙ ap₂ (λ (i j : ℕ). putIn i j x ss) (sym place-is) end)
+        ∙ sym (ap (λ (b : Bool). cond b (withHit scan (placeUp x ss (heldOf scan)) x) (sameHits scan (t .refused) (t .withdrawn))) (lt-ltb (placeUp x ss (heldOf scan)) (roomOf scan) (omega (arith, h, room-is, place-is))))
+
+  -- ---- the whole
+
+  pub entered-full : (a : Answer Float) → most ≤ t .taken → scan ≡ enterOf scan a
+  unfolding enterOf
+  entered-full a h = sym (simp (le-leb most (t .taken) h))
+
+  module _ (h : t .taken < most) (said : Scored) where
+    entered-some : (a : Answer Float) → saysScore said ≡ a → withAnswer scan a ≡ enterOf scan (saysScore said)
+    unfolding enterOf
+    entered-some a e = sym (simp (lt-leb most (t .taken) h) (ap (withAnswer scan) e))
+
+    pub entered-scored : (x : Float) {r : Scan} → said ≡ Score x → r ≡ scoredIn scan (placeUp x ss (heldOf scan)) x → r ≡ enterOf scan (saysScore said)
+    entered-scored x e f = f ∙ entered-some (value x) (ap saysScore e)
+
+    pub entered-refused : (n p : ℕ) {r : ℕ} → said ≡ Refused n p → r ≡ (t .refused + 1) % 2 ^ 32 → scanOf (tallyOf (t .length) (t .kept) (t .taken + 1) r (t .withdrawn)) ns ss ≡ enterOf scan (saysScore said)
+    entered-refused n p {r} e f = counted-more r (t .withdrawn) ∙ ap (λ (m : ℕ). sameHits scan m (t .withdrawn)) f ∙ entered-some (refused n p) (ap saysScore e)
+
+    pub entered-withdrawn : {r : ℕ} → said ≡ Withdrawn → r ≡ (t .withdrawn + 1) % 2 ^ 32 → scanOf (tallyOf (t .length) (t .kept) (t .taken + 1) (t .refused) r) ns ss ≡ enterOf scan (saysScore said)
+    entered-withdrawn {r} e f = counted-more (t .refused) r ∙ ap (sameHits scan (t .refused)) f ∙ entered-some withdrawn (ap saysScore e)

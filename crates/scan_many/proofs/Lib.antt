@@ -1,0 +1,3 @@
+pub mod Many
+pub mod Answers
+pub mod Led
