@@ -1,9 +1,9 @@
 /*
- * Foldrima: the C functions of the proved port of turbo-quant, one for each call of document 01, one for a record's length, and two for document
- * 02's stored rotation. For 64-bit x86 only: libcapi.a is an archive for x86-64 Linux.
+ * Foldrima: the C functions of the proved port of turbo-quant, one for each call of document 01, one for a record's length, and of document 02 two for
+ * the stored rotation and five for the scan. For 64-bit x86 only: libcapi.a is an archive for x86-64 Linux.
  *
- * A signature here is that of the function of the same name in crates/capi; a test of host/foldrima holds the two, and the numbers below, against the
- * sources.
+ * A signature here is that of the function of the same name in crates/capi; a test of host/foldrima holds the two, and the structs and numbers below,
+ * against the sources.
  *
  * Slices. A slice is a pointer and a length in elements. The pointer is valid and aligned for so many elements. Where the length is 0 it may be
  * anything, NULL too: nothing is read or written through it (tested for every slice of every call). All other pointers (number, place, value, min, max,
@@ -15,7 +15,7 @@
  *
  * Withdrawn positions. A record of no bytes means that a position was withdrawn: that is no refusal, and there is no value. Only a call that takes a
  * record answers so, and its comment says where withdrawn comes in its order; a record of 1 to 5 bytes is refused (13). The calls that find a record's
- * parts have no *number: of a record that is refused or withdrawn they find an empty part.
+ * parts have no *number: of a record that is refused or withdrawn they find an empty part. foldrima_scan_take_many takes many and only counts it.
  *
  * Norms. A record with signs may have the norm of its source, a float that the residual's scale is multiplied by; without one the norm is 1.0. Writing
  * takes one that is given or absent: has_norm 0 is absent, and norm then ignored; every other has_norm is given. It is stored exactly where it is given,
@@ -41,15 +41,33 @@
  *     write_record                    foldrima_record_size(profile, dim, bits, mode, projections, has_norm, ..)
  *     read_radii, read_indices        dim / 2, with dim from foldrima_read_record
  *     read_signs                      projections from foldrima_read_record
+ *     scan_close                      tally.kept of the scan
  *
- * Memory and threads. No call allocates, and none keeps anything after it returns, a pointer neither: there is no state, so calls may run in any number
- * of threads at once, as long as none writes what another is lent.
+ * Scans. A scan keeps the best of a stream of records under a query. The caller holds it, as a foldrima_scan that foldrima_scan_open answers; records are
+ * taken into it singly or many at once, and it is closed into a list of hits. Records number from 0 in the order in which they are taken, refused and
+ * withdrawn ones too. Hits stand by falling score, and equal scores, both zeros included, by number: after each record they are the first `length` that
+ * a full sort of the accepted records so far would give.
+ *
+ * A call that takes records is given the tally by value and the two lists in place, and answers the tally that follows, which the caller keeps for the
+ * next call. The lists are no outputs as above: they hold the scan's hits, are read, and are written only where a record comes to stand among these.
+ * Behind the hits kept they may hold anything. foldrima_take_into and its two companions below do this to a foldrima_scan. A tally that is answered
+ * tells whether the record took a number: taken is then one more. So it is beside a value, beside withdrawn, and beside a refusal from the record's
+ * reading on, which is counted in refused too; a refusal before it, of the scan (22), the setup or the query, numbers nothing and leaves all as it was.
+ * The same numbers can come from either side, so *number does not tell the two apart.
+ *
+ * A scan may be copied, and laid away and taken up again, as any struct. On a tally or lists that these calls did not lead to, a call still ends and stays
+ * within what it is lent: there is room for as many hits as the least of length, numbers_len and scores_len. foldrima_tally ends in four bytes of padding
+ * that nothing is said of: compare scans by their fields.
+ *
+ * Memory and threads. No call allocates, and none keeps anything after it returns, a pointer neither: there is no state but what the caller holds, so
+ * calls may run in any number of threads at once, as long as none writes what another is lent.
  *
  * Stack. Whatever it is lent, a call takes at most (host/c/stack.c measures every call at the largest setup):
  *
- *     inner_product_estimate, l2_distance_estimate                60 KB
+ *     inner_product_estimate, l2_distance_estimate, scan_take     60 KB
  *     prepare_query                                               48 KB
- *     sketch, sketch_score, inner_product_estimate_prepared       24 KB
+ *     sketch, sketch_score, inner_product_estimate_prepared,
+ *     scan_take_prepared, scan_take_many                          24 KB
  *     decode_approximate, stored_apply and its inverse             8 KB
  *     every other call                                             4 KB
  *
@@ -113,7 +131,7 @@ extern "C" {
 #define FOLDRIMA_ZERO_DIMENSION 2         /* dimension 0; place 0 */
 #define FOLDRIMA_ODD_DIMENSION 3          /* odd dimension; place: the dimension */
 #define FOLDRIMA_ROTATION_FAILED 4        /* Hadamard: an even dimension, no power of two or above 4,096; a record: above 4,096; place: the dimension */
-#define FOLDRIMA_DIMENSION_MISMATCH 5     /* an input's length, or a record's dimension, is not the setup's; place: what was found */
+#define FOLDRIMA_DIMENSION_MISMATCH 5     /* an input's length, or a record's dimension, is not the setup's; an end is wrong; place: what was found */
 #define FOLDRIMA_OUTPUT_LENGTH 6          /* an output isn't exactly the needed length; place: the needed length */
 #define FOLDRIMA_INVALID_DIRECTION 7      /* a direction entry is not finite or outside -1..1; place: its index */
 #define FOLDRIMA_ZERO_PROJECTION_COUNT 8  /* in residual mode, projections 0 or above 4,096; place: the count */
@@ -129,6 +147,8 @@ extern "C" {
 #define FOLDRIMA_UNDEFINED_PROFILE 18     /* a map bit not defined, a norm without signs, or BlockLogU8; place: the map byte in reading, else 0 */
 #define FOLDRIMA_LENGTH_OVERFLOW 19       /* count times bits exceeds the largest size_t; place 0 */
 #define FOLDRIMA_PROFILE_MISMATCH 20      /* a record's bits or projections are not the setup's; place 0 */
+#define FOLDRIMA_SCAN_LENGTH 21           /* a scan's length is 0 or above 64; place 0 */
+#define FOLDRIMA_SCAN_FULL 22             /* a scan has taken 4,294,967,295 records, or has fewer numbers left than there are records; place 0 */
 #define FOLDRIMA_MALFORMED_NORM 23        /* a norm is not finite or below zero; place 0 */
 #define FOLDRIMA_STORED_DIMENSION 26      /* a stored rotation's dimension is above 512; place 0 */
 
@@ -296,6 +316,95 @@ void foldrima_read_indices(const uint8_t *bytes, size_t bytes_len, uint16_t *out
 
 /* The signs of a record (its projections; none where it has no signs): withdrawn, the reading's refusals, 6. */
 void foldrima_read_signs(const uint8_t *bytes, size_t bytes_len, int8_t *out, size_t out_len, uint32_t *number, size_t *place);
+
+/* ---- the scan */
+
+/* What a scan counts. */
+typedef struct foldrima_tally {
+    size_t length;       /* how many hits it keeps at most, 1 to 64 */
+    size_t kept;         /* how many it has */
+    uint32_t taken;      /* how many records took a number; the next one's number */
+    uint32_t refused;    /* how many of these were refused */
+    uint32_t withdrawn;  /* how many of these were withdrawn */
+} foldrima_tally;
+
+/* A scan: its counts, and its hits in their order, the number and the score of each. */
+typedef struct foldrima_scan {
+    foldrima_tally tally;
+    uint32_t numbers[64];
+    float scores[64];
+} foldrima_scan;
+
+/* A record among the best of a scan. */
+typedef struct foldrima_hit {
+    uint32_t number;
+    float score;
+} foldrima_hit;
+
+/* A scan that keeps so many hits at most, with none taken: 21. Beside a 21 it answers an empty scan of length 1. */
+foldrima_scan foldrima_scan_open(size_t length, uint32_t *number, size_t *place);
+
+/* Takes one record under a setup and a query; *value is its score: 22, then foldrima_inner_product_estimate's, of which withdrawn and those behind it
+ * have taken a number. */
+foldrima_tally foldrima_scan_take(foldrima_tally tally, uint32_t *numbers, size_t numbers_len, float *scores, size_t scores_len, uint8_t mode,
+                                  size_t dim, uint8_t bits, size_t projections, uint8_t kind, const float *rotation, size_t rotation_len,
+                                  const float *directions, size_t directions_len, const float *matrix, size_t matrix_len, const float *query,
+                                  size_t query_len, const uint8_t *bytes, size_t bytes_len, uint32_t *number, size_t *place, float *value);
+
+/* Takes one record by a prepared query: 22, then foldrima_inner_product_estimate_prepared's, of which withdrawn and those behind it have taken a
+ * number. */
+foldrima_tally foldrima_scan_take_prepared(foldrima_tally tally, uint32_t *numbers, size_t numbers_len, float *scores, size_t scores_len, uint8_t mode,
+                                           size_t dim, uint8_t bits, size_t projections, uint8_t kind, const float *directions, size_t directions_len,
+                                           const float *rotated, size_t rotated_len, const float *projected, size_t projected_len,
+                                           const uint8_t *bytes, size_t bytes_len, uint32_t *number, size_t *place, float *value);
+
+/* Takes many records by a prepared query, all of them or none. Their bytes stand one behind the other, from the first byte on, and ends has the end of
+ * each: a record of no bytes has that of the one before it. 22 where fewer numbers are left than records; then the prepared score's checks up to
+ * withdrawn, which are made once for all; then 5 for the first end that lies before the one in front of it or behind the bytes, with that end as the
+ * place. Each record then takes its number as it would singly: a refusal of its own is counted and not answered. Bytes behind the last end are not
+ * looked at. */
+foldrima_tally foldrima_scan_take_many(foldrima_tally tally, uint32_t *numbers, size_t numbers_len, float *scores, size_t scores_len, uint8_t mode,
+                                       size_t dim, uint8_t bits, size_t projections, uint8_t kind, const float *directions, size_t directions_len,
+                                       const float *rotated, size_t rotated_len, const float *projected, size_t projected_len, const uint8_t *bytes,
+                                       size_t bytes_len, const size_t *ends, size_t ends_len, uint32_t *number, size_t *place);
+
+/* Writes the hits of a scan, in their order: 6. The scan stays as it is, and may take further records. */
+void foldrima_scan_close(foldrima_scan scan, foldrima_hit *out, size_t out_len, uint32_t *number, size_t *place);
+
+/* The same three calls on a foldrima_scan in place. The first two answer 1 where the record took a number and 0 where it did not; the third answers 1
+ * where the records were taken and 0 where none was. */
+static inline int foldrima_take_into(foldrima_scan *scan, uint8_t mode, size_t dim, uint8_t bits, size_t projections, uint8_t kind,
+                                     const float *rotation, size_t rotation_len, const float *directions, size_t directions_len, const float *matrix,
+                                     size_t matrix_len, const float *query, size_t query_len, const uint8_t *bytes, size_t bytes_len,
+                                     uint32_t *number, size_t *place, float *value)
+{
+    const uint32_t before = scan->tally.taken;
+    scan->tally = foldrima_scan_take(scan->tally, scan->numbers, 64, scan->scores, 64, mode, dim, bits, projections, kind, rotation, rotation_len,
+                                     directions, directions_len, matrix, matrix_len, query, query_len, bytes, bytes_len, number, place, value);
+    return scan->tally.taken != before;
+}
+
+static inline int foldrima_take_prepared_into(foldrima_scan *scan, uint8_t mode, size_t dim, uint8_t bits, size_t projections, uint8_t kind,
+                                              const float *directions, size_t directions_len, const float *rotated, size_t rotated_len,
+                                              const float *projected, size_t projected_len, const uint8_t *bytes, size_t bytes_len,
+                                              uint32_t *number, size_t *place, float *value)
+{
+    const uint32_t before = scan->tally.taken;
+    scan->tally = foldrima_scan_take_prepared(scan->tally, scan->numbers, 64, scan->scores, 64, mode, dim, bits, projections, kind, directions,
+                                              directions_len, rotated, rotated_len, projected, projected_len, bytes, bytes_len, number, place, value);
+    return scan->tally.taken != before;
+}
+
+static inline int foldrima_take_many_into(foldrima_scan *scan, uint8_t mode, size_t dim, uint8_t bits, size_t projections, uint8_t kind,
+                                          const float *directions, size_t directions_len, const float *rotated, size_t rotated_len,
+                                          const float *projected, size_t projected_len, const uint8_t *bytes, size_t bytes_len, const size_t *ends,
+                                          size_t ends_len, uint32_t *number, size_t *place)
+{
+    scan->tally = foldrima_scan_take_many(scan->tally, scan->numbers, 64, scan->scores, 64, mode, dim, bits, projections, kind, directions,
+                                          directions_len, rotated, rotated_len, projected, projected_len, bytes, bytes_len, ends, ends_len, number,
+                                          place);
+    return *number == 0;
+}
 
 #ifdef __cplusplus
 }

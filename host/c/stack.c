@@ -32,6 +32,8 @@ static uint8_t payload[2 * MOST], packed[MOST], packed_signs[MOST / 8], record[8
 static size_t record_len, less_len, packed_len;
 static uint32_t number;
 static size_t place;
+static foldrima_scan scan;
+static foldrima_hit hits[64];
 
 #define SETUP FOLDRIMA_POLAR_WITH_QJL, DIM, BITS, ROWS, FOLDRIMA_FAST_HADAMARD
 #define TABLES signs, DIM, directions, TABLE, matrix, ROWS *DIM
@@ -93,6 +95,25 @@ static void prepared_score(void)
 static void distance(void) { float value; foldrima_l2_distance_estimate(SETUP, TABLES, query, DIM, record, record_len, &number, &place, &value); }
 static void decode(void) { foldrima_decode_approximate(SETUP, TABLES, record, record_len, floats, DIM, &number, &place); }
 
+/* A scan is given 64 hits, all of which the record's score moves down; `many` has the record, a withdrawn position and a byte that is no record. */
+static void scan_open(void) { scan = foldrima_scan_open(64, &number, &place); }
+static void scan_close(void) { foldrima_scan_close(scan, hits, 64, &number, &place); }
+static void scan_take(void)
+{
+    float value;
+    foldrima_take_into(&scan, SETUP, TABLES, query, DIM, record, record_len, &number, &place, &value);
+}
+static void scan_take_prepared(void)
+{
+    float value;
+    foldrima_take_prepared_into(&scan, SETUP, directions, TABLE, rotated, DIM, projected, ROWS, record, record_len, &number, &place, &value);
+}
+static void scan_take_many(void)
+{
+    const size_t ends[3] = {record_len, record_len, record_len + 1};
+    foldrima_take_many_into(&scan, SETUP, directions, TABLE, rotated, DIM, projected, ROWS, record, record_len + 1, ends, 3, &number, &place);
+}
+
 /* The same under the stored rotation. */
 static void stored_check(void) { foldrima_check_setup(STORED_SETUP, STORED_TABLES, &number, &place); }
 static void stored_sketch(void) { foldrima_sketch(STORED_SETUP, STORED_TABLES, query, LESS, sketch, ROWS, &number, &place); }
@@ -118,6 +139,21 @@ static void stored_distance(void)
     foldrima_l2_distance_estimate(STORED_SETUP, STORED_TABLES, query, LESS, less, less_len, &number, &place, &value);
 }
 static void stored_decode(void) { foldrima_decode_approximate(STORED_SETUP, STORED_TABLES, less, less_len, floats, LESS, &number, &place); }
+static void stored_take(void)
+{
+    float value;
+    foldrima_take_into(&scan, STORED_SETUP, STORED_TABLES, query, LESS, less, less_len, &number, &place, &value);
+}
+static void stored_take_prepared(void)
+{
+    float value;
+    foldrima_take_prepared_into(&scan, STORED_SETUP, directions, TABLE, rotated, LESS, projected, ROWS, less, less_len, &number, &place, &value);
+}
+static void stored_take_many(void)
+{
+    const size_t ends[3] = {less_len, less_len, less_len + 1};
+    foldrima_take_many_into(&scan, STORED_SETUP, directions, TABLE, rotated, LESS, projected, ROWS, less, less_len + 1, ends, 3, &number, &place);
+}
 
 static void *run(void *call)
 {
@@ -190,6 +226,10 @@ static void fill(int what)
     pack_signs();
     record_len = recorded(record, DIM);
     less_len = recorded(less, LESS);
+    scan = foldrima_scan_open(64, &number, &place);
+    for (uint32_t i = 0; i < 64; i++)
+        scan.numbers[i] = i, scan.scores[i] = -3.0e38f;
+    scan.tally.kept = scan.tally.taken = 64;
 }
 
 /* Spoils the inputs, or puts the tables right again. */
@@ -234,7 +274,10 @@ int main(void)
         {"sketch, stored", stored_sketch, 24 * KB}, {"sketch_score, stored", stored_sketch_score, 24 * KB},
         {"prepare_query, stored", stored_prepare, 48 * KB}, {"inner_product_estimate, stored", stored_score, 60 * KB},
         {"prepared score, stored", stored_prepared_score, 24 * KB}, {"l2_distance_estimate, stored", stored_distance, 60 * KB},
-        {"decode_approximate, stored", stored_decode, 8 * KB},
+        {"decode_approximate, stored", stored_decode, 8 * KB}, {"scan_open", scan_open, 4 * KB}, {"scan_take", scan_take, 60 * KB},
+        {"scan_take_prepared", scan_take_prepared, 24 * KB}, {"scan_take_many", scan_take_many, 24 * KB}, {"scan_close", scan_close, 4 * KB},
+        {"scan_take, stored", stored_take, 60 * KB}, {"scan_take_prepared, stored", stored_take_prepared, 24 * KB},
+        {"scan_take_many, stored", stored_take_many, 24 * KB},
     };
     enum { CALLS = sizeof calls / sizeof *calls };
     static size_t most[CALLS];

@@ -3,6 +3,8 @@
 // The port's forms are unused while it is not there.
 #![cfg_attr(not(feature = "capi"), allow(dead_code))]
 
+use std::{cmp::Ordering, collections::BinaryHeap, hint::black_box, sync::OnceLock};
+
 use cases::{record, rng::Rng};
 use oracle::{
     packed::PackedTurboCode,
@@ -65,6 +67,76 @@ pub struct Turbo {
     pub record: Vec<u8>,
 }
 
+/// So many records are scanned, for so many hits.
+pub const SCANNED: usize = 1_000_000;
+pub const BEST: usize = 10;
+
+/// So many of them are distinct; the others repeat these in their order.
+const DISTINCT: usize = 4096;
+
+/// The records of a scan under the setup and the query of `Turbo`: a pool of codes, and the pool's
+/// records one behind the other.
+pub struct Archive {
+    codes: Vec<TurboCode>,
+    pool: Vec<u8>,
+    /// The length of each record.
+    pub size: usize,
+    all: OnceLock<Vec<u8>>,
+}
+
+/// A hit of the Rust's side. The greatest of several is the worst: the least score, and of equal
+/// ones the highest number.
+#[derive(Debug, Clone, Copy, PartialEq)]
+pub struct Hit {
+    pub number: u32,
+    pub score: f32,
+}
+
+impl Eq for Hit {}
+
+impl Ord for Hit {
+    fn cmp(&self, other: &Self) -> Ordering {
+        let by_score = other.score.partial_cmp(&self.score).expect("a score is NaN");
+        by_score.then(self.number.cmp(&other.number))
+    }
+}
+
+impl PartialOrd for Hit {
+    fn partial_cmp(&self, other: &Self) -> Option<Ordering> {
+        Some(self.cmp(other))
+    }
+}
+
+impl Archive {
+    /// The best of all records, as the Rust finds them: a score for each code, and a heap.
+    pub fn best(&self, turbo: &Turbo) -> Vec<Hit> {
+        let query = black_box(&turbo.prepared);
+        let mut heap = BinaryHeap::with_capacity(BEST);
+        for (number, code) in (0..SCANNED as u32).zip(self.codes.iter().cycle()) {
+            let score = turbo.quantizer.inner_product_estimate_prepared(code, query).unwrap();
+            let hit = Hit { number, score };
+            if heap.len() < BEST {
+                heap.push(hit);
+            } else if let Some(mut worst) = heap.peek_mut().filter(|worst| hit < **worst) {
+                *worst = hit;
+            }
+        }
+        heap.into_sorted_vec()
+    }
+
+    /// All records one behind the other. They are laid out when they are first asked for.
+    pub fn all(&self) -> &[u8] {
+        self.all.get_or_init(|| {
+            let mut all = Vec::with_capacity(SCANNED * self.size);
+            while all.len() < SCANNED * self.size {
+                all.extend_from_slice(&self.pool);
+            }
+            all.truncate(SCANNED * self.size);
+            all
+        })
+    }
+}
+
 pub struct Inputs {
     pub indices: Vec<Indices>,
     pub signs: Vec<i8>,
@@ -80,6 +152,8 @@ pub struct Inputs {
     pub large: Turbo,
     pub fine: Turbo,
     pub linear: Turbo,
+    /// Records under `turbo`.
+    pub archive: Archive,
 }
 
 fn vector(rng: &mut Rng, count: usize) -> Vec<f32> {
@@ -115,7 +189,7 @@ impl Inputs {
             let sketch = qjl.sketch(&vector).unwrap();
             Sketch { qjl, quantizer, sketch, dim, projections, signs, directions, matrix, vector }
         });
-        Self {
+        let mut inputs = Self {
             indices: indices.into(),
             signs,
             packed_signs,
@@ -128,7 +202,18 @@ impl Inputs {
             large: turbo(&mut rng, seed, (4096, 8, 256), RadiusCodecProfileV1::F32),
             fine: turbo(&mut rng, seed, (256, 12, 64), RadiusCodecProfileV1::F32),
             linear: turbo(&mut rng, seed, (256, 8, 64), linear),
+            archive: Archive { codes: vec![], pool: vec![], size: 0, all: OnceLock::new() },
+        };
+        let quantizer = &inputs.turbo.quantizer;
+        for _ in 0..DISTINCT {
+            let code = thin::encode(quantizer, &vector(&mut rng, inputs.turbo.dim)).unwrap();
+            let packed = PackedTurboCode::from_turbo(&code, RadiusCodecProfileV1::F32).unwrap();
+            let record = recorded(&packed, inputs.turbo.dim, inputs.turbo.bits);
+            inputs.archive.size = record.len();
+            inputs.archive.pool.extend(record);
+            inputs.archive.codes.push(packed.unpack().unwrap());
         }
+        inputs
     }
 }
 
@@ -150,21 +235,8 @@ fn turbo(
     let query = vector(rng, dim);
     let code = thin::encode(&quantizer, &vector(rng, dim)).unwrap();
     let packed = PackedTurboCode::from_turbo(&code, profile).unwrap();
-    let linear = profile == RadiusCodecProfileV1::BlockLinearU16;
     let (rotated, projected) = thin::prepare_query(&quantizer, &query).unwrap();
-    let record = record::Parts {
-        map: record::SIGNS + linear as u8 * record::LINEAR,
-        dim: dim as u32,
-        bits: bits - 1,
-        min: packed.polar_code.radii.min,
-        max: packed.polar_code.radii.max,
-        projections: projections as u32,
-        norm: 1.0,
-        radii: packed.polar_code.radii.payload.clone(),
-        indices: packed.polar_code.packed_angle_indices.clone(),
-        signs: packed.residual_sketch.packed_signs.clone(),
-    }
-    .bytes();
+    let record = recorded(&packed, dim, bits);
     Turbo {
         signs: thin::turbo_signs(&quantizer).unwrap(),
         directions: thin::directions(bits - 1),
@@ -181,4 +253,23 @@ fn turbo(
         packed,
         record,
     }
+}
+
+/// The record of a packed code with signs; `bits` are the total.
+fn recorded(packed: &PackedTurboCode, dim: usize, bits: u8) -> Vec<u8> {
+    let radii = &packed.polar_code.radii;
+    let linear = radii.profile == RadiusCodecProfileV1::BlockLinearU16;
+    let parts = record::Parts {
+        map: record::SIGNS + linear as u8 * record::LINEAR,
+        dim: dim as u32,
+        bits: bits - 1,
+        min: radii.min,
+        max: radii.max,
+        projections: packed.residual_sketch.projections as u32,
+        norm: 1.0,
+        radii: radii.payload.clone(),
+        indices: packed.polar_code.packed_angle_indices.clone(),
+        signs: packed.residual_sketch.packed_signs.clone(),
+    };
+    parts.bytes()
 }

@@ -2,7 +2,8 @@
 //! port's, in one run on the same inputs: the median and the least of several rounds,
 //! each some milliseconds long, the two sides by turns. A ratio is the median of the
 //! rounds' own. `bench [ROUNDS] [MILLISECONDS] [NAME]`; 21 and 10 if not given, and with
-//! a name only the rows that have it in theirs.
+//! a name only the rows that have it in theirs. A scan's times are a record, in five rounds
+//! at most, each a million records long.
 
 mod clock;
 mod inputs;
@@ -18,7 +19,7 @@ mod port {
 
 use std::{borrow::Cow, hint::black_box, time::Duration};
 
-use inputs::{Inputs, Turbo};
+use inputs::{Inputs, Turbo, SCANNED};
 use oracle::rotation::Rotation;
 
 /// A call to be timed, again and again.
@@ -183,7 +184,18 @@ fn rows(inputs: &Inputs) -> Vec<Row<'_>> {
     // as `.., packed` the packed code that it restores them from, as the port does each time.
     rows.under(&inputs.linear, false, ["prepared score, linear", "decode, linear"]);
     rows.under(&inputs.linear, true, ["prepared score, linear, packed", "decode, linear, packed"]);
+    for name in ["scan, one call", "scan, calls of 1000", "scan, one by one"] {
+        rows.add(name, || inputs.archive.best(&inputs.turbo));
+    }
     rows.rows
+}
+
+/// How many records a call of this row goes through, and in how many rounds at most.
+fn long_row(row: &str) -> (usize, u64) {
+    match row.starts_with("scan") {
+        true => (SCANNED, 5),
+        false => (1, u64::MAX),
+    }
 }
 
 /// How many calls take about this long.
@@ -222,7 +234,7 @@ fn target(row: &str) -> f64 {
         () if starts(&["pack signs", "decompress"]) => 4.0,
         () if starts(&["unpack signs", "compress"]) => 5.0,
         () if starts(&["pack", "unpack"]) => 10.0,
-        () if starts(&["prepared score"]) => 6.0,
+        () if starts(&["prepared score", "scan"]) => 6.0,
         () if starts(&["prepare", "score", "distance", "sketch score"]) => 3.5,
         () if starts(&["apply", "inverse"]) => 3.5,
         () if starts(&["sketch", "project", "stored"]) => 3.0,
@@ -246,10 +258,11 @@ fn main() {
         let rust_calls = calls_in(&mut row.rust, long);
         let port_calls = row.port.as_mut().map(|port| calls_in(port, long));
         let (mut rust, mut port, mut ratio) = (Vec::new(), Vec::new(), Vec::new());
-        for _ in 0..rounds {
-            rust.push(round(&mut row.rust, rust_calls));
+        let (items, most) = long_row(row.name);
+        for _ in 0..rounds.min(most) {
+            rust.push(round(&mut row.rust, rust_calls) / items as f64);
             if let (Some(call), Some(calls)) = (row.port.as_mut(), port_calls) {
-                port.push(round(call, calls));
+                port.push(round(call, calls) / items as f64);
                 ratio.push(rust[rust.len() - 1] / port[port.len() - 1]);
             }
         }

@@ -3,10 +3,10 @@
 
 use std::hint::black_box;
 
-use foldrima::{RadiusCodecProfileV1, Range, RotationKind, Setup, TurboMode};
+use foldrima::{RadiusCodecProfileV1, Range, RotationKind, Scan, Setup, TurboMode};
 
 use crate::{
-    inputs::{Inputs, Sketch, Turbo},
+    inputs::{Hit, Inputs, Sketch, Turbo, BEST, SCANNED},
     Call,
 };
 
@@ -158,7 +158,37 @@ fn single<'a>(row: &str, inputs: &'a Inputs) -> Option<Call<'a>> {
                 black_box(&out);
             })
         }
+        "scan, one call" => scan(inputs, SCANNED),
+        "scan, calls of 1000" => scan(inputs, 1000),
+        "scan, one by one" => scan(inputs, 1),
         _ => return under(row, inputs),
+    })
+}
+
+/// A scan of all records by the prepared query, so many in one call; one by one without ends. The
+/// first time its hits are held against the Rust's.
+fn scan(inputs: &Inputs, many: usize) -> Call<'_> {
+    let (turbo, archive) = (&inputs.turbo, &inputs.archive);
+    let ends: Vec<usize> = (1..=many).map(|i| i * archive.size).collect();
+    let mut held = false;
+    Box::new(move || {
+        let (rotated, projected) = (black_box(&turbo.rotated), &turbo.projected);
+        let (setup, all) = (turbo_setup(turbo), black_box(archive.all()));
+        let mut scan = Scan::open(BEST).unwrap();
+        if many == 1 {
+            let records = all.chunks_exact(archive.size);
+            scan.take_each(&setup, rotated, projected, records).unwrap();
+        } else {
+            for bytes in all.chunks_exact(archive.size * many) {
+                scan.take_many(&setup, rotated, projected, bytes, &ends).unwrap();
+            }
+        }
+        black_box(&scan);
+        if !held {
+            let hits = scan.hits().map(|hit| Hit { number: hit.number, score: hit.score });
+            assert!(hits.eq(archive.best(turbo)), "another scan than the Rust's");
+            held = true;
+        }
     })
 }
 

@@ -5,7 +5,7 @@
 //! and write nothing where it is withdrawn. A record with signs may have the norm of its
 //! source, which its residual is scaled with; without one the norm is 1.0. A setup rotates by
 //! signs, for boards of a power of two, or by a matrix, for any even dimension up to 512
-//! ([`RotationKind`]).
+//! ([`RotationKind`]). A [`Scan`] keeps the best of a stream of records under a query.
 //!
 //! The library's answers rest on the float mode that a thread starts with: round to
 //! nearest, subnormals kept. A call panics in a thread that has changed it.
@@ -48,6 +48,7 @@ mod environment;
 mod position;
 mod radii;
 mod record;
+mod scan;
 mod setup;
 
 pub use bits::{
@@ -56,11 +57,13 @@ pub use bits::{
 pub use codebook::{dequantize_angle, hadamard_seed, matrix_seed, sqrt, ScalarCodebook};
 pub use position::Position;
 pub use radii::{compress, decompress, encoded_bytes, Range};
+pub use raw::{Hit, Tally};
 pub use record::{
     indices_part, radii_part, read_indices, read_radii, read_record, read_signs, record_size,
     signs_part, write_record, Header,
 };
 pub use refusal::Refusal;
+pub use scan::{Scan, Taken};
 pub use setup::{apply, apply_inverse, stored_apply, stored_apply_inverse, Setup};
 
 /// Whether a residual sketch goes with the polar code.

@@ -296,6 +296,120 @@ extern "C" {
     );
 }
 
+/// What a scan counts: how many hits it keeps at most, how many it has, and how many records it
+/// has taken, refused and found withdrawn. The last two are part of those taken.
+#[derive(Debug, Clone, Copy, PartialEq, Eq, Hash)]
+#[repr(C)]
+pub struct Tally {
+    pub length: usize,
+    pub kept: usize,
+    pub taken: u32,
+    pub refused: u32,
+    pub withdrawn: u32,
+}
+
+/// A scan: its counts, and its hits in their order. Behind the hits kept the lists may hold
+/// anything.
+#[derive(Debug, Clone, Copy)]
+#[repr(C)]
+pub struct Scan {
+    pub tally: Tally,
+    pub numbers: [u32; 64],
+    pub scores: [f32; 64],
+}
+
+/// A record among the best of a scan: its number, and the score that it got.
+#[derive(Debug, Clone, Copy, PartialEq, Default)]
+#[repr(C)]
+pub struct Hit {
+    pub number: u32,
+    pub score: f32,
+}
+
+// Scans.
+extern "C" {
+    pub fn foldrima_scan_open(length: usize, number: *mut u32, place: *mut usize) -> Scan;
+    pub fn foldrima_scan_take(
+        tally: Tally,
+        numbers: *mut u32,
+        numbers_len: usize,
+        scores: *mut f32,
+        scores_len: usize,
+        mode: u8,
+        dim: usize,
+        bits: u8,
+        projections: usize,
+        kind: u8,
+        rotation: *const f32,
+        rotation_len: usize,
+        directions: *const f32,
+        directions_len: usize,
+        matrix: *const f32,
+        matrix_len: usize,
+        query: *const f32,
+        query_len: usize,
+        bytes: *const u8,
+        bytes_len: usize,
+        number: *mut u32,
+        place: *mut usize,
+        value: *mut f32,
+    ) -> Tally;
+    pub fn foldrima_scan_take_prepared(
+        tally: Tally,
+        numbers: *mut u32,
+        numbers_len: usize,
+        scores: *mut f32,
+        scores_len: usize,
+        mode: u8,
+        dim: usize,
+        bits: u8,
+        projections: usize,
+        kind: u8,
+        directions: *const f32,
+        directions_len: usize,
+        rotated: *const f32,
+        rotated_len: usize,
+        projected: *const f32,
+        projected_len: usize,
+        bytes: *const u8,
+        bytes_len: usize,
+        number: *mut u32,
+        place: *mut usize,
+        value: *mut f32,
+    ) -> Tally;
+    pub fn foldrima_scan_take_many(
+        tally: Tally,
+        numbers: *mut u32,
+        numbers_len: usize,
+        scores: *mut f32,
+        scores_len: usize,
+        mode: u8,
+        dim: usize,
+        bits: u8,
+        projections: usize,
+        kind: u8,
+        directions: *const f32,
+        directions_len: usize,
+        rotated: *const f32,
+        rotated_len: usize,
+        projected: *const f32,
+        projected_len: usize,
+        bytes: *const u8,
+        bytes_len: usize,
+        ends: *const usize,
+        ends_len: usize,
+        number: *mut u32,
+        place: *mut usize,
+    ) -> Tally;
+    pub fn foldrima_scan_close(
+        scan: Scan,
+        out: *mut Hit,
+        out_len: usize,
+        number: *mut u32,
+        place: *mut usize,
+    );
+}
+
 /// Declares calls that take a setup: its scalars and tables, then the rest.
 macro_rules! under_a_setup {
     ($(fn $name:ident($($rest:tt)*);)*) => {

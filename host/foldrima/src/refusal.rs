@@ -17,7 +17,7 @@ macro_rules! refusals {
         pub const $name: u32 = $number;)*
 
         /// The name of each number, in their order.
-        pub const NAMES: [(&str, u32); 22] = [$((stringify!($name), $name)),*];
+        pub const NAMES: [(&str, u32); 24] = [$((stringify!($name), $name)),*];
 
         fn words(number: u32) -> Option<(&'static str, &'static str)> {
             match number {
@@ -33,7 +33,7 @@ refusals! {
     ZERO_DIMENSION = 2, "dimension 0", "";
     ODD_DIMENSION = 3, "odd dimension", "the dimension";
     ROTATION_FAILED = 4, "an even dimension that is no power of two under Hadamard signs, or above 4,096", "the dimension";
-    DIMENSION_MISMATCH = 5, "an input's length, or a record's dimension, is not the setup's", "what was found";
+    DIMENSION_MISMATCH = 5, "an input's length, or a record's dimension, is not the setup's, or an end is wrong", "what was found";
     OUTPUT_LENGTH = 6, "an output isn't exactly the needed length", "the needed length";
     INVALID_DIRECTION = 7, "a direction entry is not finite or outside -1 to 1", "its index";
     ZERO_PROJECTION_COUNT = 8, "in residual mode, projections 0 or above 4,096", "the count";
@@ -49,6 +49,8 @@ refusals! {
     UNDEFINED_PROFILE = 18, "a map bit not defined, a norm without signs, or profile BlockLogU8", "the map byte, or 0";
     LENGTH_OVERFLOW = 19, "count times bits exceeds the largest usize", "";
     PROFILE_MISMATCH = 20, "a record's bits or projections are not the setup's", "";
+    SCAN_LENGTH = 21, "a scan's length is 0 or above 64", "";
+    SCAN_FULL = 22, "a scan has taken 4,294,967,295 records, or has fewer numbers left than there are records", "";
     MALFORMED_NORM = 23, "a norm is not finite or below zero", "";
     STORED_DIMENSION = 26, "a stored rotation's dimension is above 512", "";
 }

@@ -71,7 +71,7 @@ pub struct Setup<'a> {
 
 impl Setup<'_> {
     /// Mode and kind as the C functions take them.
-    fn codes(&self) -> (u8, u8) {
+    pub(crate) fn codes(&self) -> (u8, u8) {
         (self.mode as u8, self.kind as u8)
     }
 

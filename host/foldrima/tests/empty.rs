@@ -17,6 +17,9 @@ const MATRIX: [f32; 6] = [1.0, 0.0, 0.0, 1.0, 1.0, 1.0];
 /// P13: the record with signs (+, −, +).
 const SIGNED: [u8; 16] = [2, 2, 0, 0, 0, 1, 3, 0, 0, 0, 0, 0, 0x80, 0x3F, 1, 5];
 
+/// A scan of one hit at most, with none taken.
+const TALLY: raw::Tally = raw::Tally { length: 1, kept: 0, taken: 0, refused: 0, withdrawn: 0 };
+
 /// How an empty slice is lent: as NULL, or with an address that nothing stands at.
 #[derive(Clone, Copy)]
 struct Empty {
@@ -109,11 +112,19 @@ fn all_empty(e: Empty, kind: u8) -> Vec<(&'static str, u32, usize)> {
         list,
         foldrima_decode_approximate(1, 2, 2, 3, k, s, 0, d, 0, m, 0, e.from(), 0, e.to(), 0)
     );
+    let (t, n, c, r) = (TALLY, e.to(), e.to(), e.from());
+    ask!(list, foldrima_scan_take(t, n, 0, c, 0, 1, 2, 2, 3, k, s, 0, d, 0, m, 0, q, 0, r, 0) => v);
+    ask!(list, foldrima_scan_take_prepared(t, n, 0, c, 0, 1, 2, 2, 3, k, d, 0, q, 0, q, 0, r, 0) => v);
+    ask!(
+        list,
+        foldrima_scan_take_many(t, n, 0, c, 0, 1, 2, 2, 3, k, d, 0, q, 0, q, 0, r, 0, e.from(), 0)
+    );
     list
 }
 
 /// Every call under a setup of this kind with slice `k` empty and the others as they should be:
-/// rotation, directions, matrix, query (or the prepared one), record, sketch.
+/// rotation, directions, matrix, query (or the prepared one), record, sketch, and of a scan the
+/// numbers, the scores, the ends.
 fn one_empty(e: Empty, kind: u8, k: usize) -> Vec<(&'static str, u32, usize)> {
     let floats = |i: usize, items: &[f32]| if i == k { (e.from(), 0) } else { slice(items) };
     let turn = if kind == 0 { SETUP.rotation } else { &STORED };
@@ -143,6 +154,23 @@ fn one_empty(e: Empty, kind: u8, k: usize) -> Vec<(&'static str, u32, usize)> {
     ask!(list, foldrima_inner_product_estimate_prepared(
         1, 2, 2, 3, kind, d.0, d.1, q.0, q.1, p.0, p.1, r.0, r.1
     ) => v);
+    let (mut numbers, mut scores, ends) = ([9; 2], [9.0; 2], [r.1]);
+    let n = if k == 6 { (e.to(), 0) } else { (numbers.as_mut_ptr(), 2) };
+    let c = if k == 7 { (e.to(), 0) } else { (scores.as_mut_ptr(), 2) };
+    let x = if k == 8 { (e.from(), 0) } else { slice(&ends) };
+    ask!(list, foldrima_scan_take(
+        TALLY, n.0, n.1, c.0, c.1, 1, 2, 2, 3, kind, s.0, s.1, d.0, d.1, m.0, m.1, q.0, q.1, r.0, r.1
+    ) => v);
+    ask!(list, foldrima_scan_take_prepared(
+        TALLY, n.0, n.1, c.0, c.1, 1, 2, 2, 3, kind, d.0, d.1, q.0, q.1, p.0, p.1, r.0, r.1
+    ) => v);
+    ask!(
+        list,
+        foldrima_scan_take_many(
+            TALLY, n.0, n.1, c.0, c.1, 1, 2, 2, 3, kind, d.0, d.1, q.0, q.1, p.0, p.1, r.0, r.1,
+            x.0, x.1
+        )
+    );
     list
 }
 
@@ -189,6 +217,11 @@ fn last_empty(e: Empty) -> Vec<(&'static str, u32, usize)> {
     ask!(list, foldrima_pack_signs(c, 1, e.to(), 0));
     ask!(list, foldrima_unpack_signs(r, 1, 2, e.to(), 0));
     ask!(list, foldrima_decompress(0, 1, 0.0, 0.0, r, 4, e.to(), 0));
+    let (numbers, scores) = ([9; 64], [9.0; 64]);
+    for kept in [0, 1] {
+        let scan = raw::Scan { tally: raw::Tally { kept, ..TALLY }, numbers, scores };
+        ask!(list, foldrima_scan_close(scan, e.to(), 0));
+    }
     list
 }
 
@@ -212,15 +245,18 @@ fn null_for_an_empty_slice() {
         let all = numbers(|e| all_empty(e, kind));
         assert_eq!(all[..10], [0; 10]);
         assert_eq!(all[10..19], [5, 5, 5, 5, GONE, GONE, GONE, GONE, 5]);
-        assert_eq!(all[19..], [5; 8]);
+        assert_eq!(all[19..], [5; 11]);
     }
     let wanted = [
-        [5, 5, 5, 5, 5, 5, 5, 0],
-        [5, 5, 5, 5, 5, 5, 5, 5],
-        [5, 5, 5, 5, 5, 5, 5, 5],
-        [0, 5, 5, 5, 5, 5, 0, 5],
-        [0, 0, 0, 0, GONE, GONE, GONE, GONE],
-        [0, 0, 5, 0, 0, 0, 0, 0],
+        [5, 5, 5, 5, 5, 5, 5, 0, 5, 0, 0],
+        [5, 5, 5, 5, 5, 5, 5, 5, 5, 5, 5],
+        [5, 5, 5, 5, 5, 5, 5, 5, 5, 5, 5],
+        [0, 5, 5, 5, 5, 5, 0, 5, 5, 5, 5],
+        [0, 0, 0, 0, GONE, GONE, GONE, GONE, GONE, GONE, 0],
+        [0, 0, 5, 0, 0, 0, 0, 0, 0, 0, 0],
+        [0; 11],
+        [0; 11],
+        [0; 11],
     ];
     for (k, wanted) in wanted.iter().enumerate() {
         for kind in [0, 1] {
@@ -228,7 +264,9 @@ fn null_for_an_empty_slice() {
         }
     }
     let wanted = [5, 6, 5, 6, 5, 6, 5, 6, 0, 0, 6, 0, 0, 0, 6, 0, 6, 6, 0, 5, 5, 6, 6, 6, 6, 6, 6];
-    assert_eq!(numbers(last_empty), wanted);
+    let all = numbers(last_empty);
+    assert_eq!(all[..27], wanted);
+    assert_eq!(all[27..], [0, 6]);
 }
 
 #[test]

@@ -2,7 +2,7 @@
 
 use std::{arch::asm, panic, thread};
 
-use foldrima::call_under;
+use foldrima::{call_under, raw, Scan};
 use one_pair::SETUP;
 
 mod one_pair;
@@ -55,15 +55,27 @@ fn another_mode_panics() {
     assert!(said(UPWARD).contains("doesn't round to nearest"));
 }
 
+/// An empty scan, by no call.
+fn scan() -> Scan {
+    let tally = raw::Tally { length: 1, kept: 0, taken: 0, refused: 0, withdrawn: 0 };
+    Scan::from_raw(raw::Scan { tally, numbers: [0; 64], scores: [0.0; 64] })
+}
+
 #[test]
 fn every_kind_of_call_looks() {
-    let calls: [fn(); 6] = [
+    let calls: [fn(); 12] = [
         || _ = foldrima::packed_len(1, 1),
         || _ = foldrima::sqrt(2.0),
         || _ = foldrima::hadamard_seed(1),
         || _ = foldrima::radii_part(&RECORD),
         || _ = foldrima::read_record(&RECORD),
         || _ = SETUP.check(),
+        || _ = Scan::open(1),
+        || _ = scan().take(&SETUP, &QUERY, &RECORD),
+        || _ = scan().take_prepared(&SETUP, &QUERY, &[], &RECORD),
+        || _ = scan().take_each(&SETUP, &QUERY, &[], [RECORD]),
+        || _ = scan().take_many(&SETUP, &QUERY, &[], &RECORD, &[11]),
+        || _ = scan().close(&mut []),
     ];
     for call in calls {
         assert!(panicked(FLUSH_TO_ZERO, call).is_some());

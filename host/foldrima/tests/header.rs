@@ -1,8 +1,8 @@
 //! The declarations of `raw.rs`, of the C header and of the port's sources are the same,
-//! and so are the numbers of refusals, of a withdrawn position, of modes, kinds and profiles,
-//! as far as header and sources stand beside this folder.
+//! and so are the fields of structs and the numbers of refusals, of a withdrawn position, of
+//! modes, kinds and profiles, as far as header and sources stand beside this folder.
 
-use std::{collections::BTreeMap, fs, path::Path};
+use std::{collections::BTreeMap, fs, mem::offset_of, path::Path};
 
 use foldrima::{raw, RotationKind};
 
@@ -21,7 +21,8 @@ fn found(text: &str, start: &str, types: impl Fn(&str) -> Vec<String>) -> Signat
         let (list, after) = rest.split_once(')').unwrap();
         let list = list.split(',').map(words).filter(|one| !one.is_empty());
         let given = list.flat_map(|one| types(&one)).collect();
-        let answer = after.strip_prefix(" -> ").map_or("", |more| &more[..3]);
+        let answer = after.strip_prefix(" -> ").unwrap_or("");
+        let answer = answer.split(|c: char| !c.is_alphanumeric()).next().unwrap();
         all.insert(name.to_string(), (given, answer.to_string()));
     }
     all
@@ -60,26 +61,36 @@ fn file(name: &str) -> Option<String> {
     text
 }
 
+/// The header in one line, without its comments: its declarations, and the functions that it
+/// defines, which stand behind them all.
+fn header() -> Option<(String, String)> {
+    let text = file("include/foldrima.h")?;
+    let text: String = text.split("/*").map(|part| part.split("*/").last().unwrap()).collect();
+    let text = words(&text);
+    let (declared, defined) = text.split_once("static inline ").unwrap();
+    Some((declared.to_string(), defined.to_string()))
+}
+
+/// A type of C as Rust has it.
+fn rust(name: &str) -> String {
+    match name.strip_prefix("foldrima_") {
+        Some(own) => own[..1].to_uppercase() + &own[1..],
+        None if name == "float" => "f32".to_string(),
+        None if name == "size_t" => "usize".to_string(),
+        None => name.trim_end_matches("_t").replace("uint", "u").replace("int", "i"),
+    }
+}
+
 #[test]
 fn the_header_has_them() {
-    let Some(text) = file("include/foldrima.h") else { return };
-    let rust = |name: &str| match name {
-        "float" => "f32".to_string(),
-        "size_t" => "usize".to_string(),
-        other => {
-            let width = other.trim_end_matches("_t");
-            width.replace("uint", "u").replace("int", "i")
-        }
-    };
-    // Without its comments.
-    let text: String = text.split("/*").map(|part| part.split("*/").last().unwrap()).collect();
+    let Some((text, _)) = self::header() else { return };
     let mut header = Signatures::new();
-    for line in words(&text).split(';') {
-        let Some(at) = line.find(" foldrima_").filter(|_| line.contains('(')) else {
+    for line in text.split(';') {
+        let Some((before, list)) = line.rsplit_once('(') else { continue };
+        let Some((before, name)) = before.rsplit_once(' ') else { continue };
+        if !name.starts_with("foldrima_") {
             continue;
-        };
-        let (before, rest) = line.split_at(at + 1);
-        let (name, list) = rest.split_once('(').unwrap();
+        }
         let given = list.trim_end_matches(')').split(", ").map(|one| {
             let (kind, name) = one.rsplit_once(' ').unwrap();
             match (kind.strip_prefix("const "), name.starts_with('*')) {
@@ -93,6 +104,84 @@ fn the_header_has_them() {
         header.insert(name.to_string(), (given.collect(), answer));
     }
     agree(&header);
+}
+
+/// What the header defines does to a scan in place what the call does that it makes.
+#[test]
+fn the_header_passes_on_what_it_is_given() {
+    let Some((_, text)) = header() else { return };
+    let defined: Vec<&str> = text.split("static inline ").collect();
+    for (name, text) in ["take", "take_prepared", "take_many"].into_iter().zip(&defined) {
+        let start = format!("int foldrima_{name}_into(foldrima_scan *scan, ");
+        let (list, body) = text.strip_prefix(&start).unwrap().split_once(')').unwrap();
+        let name_of = |one: &str| one.rsplit([' ', '*']).next().unwrap().to_string();
+        let names: Vec<String> = list.split(", ").map(name_of).collect();
+        let held = "scan->tally, scan->numbers, 64, scan->scores, 64";
+        let call = format!("scan->tally = foldrima_scan_{name}({held}, {});", names.join(", "));
+        assert!(body.contains(&call), "{name}: {body}");
+    }
+    assert_eq!(defined.len(), 3);
+}
+
+/// The fields of a struct and their types, in their order, of Rust's form.
+fn fields(text: &str, name: &str) -> Vec<(String, String)> {
+    let start = format!("#[repr(C)]\npub struct {name} {{");
+    let (_, rest) = text.split_once(&start).unwrap();
+    let list = rest.split_once('}').unwrap().0.split(",\n").map(str::trim);
+    let pairs = list.filter(|one| !one.is_empty()).map(|one| {
+        let (name, kind) = one.strip_prefix("pub ").unwrap().split_once(": ").unwrap();
+        (name.to_string(), kind.to_string())
+    });
+    pairs.collect()
+}
+
+/// The same of C's.
+fn fields_in_c(text: &str, name: &str) -> Vec<(String, String)> {
+    let start = format!("typedef struct {name} {{");
+    let (_, rest) = text.split_once(&start).unwrap();
+    let (list, after) = rest.split_once('}').unwrap();
+    assert!(after.starts_with(&format!(" {name};")));
+    let pairs = list.split(';').map(str::trim).filter(|one| !one.is_empty()).map(|one| {
+        let (kind, name) = one.split_once(' ').unwrap();
+        match name.split_once('[') {
+            Some((name, count)) => {
+                (name.to_string(), format!("[{}; {}]", rust(kind), count.trim_end_matches(']')))
+            }
+            None => (name.to_string(), rust(kind)),
+        }
+    });
+    pairs.collect()
+}
+
+#[test]
+fn the_structs_are_the_same() {
+    let declared = include_str!("../src/raw.rs");
+    let header = header();
+    for (name, in_c, source) in [
+        ("Tally", "foldrima_tally", "crates/scan/src/lib.rt"),
+        ("Scan", "foldrima_scan", "crates/scan/src/lib.rt"),
+        ("Hit", "foldrima_hit", "crates/ranking/src/lib.rt"),
+    ] {
+        let ours = fields(declared, name);
+        if let Some((header, _)) = &header {
+            assert_eq!(fields_in_c(header, in_c), ours, "{name}");
+        }
+        if let Some(source) = file(source) {
+            assert_eq!(fields(&source, name), ours, "{name}");
+        }
+    }
+}
+
+/// Where the fields stand; `host/c/scan.c` holds the same of C.
+#[test]
+fn the_structs_are_laid_out_as_in_c() {
+    use raw::{Hit, Scan, Tally};
+    assert_eq!((size_of::<Tally>(), size_of::<Scan>(), size_of::<Hit>()), (32, 544, 8));
+    assert_eq!((offset_of!(Tally, length), offset_of!(Tally, kept)), (0, 8));
+    assert_eq!((offset_of!(Tally, taken), offset_of!(Tally, refused)), (16, 20));
+    assert_eq!((offset_of!(Tally, withdrawn), offset_of!(Scan, tally)), (24, 0));
+    assert_eq!((offset_of!(Scan, numbers), offset_of!(Scan, scores)), (32, 288));
+    assert_eq!((offset_of!(Hit, number), offset_of!(Hit, score)), (0, 4));
 }
 
 #[test]

@@ -3,7 +3,7 @@
 
 use foldrima::{
     packed_len, refusal::OUTPUT_LENGTH, Position, RadiusCodecProfileV1 as Profile, Range, Refusal,
-    Setup, TurboMode as Mode,
+    Scan, Setup, TurboMode as Mode,
 };
 use one_pair::{RECORD, SETUP};
 
@@ -76,4 +76,8 @@ fn of_every_other_output() {
     needs(foldrima::read_indices(&RECORD, &mut []), header.dim / 2);
     let none = foldrima::read_signs(&RECORD, &mut []);
     assert_eq!((none, header.projections), (Ok(Position::Kept(())), 0));
+    let mut scan = Scan::open(5).unwrap();
+    assert_eq!(scan.close(&mut []), Ok(()));
+    scan.take_each(&SETUP, &[1.0; 2], &[], [RECORD; 3]).unwrap();
+    needs(scan.close(&mut []), scan.kept());
 }

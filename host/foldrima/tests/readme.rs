@@ -1,8 +1,8 @@
 //! The examples of the two README files.
 
 use foldrima::{
-    record_size, write_record, Position, RadiusCodecProfileV1::F32, Refusal, RotationKind, Setup,
-    TurboMode,
+    record_size, write_record, Hit, Position, RadiusCodecProfileV1::F32, Refusal, RotationKind,
+    Scan, Setup, TurboMode,
 };
 use one_pair::{RECORD, SETUP};
 
@@ -33,6 +33,20 @@ fn board(query: &[f32]) -> Result<Position<f32>, Refusal> {
     setup.inner_product_estimate(query, &record)
 }
 
+fn nearest(
+    setup: &Setup,
+    query: &[f32],
+    archive: &[u8],
+    ends: &[usize],
+) -> Result<Vec<Hit>, Refusal> {
+    let (mut rotated, mut projected) = (vec![0.0; setup.dim], vec![0.0; setup.projections]);
+    setup.prepare_query(query, &mut rotated, &mut projected)?;
+    let mut scan = Scan::open(10)?;
+    scan.take_many(setup, &rotated, &projected, archive, ends)?;
+    println!("{} refused and {} withdrawn", scan.refused(), scan.withdrawn());
+    Ok(scan.hits().collect())
+}
+
 /// A function of this file, as it stands here.
 fn own(from: &str) -> &'static str {
     let own = include_str!("readme.rs");
@@ -43,8 +57,21 @@ fn own(from: &str) -> &'static str {
 #[test]
 fn they_stand_there() {
     assert!(include_str!("../../README.md").contains(own("fn scores(")));
-    let indented: String = own("fn board(").lines().map(|line| format!("    {line}\n")).collect();
-    assert!(include_str!("../../../README.md").contains(&indented));
+    for own in [own("fn board("), own("fn nearest(")] {
+        let indented: String = own.lines().map(|line| format!("    {line}\n")).collect();
+        assert!(include_str!("../../../README.md").contains(&indented));
+    }
+}
+
+#[test]
+fn the_nearest_of_four() {
+    let mut records = [RECORD; 3];
+    records[0][10] = 0;
+    let ends = [11, 11, 22, 33];
+    let score = 4.0 / 2.0f32.sqrt();
+    let wanted = [(2, score), (3, score), (0, -score)];
+    let hits = nearest(&SETUP, &[1.0, 3.0], &records.concat(), &ends).unwrap();
+    assert!(hits.iter().map(|hit| (hit.number, hit.score)).eq(wanted));
 }
 
 #[test]

@@ -1,5 +1,5 @@
 //! A refusal of each kind, with its place; outputs stay as they were. Those of norms are in
-//! `norms`, and those of stored rotations in `boards`.
+//! `norms`, those of stored rotations in `boards` and those of scans in `scan`.
 
 use foldrima::{
     refusal, Position, RadiusCodecProfileV1 as Profile, Range, Refusal, RotationKind,
@@ -175,14 +175,15 @@ fn by_the_writer_of_a_code() {
 #[test]
 fn in_words() {
     let said = |number, place| Refusal { number, place }.to_string();
-    for ((name, number), wanted) in refusal::NAMES.into_iter().zip((1..=20).chain([23, 26])) {
+    for ((name, number), wanted) in refusal::NAMES.into_iter().zip((1..=23).chain([26])) {
         assert_eq!(number, wanted, "{name}");
         assert!(said(number, 0).starts_with(&format!("refused ({number}): ")), "{name}");
     }
     let odd = "refused (3): odd dimension; the dimension: 7";
     assert_eq!(said(refusal::ODD_DIMENSION, 7), odd);
     assert_eq!(said(refusal::ZERO_DIMENSION, 0), "refused (2): dimension 0");
-    assert_eq!(said(21, 5), "refused with the unknown number 21 at 5");
+    assert_eq!(said(24, 5), "refused with the unknown number 24 at 5");
+    assert_eq!(said(21, 0), "refused (21): a scan's length is 0 or above 64");
     assert_eq!(said(23, 0), "refused (23): a norm is not finite or below zero");
     assert_eq!(said(26, 0), "refused (26): a stored rotation's dimension is above 512");
 }

@@ -1,0 +1,327 @@
+//! A scan: its refusals and their places, what takes a number and what does not, ties, and the
+//! last numbers. Streams of many records are in `streams`.
+
+use foldrima::{raw, refusal, Hit, Refusal, Scan, Setup, Taken, Tally};
+use one_pair::{RECORD, SETUP};
+
+mod one_pair;
+
+/// A prepared query under which a record of index 1 is scored with its radius.
+const ROTATED: [f32; 2] = [1.0, 3.0];
+const QUERY: [f32; 2] = [1.0, 3.0];
+
+/// A record of this radius, index 1.
+fn of(radius: f32) -> [u8; 11] {
+    let mut record = RECORD;
+    record[6..10].copy_from_slice(&radius.to_le_bytes());
+    record
+}
+
+fn refused<T>(number: u32, place: usize) -> Result<T, Refusal> {
+    Err(Refusal { number, place })
+}
+
+fn tally(length: usize, kept: usize, taken: u32, refused: u32, withdrawn: u32) -> Tally {
+    Tally { length, kept, taken, refused, withdrawn }
+}
+
+/// All that a scan holds, also behind its hits, with scores as patterns.
+fn held(scan: &Scan) -> (Tally, [u32; 64], [u32; 64]) {
+    let raw::Scan { tally, numbers, scores } = *scan.raw();
+    (tally, numbers, scores.map(f32::to_bits))
+}
+
+fn hits(scan: &Scan) -> Vec<(u32, f32)> {
+    scan.hits().map(|hit| (hit.number, hit.score)).collect()
+}
+
+/// A scan of these hits that has taken so many records.
+fn scan_of(length: usize, taken: u32, hits: &[(u32, f32)]) -> Scan {
+    let (mut numbers, mut scores) = ([0; 64], [0.0; 64]);
+    for (i, (number, score)) in hits.iter().enumerate() {
+        (numbers[i], scores[i]) = (*number, *score);
+    }
+    let tally = tally(length, hits.len(), taken, 0, 0);
+    Scan::from_raw(raw::Scan { tally, numbers, scores })
+}
+
+#[test]
+fn opened_with_1_to_64() {
+    for length in 1..=64 {
+        let scan = Scan::open(length).unwrap();
+        assert_eq!(scan.counts(), tally(length, 0, 0, 0, 0));
+        assert_eq!((scan.length(), scan.kept(), scan.hits().len()), (length, 0, 0));
+    }
+    for length in [0, 65, 66, 1 << 32, usize::MAX] {
+        assert_eq!(Scan::open(length), refused(refusal::SCAN_LENGTH, 0), "{length}");
+        // The C function answers a scan beside it, which is of length 1 and works.
+        let (mut number, mut place) = (9, 9);
+        let beside = unsafe { raw::foldrima_scan_open(length, &mut number, &mut place) };
+        assert_eq!((number, place), (21, 0));
+        let mut scan = Scan::from_raw(beside);
+        assert_eq!(scan, Scan::open(1).unwrap());
+        scan.take_each(&SETUP, &ROTATED, &[], [of(1.0), of(3.0), of(2.0)]).unwrap();
+        assert_eq!(hits(&scan), [(1, 3.0)]);
+    }
+}
+
+#[test]
+fn a_number_for_every_record() {
+    let mut scan = Scan::open(3).unwrap();
+    let mut take = |record: &[u8]| scan.take_prepared(&SETUP, &ROTATED, &[], record);
+    assert_eq!(take(&of(1.0)), Ok(Taken::Accepted(1.0)));
+    assert_eq!(take(&[]), Ok(Taken::Withdrawn));
+    assert_eq!(take(&RECORD[..9]), Ok(Taken::Refused(Refusal { number: 13, place: 9 })));
+    assert_eq!(take(&of(-1.0)), Ok(Taken::Refused(Refusal { number: 16, place: 0 })));
+    assert_eq!(take(&of(2.0)), Ok(Taken::Accepted(2.0)));
+    assert_eq!(scan.counts(), tally(3, 2, 5, 2, 1));
+    assert_eq!((scan.taken(), scan.refused(), scan.withdrawn()), (5, 2, 1));
+    assert_eq!(hits(&scan), [(4, 2.0), (0, 1.0)]);
+}
+
+#[test]
+fn an_infinite_score_is_a_refused_record() {
+    let mut scan = Scan::open(1).unwrap();
+    let twelve = Taken::Refused(Refusal { number: 12, place: 0 });
+    assert_eq!(scan.take_prepared(&SETUP, &[2.0, 0.0], &[], &of(f32::MAX)), Ok(twelve));
+    assert_eq!(scan.take(&SETUP, &[2.0, 2.0], &of(f32::MAX)), Ok(twelve));
+    assert_eq!(scan.counts(), tally(1, 0, 2, 2, 0));
+}
+
+/// A number that setups and records share numbers nothing where it is the setup's, and is a
+/// refused record where it is the record's.
+#[test]
+fn refusals_by_their_stage() {
+    let wide = [0, 4, 0, 0, 0, 1, 0, 0, 0x80, 0x3F, 0, 0, 0x80, 0x3F, 1];
+    let short = Setup { directions: &[1.0; 3], ..SETUP };
+    let with = |at: usize, byte| {
+        let mut record = RECORD;
+        record[at] = byte;
+        record
+    };
+    for (setup, record, number, setup_place, record_place) in [
+        (Setup { bits: 17, ..SETUP }, &with(5, 17)[..], 1, 17, 17),
+        (Setup { dim: 0, ..SETUP }, &with(1, 0), 2, 0, 0),
+        (Setup { dim: 3, ..SETUP }, &with(1, 3), 3, 3, 3),
+        (Setup { dim: 8192, ..SETUP }, &with(2, 0x20), 4, 8192, 8194),
+        (short, &wide, 5, 3, 4),
+    ] {
+        let mut scan = scan_of(4, 7, &[(3, 2.0), (5, 2.0)]);
+        let before = held(&scan);
+        assert_eq!(scan.take(&setup, &QUERY, &RECORD), refused(number, setup_place));
+        let prepared = scan.take_prepared(&setup, &ROTATED, &[], &RECORD);
+        assert_eq!(prepared, refused(number, setup_place));
+        let many = scan.take_many(&setup, &ROTATED, &[], &RECORD, &[11]);
+        assert_eq!(many, refused(number, setup_place));
+        assert_eq!(held(&scan), before, "{number}");
+        let taken = Ok(Taken::Refused(Refusal { number, place: record_place }));
+        assert_eq!(scan.take(&SETUP, &QUERY, record), taken);
+        assert_eq!(scan.take_prepared(&SETUP, &ROTATED, &[], record), taken);
+        scan.take_many(&SETUP, &ROTATED, &[], record, &[record.len()]).unwrap();
+        assert_eq!(scan.counts(), tally(4, 2, 10, 3, 0));
+        assert_eq!(hits(&scan), [(3, 2.0), (5, 2.0)]);
+    }
+}
+
+#[test]
+fn a_refused_query_numbers_nothing() {
+    let (infinite, nan) = (f32::INFINITY, f32::NAN);
+    let mut scan = scan_of(2, 1, &[(0, 1.0)]);
+    let before = held(&scan);
+    for record in [&RECORD[..], &RECORD[..3], &[]] {
+        assert_eq!(scan.take(&SETUP, &[1.0; 3], record), refused(5, 3));
+        assert_eq!(scan.take(&SETUP, &[1.0, nan], record), refused(11, 1));
+        assert_eq!(scan.take(&SETUP, &[f32::MAX, f32::MAX], record), refused(11, 0));
+        assert_eq!(scan.take_prepared(&SETUP, &[1.0], &[], record), refused(5, 1));
+        assert_eq!(scan.take_prepared(&SETUP, &ROTATED, &[1.0], record), refused(5, 1));
+        assert_eq!(scan.take_prepared(&SETUP, &[infinite, 1.0], &[], record), refused(11, 0));
+        let each = scan.take_each(&SETUP, &[infinite, 1.0], &[], [record; 2]);
+        assert_eq!(each, refused(11, 0));
+        let ends = [record.len()];
+        assert_eq!(scan.take_many(&SETUP, &[1.0], &[], record, &ends), refused(5, 1));
+        assert_eq!(scan.take_many(&SETUP, &ROTATED, &[1.0], record, &ends), refused(5, 1));
+        assert_eq!(scan.take_many(&SETUP, &[1.0, nan], &[], record, &ends), refused(11, 1));
+    }
+    // Also where there is no record.
+    assert_eq!(scan.take_many(&SETUP, &[1.0, nan], &[], &[], &[]), refused(11, 1));
+    assert_eq!(scan.take_many(&SETUP, &ROTATED, &[], &[], &[]), Ok(()));
+    assert_eq!(held(&scan), before);
+}
+
+#[test]
+fn wrong_ends_take_nothing() {
+    let bytes = [of(1.0), of(2.0), of(3.0)].concat();
+    let mut scan = scan_of(4, 7, &[(3, 2.0), (5, 2.0)]);
+    let before = held(&scan);
+    for (ends, place) in [
+        (&[34][..], 34),
+        (&[11, 34, 5], 34),
+        (&[11, 10], 10),
+        (&[11, 22, 21, 33], 21),
+        (&[33, 0], 0),
+        (&[11, 22, 33, usize::MAX], usize::MAX),
+    ] {
+        let many = scan.take_many(&SETUP, &ROTATED, &[], &bytes, ends);
+        assert_eq!(many, refused(refusal::DIMENSION_MISMATCH, place), "{ends:?}");
+        // The query comes before the ends.
+        let many = scan.take_many(&SETUP, &[f32::NAN, 1.0], &[], &bytes, ends);
+        assert_eq!(many, refused(11, 0));
+    }
+    assert_eq!(held(&scan), before);
+    // Bytes behind the last end are not looked at, and an end that is repeated is withdrawn.
+    scan.take_many(&SETUP, &ROTATED, &[], &bytes, &[0, 11, 11, 22, 30]).unwrap();
+    assert_eq!(scan.counts(), tally(4, 4, 12, 1, 2));
+    assert_eq!(hits(&scan), [(3, 2.0), (5, 2.0), (10, 2.0), (8, 1.0)]);
+}
+
+#[test]
+fn equal_scores_stand_by_number() {
+    let mut scan = Scan::open(4).unwrap();
+    let radii = [1.0, 2.0, 1.0, 2.0, 0.5, 2.0, 1.0, 2.0, 2.0];
+    scan.take_each(&SETUP, &ROTATED, &[], radii.map(of)).unwrap();
+    assert_eq!(hits(&scan), [(1, 2.0), (3, 2.0), (5, 2.0), (7, 2.0)]);
+    scan.take_each(&SETUP, &ROTATED, &[], [of(3.0)]).unwrap();
+    assert_eq!(hits(&scan), [(9, 3.0), (1, 2.0), (3, 2.0), (5, 2.0)]);
+}
+
+/// A score is a sum from +0.0 and never −0.0, so the other zero is put into the scan here.
+#[test]
+fn both_zeros_are_equal() {
+    let mut zero = of(0.0);
+    for index in [0, 1] {
+        zero[10] = index;
+        let mut scan = scan_of(4, 9, &[(4, 1.0), (2, -0.0), (3, 0.0), (7, -1.0)]);
+        assert_eq!(scan.take(&SETUP, &QUERY, &zero), Ok(Taken::Accepted(0.0)));
+        assert_eq!(hits(&scan), [(4, 1.0), (2, 0.0), (3, 0.0), (9, 0.0)]);
+        let signs: Vec<bool> = scan.hits().map(|hit| hit.score.is_sign_negative()).collect();
+        assert_eq!(signs, [false, true, false, false]);
+        let mut scan = scan_of(3, 9, &[(4, 1.0), (2, -0.0), (3, -0.0)]);
+        let before = hits(&scan);
+        scan.take_many(&SETUP, &ROTATED, &[], &zero, &[11]).unwrap();
+        assert_eq!((hits(&scan), scan.taken()), (before, 10));
+    }
+}
+
+#[test]
+fn the_last_numbers() {
+    const MOST: u32 = u32::MAX;
+    let full = Err(Refusal { number: refusal::SCAN_FULL, place: 0 });
+    let mut scan = scan_of(2, MOST - 3, &[(0, 1.0)]);
+    assert_eq!(scan.take(&SETUP, &ROTATED, &[]), Ok(Taken::Withdrawn));
+    // Two numbers are left: many records are taken all or none, and 22 comes first of all.
+    let bytes = [of(2.0), of(3.0), of(4.0)].concat();
+    let before = held(&scan);
+    assert_eq!(scan.take_many(&SETUP, &ROTATED, &[], &bytes, &[11, 22, 33]), full);
+    assert_eq!(scan.take_many(&SETUP, &[f32::NAN], &[], &bytes, &[11, 5, 99]), full);
+    assert_eq!(held(&scan), before);
+    let mut copy = scan.clone();
+    copy.take_many(&SETUP, &ROTATED, &[], &bytes, &[11, 22]).unwrap();
+    assert_eq!(hits(&copy), [(MOST - 1, 3.0), (MOST - 2, 2.0)]);
+    // Singly they are taken up to the last number.
+    assert_eq!(scan.take_each(&SETUP, &ROTATED, &[], bytes.chunks(11)), full);
+    assert_eq!(scan, copy);
+    let before = held(&scan);
+    assert_eq!(scan.taken(), MOST);
+    let bad = Setup { dim: 0, ..SETUP };
+    for setup in [SETUP, bad] {
+        for record in [&RECORD[..], &RECORD[..3], &[]] {
+            let full = Err(Refusal { number: 22, place: 0 });
+            assert_eq!(scan.take(&setup, &[f32::NAN], record), full);
+            assert_eq!(scan.take_prepared(&setup, &ROTATED, &[], record), full);
+            assert_eq!(scan.take_many(&setup, &ROTATED, &[], record, &[9]), full.map(|_| ()));
+        }
+    }
+    // No record needs no number.
+    assert_eq!(scan.take_many(&SETUP, &ROTATED, &[], &[], &[]), Ok(()));
+    assert_eq!(held(&scan), before);
+}
+
+#[test]
+fn closed_into_as_many_hits_as_are_kept() {
+    let mut scan = Scan::open(3).unwrap();
+    let other = Hit { number: 77, score: 7.5 };
+    for (radius, kept) in [(1.0, 1), (3.0, 2), (2.0, 3), (4.0, 3)] {
+        scan.take_each(&SETUP, &ROTATED, &[], [of(radius)]).unwrap();
+        let before = held(&scan);
+        for len in (0..70).filter(|len| *len != kept) {
+            let mut out = vec![other; len];
+            assert_eq!(scan.close(&mut out), refused(refusal::OUTPUT_LENGTH, kept));
+            assert_eq!(out, vec![other; len]);
+        }
+        let mut out = vec![other; kept];
+        assert_eq!(scan.close(&mut out), Ok(()));
+        assert!(scan.hits().eq(out));
+        assert_eq!(held(&scan), before);
+    }
+    assert_eq!(hits(&scan), [(3, 4.0), (1, 3.0), (2, 2.0)]);
+    assert_eq!(Scan::open(3).unwrap().close(&mut []), Ok(()));
+}
+
+#[test]
+fn said_and_compared() {
+    let mut scan = Scan::open(2).unwrap();
+    assert_eq!(scan.take(&SETUP, &QUERY, &of(0.0)).unwrap().score(), Some(0.0));
+    assert_eq!(scan.take(&SETUP, &QUERY, &[]).unwrap().score(), None);
+    let said = "Scan { tally: Tally { length: 2, kept: 1, taken: 2, refused: 0, withdrawn: 1 }, \
+                hits: [Hit { number: 0, score: 0.0 }] }";
+    assert_eq!(format!("{scan:?}"), said);
+    // What stands behind the hits does not count.
+    let mut held = *scan.raw();
+    (held.numbers[1], held.scores[1]) = (9, f32::NAN);
+    assert_eq!(Scan::from_raw(held), scan);
+    held.numbers[0] = 9;
+    assert_ne!(Scan::from_raw(held), scan);
+}
+
+/// On counts and lists that no records led to, a call ends and stays within what it is lent.
+#[test]
+fn counts_that_no_records_led_to() {
+    let far = usize::MAX;
+    for (length, kept) in [(far, far), (0, far), (far, 0), (0, 0), (3, 9), (9, 3), (65, 64)] {
+        for (numbers_len, scores_len) in [(0, 0), (0, 5), (5, 0), (3, 5), (5, 3), (1, 1), (5, 5)] {
+            let most = length.min(numbers_len).min(scores_len);
+            let mut tally = tally(length, kept, 7, u32::MAX, u32::MAX);
+            let (mut numbers, mut scores) = ([77; 7], [f32::NAN; 7]);
+            let (mut number, mut place, mut value) = (9, 9, 9.0);
+            let records = [of(2.0), of(f32::NAN), of(3.0), of(2.0)];
+            for record in records.iter().map(|record| &record[..]).chain([&[][..]]) {
+                tally = unsafe {
+                    raw::foldrima_scan_take_prepared(
+                        tally,
+                        numbers.as_mut_ptr().add(1),
+                        numbers_len,
+                        scores.as_mut_ptr().add(1),
+                        scores_len,
+                        0,
+                        2,
+                        1,
+                        0,
+                        0,
+                        SETUP.directions.as_ptr(),
+                        4,
+                        ROTATED.as_ptr(),
+                        2,
+                        [].as_ptr(),
+                        0,
+                        record.as_ptr(),
+                        record.len(),
+                        &mut number,
+                        &mut place,
+                        &mut value,
+                    )
+                };
+            }
+            assert_eq!((tally.length, tally.taken, number), (length, 12, 255));
+            // In front of the lists, and behind the room that there is, nothing is written.
+            let spare = numbers[..1].iter().chain(&numbers[1 + most..]);
+            assert!(spare.eq(vec![&77; 7 - most]), "{numbers:?}");
+            let spare = scores[..1].iter().chain(&scores[1 + most..]);
+            assert!(spare.copied().all(f32::is_nan), "{scores:?}");
+            let scan = raw::Scan { tally, numbers: [1; 64], scores: [1.0; 64] };
+            let mut out = [Hit::default(); 7];
+            let closed = Scan::from_raw(scan).close(&mut out);
+            assert_eq!(closed.is_ok(), tally.kept == 7);
+            assert!(Scan::from_raw(scan).hits().len() <= 64);
+        }
+    }
+}

@@ -1,0 +1,330 @@
+//! Streams of thousands of records, many of them with equal scores, refused or withdrawn, taken
+//! singly by a query, singly by a prepared one and many at once: after each record a scan has
+//! the hits that a full sort of the accepted records gives, and the counts.
+
+use std::collections::BTreeMap;
+
+use foldrima::{
+    record_size, write_record, Hit, Position, RadiusCodecProfileV1 as Profile, Refusal,
+    RotationKind, Scan, Setup, Taken, TurboMode as Mode,
+};
+
+/// SplitMix64.
+struct Rng(u64);
+
+impl Rng {
+    fn next(&mut self) -> u64 {
+        self.0 = self.0.wrapping_add(0x9E37_79B9_7F4A_7C15);
+        let mut z = self.0;
+        z = (z ^ (z >> 30)).wrapping_mul(0xBF58_476D_1CE4_E5B9);
+        z = (z ^ (z >> 27)).wrapping_mul(0x94D0_49BB_1331_11EB);
+        z ^ (z >> 31)
+    }
+
+    fn below(&mut self, most: usize) -> usize {
+        (self.next() % most as u64) as usize
+    }
+
+    fn one_of<T: Copy>(&mut self, items: &[T]) -> T {
+        items[self.below(items.len())]
+    }
+
+    fn many<T>(&mut self, count: usize, mut make: impl FnMut(&mut Self) -> T) -> Vec<T> {
+        (0..count).map(|_| make(self)).collect()
+    }
+}
+
+/// Two bits: the directions along both axes.
+const AXES: [f32; 8] = [-1.0, 0.0, 0.0, -1.0, 1.0, 0.0, 0.0, 1.0];
+const SIGNS: [f32; 4] = [1.0, -1.0, -1.0, 1.0];
+const MATRIX: [f32; 12] = [1.0, 0.0, 0.0, -1.0, 0.0, 1.0, 1.0, 0.0, 0.5, 0.5, -0.5, -0.5];
+/// Each of six features goes one place further.
+const STORED: [f32; 36] = {
+    let mut matrix = [0.0; 36];
+    let mut j = 0;
+    while j < 6 {
+        matrix[6 * j + (j + 1) % 6] = 1.0;
+        j += 1;
+    }
+    matrix
+};
+
+const ONLY: Setup = Setup {
+    mode: Mode::PolarOnly,
+    dim: 4,
+    bits: 2,
+    projections: 0,
+    kind: RotationKind::FastHadamard,
+    rotation: &SIGNS,
+    directions: &AXES,
+    matrix: &[],
+};
+const BOTH: Setup =
+    Setup { mode: Mode::PolarWithQjl, bits: 3, projections: 3, matrix: &MATRIX, ..ONLY };
+const TURNED: Setup = Setup { kind: RotationKind::Stored, dim: 6, rotation: &STORED, ..ONLY };
+
+/// A good record under a setup; scores of such records are few.
+fn good(rng: &mut Rng, setup: &Setup) -> Vec<u8> {
+    let profile = rng.one_of(&[Profile::F32, Profile::F32, Profile::BlockLinearU16]);
+    let (mode, dim) = (setup.mode, setup.dim);
+    let count = if mode == Mode::PolarOnly { 0 } else { setup.projections };
+    let norm =
+        if count == 0 { None } else { rng.one_of(&[None, Some(0.0), Some(-0.0), Some(1.0)]) };
+    let radii = rng.many(dim / 2, |rng| rng.one_of(&[0.0, 0.0, 1.0, 2.0]));
+    let indices = rng.many(dim / 2, |rng| rng.below(4) as u16);
+    let signs = rng.many(count, |rng| rng.one_of(&[-1, 1]));
+    let mut record = vec![0; record_size(profile, dim, 2, mode, count, norm).unwrap()];
+    let out = &mut record;
+    write_record(profile, dim, 2, mode, count, norm, &radii, &indices, &signs, out).unwrap();
+    record
+}
+
+/// A record that is good, withdrawn, or has a fault: a length, the map, dimension, bits, a radius,
+/// padding, range, projections, norm, or another setup's form; or a radius or a norm with which a
+/// score may be infinite.
+fn any(rng: &mut Rng, setup: &Setup) -> Vec<u8> {
+    let mut record = good(rng, setup);
+    let head = 6 + if record[0] & 2 != 0 { 4 } else { 0 } + if record[0] & 4 != 0 { 4 } else { 0 };
+    let largest = f32::MAX.to_le_bytes();
+    match rng.below(40) {
+        0..4 => record.clear(),
+        4 => record.truncate(rng.below(record.len())),
+        5 => record.push(0),
+        6 => record[0] |= rng.one_of(&[8, 64, 128]),
+        7 => record[1] = rng.one_of(&[0, 2, 3, 5, 8]),
+        8 => record[2] = 0x20,
+        9 => record[5] = rng.one_of(&[0, 1, 3, 17]),
+        10 if record[0] & 1 == 0 => record[head + 3] |= 0x80,
+        11 if record[0] & 1 == 0 => record[head..head + 4].copy_from_slice(&largest),
+        12 if record[0] & 1 == 0 => record[head + 2..head + 4].copy_from_slice(&[0x80, 0x7F]),
+        // The range stands behind the six bytes, then the projections, then the norm.
+        17 if record[0] & 1 == 1 => record[9] = 0x7F,
+        18 if record[0] & 2 == 2 => {
+            let at = 6 + if record[0] & 1 == 1 { 8 } else { 0 };
+            record[at] = 0;
+        }
+        19..22 if record[0] & 4 == 4 => {
+            let at = 6 + 4 + if record[0] & 1 == 1 { 8 } else { 0 };
+            let norm = rng.one_of(&[-1.0, f32::NAN, f32::INFINITY, 2.5e38]);
+            record[at..at + 4].copy_from_slice(&norm.to_le_bytes());
+        }
+        13 => *record.last_mut().unwrap() |= 0x80,
+        14 => record = good(rng, &ONLY),
+        15 => record = good(rng, &BOTH),
+        16 => record = good(rng, &TURNED),
+        _ => {}
+    }
+    record
+}
+
+/// What the scan must be: all accepted records in the order in which they came, and the counts.
+#[derive(Default)]
+struct Model {
+    accepted: Vec<Hit>,
+    taken: u32,
+    refused: u32,
+    withdrawn: u32,
+    /// How often each number was a refused record's.
+    numbers: BTreeMap<u32, u32>,
+}
+
+impl Model {
+    /// What a record must answer, by the call that scores one.
+    fn takes(&mut self, answer: Result<Position<f32>, Refusal>) -> Taken {
+        let number = self.taken;
+        self.taken += 1;
+        match answer {
+            Ok(Position::Kept(score)) => {
+                self.accepted.push(Hit { number, score });
+                Taken::Accepted(score)
+            }
+            Ok(Position::Withdrawn) => {
+                self.withdrawn += 1;
+                Taken::Withdrawn
+            }
+            Err(refusal) => {
+                self.refused += 1;
+                *self.numbers.entry(refusal.number).or_default() += 1;
+                Taken::Refused(refusal)
+            }
+        }
+    }
+
+    /// The accepted records, sorted; a stable sort leaves equal scores by number.
+    fn sorted(&self) -> Vec<Hit> {
+        let mut all = self.accepted.clone();
+        all.sort_by(|one, other| other.score.partial_cmp(&one.score).unwrap());
+        all
+    }
+
+    fn holds(&self, scan: &Scan) {
+        let sorted = self.sorted();
+        let wanted = &sorted[..sorted.len().min(scan.length())];
+        let bits = |hit: &Hit| (hit.number, hit.score.to_bits());
+        let mut hits = vec![Hit { number: 77, score: 7.5 }; wanted.len()];
+        scan.close(&mut hits).unwrap();
+        assert!(hits.iter().map(bits).eq(wanted.iter().map(bits)), "{hits:?} and {wanted:?}");
+        assert!(scan.hits().eq(hits));
+        assert_eq!(scan.kept(), wanted.len());
+        let counts = (scan.taken(), scan.refused(), scan.withdrawn());
+        assert_eq!(counts, (self.taken, self.refused, self.withdrawn));
+    }
+}
+
+/// A query with its prepared form.
+struct Query {
+    plain: Vec<f32>,
+    rotated: Vec<f32>,
+    projected: Vec<f32>,
+}
+
+fn query(rng: &mut Rng, setup: &Setup) -> Query {
+    let plain = rng.many(setup.dim, |rng| rng.one_of(&[-2.0, -1.0, 0.0, 0.0, 1.0, 2.0, 4.0]));
+    let count = if setup.mode == Mode::PolarOnly { 0 } else { setup.projections };
+    let (mut rotated, mut projected) = (vec![0.0; setup.dim], vec![0.0; count]);
+    setup.prepare_query(&plain, &mut rotated, &mut projected).unwrap();
+    Query { plain, rotated, projected }
+}
+
+/// A call with a setup or a query that is refused: it says what scoring says, and takes nothing.
+fn refuse(rng: &mut Rng, scan: &mut Scan, setup: &Setup, query: &Query, record: &[u8]) {
+    let before = scan.clone();
+    let Query { plain, rotated, projected } = query;
+    let (mut spoilt, mut turned) = (plain.clone(), rotated.clone());
+    let at = rng.below(plain.len());
+    spoilt[at] = rng.one_of(&[f32::NAN, f32::INFINITY, f32::NEG_INFINITY]);
+    turned[at] = spoilt[at];
+    let long = [&plain[..], &[1.0]].concat();
+    let mut table = setup.directions.to_vec();
+    table[at] = 1.5;
+    let odd = [
+        Setup { dim: 0, ..*setup },
+        Setup { dim: 3, ..*setup },
+        Setup { dim: 514, ..*setup },
+        Setup { bits: 0, ..*setup },
+        Setup { directions: &table, ..*setup },
+        Setup { directions: &table[1..], ..*setup },
+    ];
+    let odd = &odd[rng.below(odd.len())];
+    for (setup, query) in [(odd, plain), (setup, &spoilt), (setup, &long)] {
+        let refusal = setup.inner_product_estimate(query, record).unwrap_err();
+        assert_eq!(scan.take(setup, query, record), Err(refusal));
+    }
+    for (setup, rotated) in [(odd, rotated), (setup, &turned), (setup, &long)] {
+        let prepared = setup.inner_product_estimate_prepared(rotated, projected, record);
+        let refusal = prepared.unwrap_err();
+        assert_eq!(scan.take_prepared(setup, rotated, projected, record), Err(refusal));
+        let many = scan.take_many(setup, rotated, projected, record, &[record.len(); 2]);
+        assert_eq!(many, Err(refusal));
+    }
+    let end = record.len() + 1 + rng.below(9);
+    let many = scan.take_many(setup, rotated, projected, record, &[0, record.len(), end]);
+    assert_eq!(many, Err(Refusal { number: 5, place: end }));
+    if !record.is_empty() {
+        let end = rng.below(record.len());
+        let many = scan.take_many(setup, rotated, projected, record, &[record.len(), end]);
+        assert_eq!(many, Err(Refusal { number: 5, place: end }));
+    }
+    assert_eq!(*scan, before);
+}
+
+/// One stream under one query, taken in four ways; the model afterwards.
+fn stream(seed: u64, setup: &Setup, length: usize, count: usize) -> Model {
+    let rng = &mut Rng(seed);
+    let query = query(rng, setup);
+    let Query { plain, rotated, projected } = &query;
+    let records: Vec<Vec<u8>> = rng.many(count, |rng| any(rng, setup));
+    let mut model = Model::default();
+    let (mut singly, mut prepared) = (Scan::open(length).unwrap(), Scan::open(length).unwrap());
+    for (i, record) in records.iter().enumerate() {
+        let wanted = model.takes(setup.inner_product_estimate(plain, record));
+        assert_eq!(singly.take(setup, plain, record), Ok(wanted));
+        let taken = prepared.take_prepared(setup, rotated, projected, record);
+        assert_eq!(taken, Ok(wanted));
+        if i < 200 || rng.below(50) == 0 {
+            model.holds(&singly);
+            assert_eq!(singly, prepared);
+        }
+        if rng.below(20) == 0 {
+            refuse(rng, &mut singly, setup, &query, record);
+        }
+    }
+    let mut many = Scan::open(length).unwrap();
+    let mut rest = &records[..];
+    while !rest.is_empty() {
+        let most = rng.one_of(&[1, 2, 10, 100, 1000]);
+        let (batch, later) = rest.split_at(rng.below(most + 1).min(rest.len()));
+        let (bytes, mut end) = (batch.concat(), 0);
+        let ends: Vec<usize> = batch.iter().map(|record| (end += record.len(), end).1).collect();
+        many.take_many(setup, rotated, projected, &bytes, &ends).unwrap();
+        rest = later;
+    }
+    let mut each = Scan::open(length).unwrap();
+    each.take_each(setup, rotated, projected, &records).unwrap();
+    for scan in [&singly, &prepared, &many, &each] {
+        model.holds(scan);
+    }
+    model
+}
+
+#[test]
+fn a_full_sort_gives_the_hits() {
+    let (mut cut, mut numbers, mut withdrawn, mut zeros) = (0, BTreeMap::new(), 0, 0);
+    for length in 1..=64 {
+        for (i, setup) in [ONLY, BOTH, TURNED].iter().enumerate() {
+            let model = stream((3 * length + i) as u64, setup, length, 3000);
+            let sorted = model.sorted();
+            // Equal scores of which some are kept and some are not.
+            cut += (sorted[length - 1].score == sorted[length].score) as u32;
+            withdrawn += model.withdrawn;
+            zeros += sorted.iter().filter(|hit| hit.score == 0.0).count();
+            for (number, count) in model.numbers {
+                *numbers.entry(number).or_insert(0) += count;
+            }
+        }
+    }
+    assert!(cut > 100, "{cut}");
+    assert!(withdrawn > 10_000 && zeros > 10_000, "{withdrawn} and {zeros}");
+    // Every number that a record can be refused with here, many times.
+    for number in [1, 2, 3, 4, 5, 8, 12, 13, 14, 16, 17, 18, 20, 23] {
+        assert!(numbers.get(&number).is_some_and(|count| *count > 100), "{number} of {numbers:?}");
+    }
+}
+
+#[test]
+fn a_new_query_for_every_record() {
+    // Each record may come with a setup and a query of its own.
+    let rng = &mut Rng(1);
+    for length in [1, 7, 64] {
+        let (mut model, mut scan) = (Model::default(), Scan::open(length).unwrap());
+        for _ in 0..2000 {
+            let setup = &[ONLY, BOTH, TURNED][rng.below(3)];
+            let (query, record) = (query(rng, setup), any(rng, setup));
+            let wanted = model.takes(setup.inner_product_estimate(&query.plain, &record));
+            assert_eq!(scan.take(setup, &query.plain, &record), Ok(wanted));
+        }
+        model.holds(&scan);
+    }
+}
+
+/// Rising scores move every hit down, falling ones none.
+#[test]
+fn rising_and_falling_scores() {
+    let record = |radius: usize| {
+        let (radii, out) = ([radius as f32, 0.0], &mut [0; 15]);
+        write_record(Profile::F32, 4, 2, Mode::PolarOnly, 0, None, &radii, &[2, 2], &[], out)
+            .unwrap();
+        *out
+    };
+    let rotated = [1.0, 0.0, 0.0, 0.0];
+    for length in 1..=64 {
+        let mut rising = Scan::open(length).unwrap();
+        rising.take_each(&ONLY, &rotated, &[], (0..500).map(record)).unwrap();
+        let wanted = (0..length).map(|i| (499 - i) as u32);
+        assert!(rising.hits().map(|hit| hit.number).eq(wanted));
+        let mut falling = Scan::open(length).unwrap();
+        falling.take_each(&ONLY, &rotated, &[], (0..500).rev().map(record)).unwrap();
+        assert!(falling.hits().map(|hit| hit.number).eq(0..length as u32));
+        assert!(falling.hits().map(|hit| hit.score).eq(rising.hits().map(|hit| hit.score)));
+    }
+}
