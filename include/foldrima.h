@@ -6,12 +6,13 @@
  * against the sources.
  *
  * Slices. A slice is a pointer and a length in elements. The pointer is valid and aligned for so many elements. Where the length is 0 it may be
- * anything, NULL too: nothing is read or written through it (tested for every slice of every call). All other pointers (number, place, value, min, max,
- * start, count and the header's) must not be NULL. Memory that a call writes (a pointer that is not const) must overlap nothing else that it is lent.
+ * anything, NULL too: nothing is read or written through it (tested for every slice of every call). All other pointers (number, place, value, min,
+ * max, start, count, the header's, and scan of the functions that are defined below) must not be NULL. Memory that a call writes (a pointer that is
+ * not const) must overlap nothing else that it is lent.
  *
- * Answers. There are three kinds, told by *number and *place: beside a value they are 0 and 0, of a refusal its number (FOLDRIMA_..) and its place, and
- * of a withdrawn position FOLDRIMA_WITHDRAWN and 0. No refusal has the number 0 or 255. Neither a refusal nor a withdrawn position writes to any other
- * memory: *value, the header's values and every output keep what they held.
+ * Answers. There are three kinds, told by *number and *place: beside a value they are 0 and 0, of a refusal its number (FOLDRIMA_..) and its place,
+ * and of a withdrawn position FOLDRIMA_WITHDRAWN and 0. No refusal has the number 0 or 255. Neither a refusal nor a withdrawn position writes to any
+ * other memory, but for the tally of a foldrima_scan that a record is taken into: *value, the header's values and every output keep what they held.
  *
  * Withdrawn positions. A record of no bytes means that a position was withdrawn: that is no refusal, and there is no value. Only a call that takes a
  * record answers so, and its comment says where withdrawn comes in its order; a record of 1 to 5 bytes is refused (13). The calls that find a record's
@@ -50,10 +51,11 @@
  *
  * A call that takes records is given the tally by value and the two lists in place, and answers the tally that follows, which the caller keeps for the
  * next call. The lists are no outputs as above: they hold the scan's hits, are read, and are written only where a record comes to stand among these.
- * Behind the hits kept they may hold anything. foldrima_take_into and its two companions below do this to a foldrima_scan. A tally that is answered
- * tells whether the record took a number: taken is then one more. So it is beside a value, beside withdrawn, and beside a refusal from the record's
- * reading on, which is counted in refused too; a refusal before it, of the scan (22), the setup or the query, numbers nothing and leaves all as it was.
- * The same numbers can come from either side, so *number does not tell the two apart.
+ * Each has at least `length` places, else the scan keeps fewer hits. Behind the hits kept they may hold anything. foldrima_take_into and its two
+ * companions below do this to a foldrima_scan. A tally that is answered tells whether a single record took a number: taken is then one more; where
+ * many were taken it is ends_len more. A single record takes its number beside a value, beside withdrawn, and beside a refusal from the record's
+ * reading on, which is counted in refused too; a refusal before it, of the scan (22), the setup or the query, numbers nothing and leaves all as it
+ * was. The same numbers can come from either side, so *number does not tell the two apart.
  *
  * A scan may be copied, and laid away and taken up again, as any struct. On a tally or lists that these calls did not lead to, a call still ends and stays
  * within what it is lent: there is room for as many hits as the least of length, numbers_len and scores_len. foldrima_tally ends in four bytes of padding
@@ -358,11 +360,11 @@ foldrima_tally foldrima_scan_take_prepared(foldrima_tally tally, uint32_t *numbe
                                            const float *rotated, size_t rotated_len, const float *projected, size_t projected_len,
                                            const uint8_t *bytes, size_t bytes_len, uint32_t *number, size_t *place, float *value);
 
-/* Takes many records by a prepared query, all of them or none. Their bytes stand one behind the other, from the first byte on, and ends has the end of
- * each: a record of no bytes has that of the one before it. 22 where fewer numbers are left than records; then the prepared score's checks up to
- * withdrawn, which are made once for all; then 5 for the first end that lies before the one in front of it or behind the bytes, with that end as the
- * place. Each record then takes its number as it would singly: a refusal of its own is counted and not answered. Bytes behind the last end are not
- * looked at. */
+/* Takes many records by a prepared query, all of them or none. Their bytes stand one behind the other, from the first byte on, and ends has the end
+ * of each: a record of no bytes has that of the one before it (the first: 0). 22 where fewer numbers are left than records; then the prepared score's
+ * checks up to withdrawn, which are made once for all; then 5 for the first end that lies before the one in front of it or behind the bytes, with
+ * that end as the place. Each record then takes its number as it would singly: a refusal of its own is counted and not answered. Bytes behind the
+ * last end are not looked at. */
 foldrima_tally foldrima_scan_take_many(foldrima_tally tally, uint32_t *numbers, size_t numbers_len, float *scores, size_t scores_len, uint8_t mode,
                                        size_t dim, uint8_t bits, size_t projections, uint8_t kind, const float *directions, size_t directions_len,
                                        const float *rotated, size_t rotated_len, const float *projected, size_t projected_len, const uint8_t *bytes,
@@ -372,7 +374,7 @@ foldrima_tally foldrima_scan_take_many(foldrima_tally tally, uint32_t *numbers, 
 void foldrima_scan_close(foldrima_scan scan, foldrima_hit *out, size_t out_len, uint32_t *number, size_t *place);
 
 /* The same three calls on a foldrima_scan in place. The first two answer 1 where the record took a number and 0 where it did not; the third answers 1
- * where the records were taken and 0 where none was. */
+ * where the records were taken and 0 where the call was refused. */
 static inline int foldrima_take_into(foldrima_scan *scan, uint8_t mode, size_t dim, uint8_t bits, size_t projections, uint8_t kind,
                                      const float *rotation, size_t rotation_len, const float *directions, size_t directions_len, const float *matrix,
                                      size_t matrix_len, const float *query, size_t query_len, const uint8_t *bytes, size_t bytes_len,

@@ -25,6 +25,8 @@ _Static_assert(offsetof(foldrima_hit, number) == 0 && offsetof(foldrima_hit, sco
 #define TABLES signs, 2, directions, 4, NULL, 0
 #define PREPARED directions, 4, rotated, 2, NULL, 0
 
+enum { SIZE = 11 }; /* bytes of a record */
+
 static const float signs[2] = {1.0f, 1.0f}, directions[4] = {-1.0f, 0.0f, 1.0f, 0.0f}, query[2] = {3.0f, 4.0f};
 static float rotated[2];
 static uint32_t number;
@@ -47,7 +49,7 @@ static int told(const foldrima_scan *scan, uint32_t as_number, size_t as_place, 
 
 static void written(uint8_t *out, float radius, uint16_t index)
 {
-    foldrima_write_record(FOLDRIMA_F32, 2, 1, FOLDRIMA_POLAR_ONLY, 0, 0, 1.0f, &radius, 1, &index, 1, NULL, 0, out, 11, &number, &place);
+    foldrima_write_record(FOLDRIMA_F32, 2, 1, FOLDRIMA_POLAR_ONLY, 0, 0, 1.0f, &radius, 1, &index, 1, NULL, 0, out, SIZE, &number, &place);
     expect("a record", number == 0);
 }
 
@@ -55,9 +57,9 @@ int main(void)
 {
     /* Radii 1, 2, 2, 0.5, 2, 3, 1 towards the query or away from it, one behind the other; the scores are the radii times rotated[0], which is 7 / root 2. */
     static const float radii[7] = {1.0f, 2.0f, 2.0f, 0.5f, 2.0f, 3.0f, 1.0f};
-    uint8_t records[7][11];
+    uint8_t records[7 * SIZE];
     for (int i = 0; i < 7; i++)
-        written(records[i], radii[i], i != 5);
+        written(records + SIZE * i, radii[i], i != 5);
     foldrima_prepare_query(SETUP, TABLES, query, 2, rotated, 2, NULL, 0, &number, &place);
     expect("the query", number == 0 && fabsf(rotated[0] - 4.949747f) < 0.00001f);
 
@@ -68,21 +70,21 @@ int main(void)
 
     /* Numbers 0 to 3: by the query, by the prepared one, a record cut short, a withdrawn position. */
     float score = -1.0f;
-    int numbered = foldrima_take_into(&scan, SETUP, TABLES, query, 2, records[0], 11, &number, &place, &score);
+    int numbered = foldrima_take_into(&scan, SETUP, TABLES, query, 2, records, SIZE, &number, &place, &score);
     expect("by the query", numbered && score == rotated[0] && told(&scan, 0, 0, 1, 1, 0, 0));
-    numbered = foldrima_take_prepared_into(&scan, SETUP, PREPARED, records[1], 11, &number, &place, &score);
+    numbered = foldrima_take_prepared_into(&scan, SETUP, PREPARED, records + SIZE, SIZE, &number, &place, &score);
     expect("by the prepared query", numbered && score == 2 * rotated[0] && told(&scan, 0, 0, 2, 2, 0, 0));
-    numbered = foldrima_take_into(&scan, SETUP, TABLES, query, 2, records[0], 9, &number, &place, &score);
-    expect("a record cut short", numbered && told(&scan, FOLDRIMA_MALFORMED_LENGTH, 9, 2, 3, 1, 0));
+    numbered = foldrima_take_into(&scan, SETUP, TABLES, query, 2, records, 9, &number, &place, &score);
+    expect("a record cut short", numbered && score == 2 * rotated[0] && told(&scan, FOLDRIMA_MALFORMED_LENGTH, 9, 2, 3, 1, 0));
     numbered = foldrima_take_prepared_into(&scan, SETUP, PREPARED, NULL, 0, &number, &place, &score);
     expect("a withdrawn position", numbered && score == 2 * rotated[0] && told(&scan, FOLDRIMA_WITHDRAWN, 0, 2, 4, 1, 1));
 
     /* A query that is refused numbers nothing, and nor do ends of which one passes the bytes. */
     const float bad[2] = {1.0f, INFINITY};
-    numbered = foldrima_take_into(&scan, SETUP, TABLES, bad, 2, records[0], 11, &number, &place, &score);
-    expect("a refused query", !numbered && told(&scan, FOLDRIMA_NON_FINITE_INPUT, 1, 2, 4, 1, 1));
+    numbered = foldrima_take_into(&scan, SETUP, TABLES, bad, 2, records, SIZE, &number, &place, &score);
+    expect("a refused query", !numbered && score == 2 * rotated[0] && told(&scan, FOLDRIMA_NON_FINITE_INPUT, 1, 2, 4, 1, 1));
     size_t ends[5] = {11, 22, 33, 44, 56};
-    int taken = foldrima_take_many_into(&scan, SETUP, PREPARED, records[2], 55, ends, 5, &number, &place);
+    int taken = foldrima_take_many_into(&scan, SETUP, PREPARED, records + 2 * SIZE, 5 * SIZE, ends, 5, &number, &place);
     expect("an end behind the bytes", !taken && told(&scan, FOLDRIMA_DIMENSION_MISMATCH, 56, 2, 4, 1, 1));
 
     /* Numbers 4 to 8 in one call. The same from here on with lists of three. */
@@ -92,10 +94,10 @@ int main(void)
     memcpy(numbers, scan.numbers, sizeof numbers);
     memcpy(scores, scan.scores, sizeof scores);
     ends[4] = 55;
-    taken = foldrima_take_many_into(&scan, SETUP, PREPARED, records[2], 55, ends, 5, &number, &place);
+    taken = foldrima_take_many_into(&scan, SETUP, PREPARED, records + 2 * SIZE, 5 * SIZE, ends, 5, &number, &place);
     expect("many", taken && told(&scan, 0, 0, 3, 9, 1, 1));
     for (int i = 2; i < 7; i++) {
-        tally = foldrima_scan_take_prepared(tally, numbers, 3, scores, 3, SETUP, PREPARED, records[i], 11, &number, &place, &score);
+        tally = foldrima_scan_take_prepared(tally, numbers, 3, scores, 3, SETUP, PREPARED, records + SIZE * i, SIZE, &number, &place, &score);
         expect("one of many", number == 0 && score == radii[i] * (i == 5 ? -rotated[0] : rotated[0]));
     }
     expect("both ways", tally.length == scan.tally.length && tally.kept == scan.tally.kept && tally.taken == scan.tally.taken &&
@@ -105,8 +107,8 @@ int main(void)
     /* All numbers are taken: 22, before the query. */
     foldrima_scan full = scan;
     full.tally.taken = UINT32_MAX;
-    numbered = foldrima_take_into(&full, SETUP, TABLES, bad, 2, records[0], 11, &number, &place, &score);
-    expect("a full scan", !numbered && number == FOLDRIMA_SCAN_FULL && place == 0 && full.tally.taken == UINT32_MAX);
+    numbered = foldrima_take_into(&full, SETUP, TABLES, bad, 2, records, SIZE, &number, &place, &score);
+    expect("a full scan", !numbered && score == rotated[0] && number == FOLDRIMA_SCAN_FULL && place == 0 && full.tally.taken == UINT32_MAX);
 
     /* Closing: 6 at the hits kept, and then the hits. */
     foldrima_hit hits[3] = {{77, 7.5f}, {77, 7.5f}, {77, 7.5f}};

@@ -72,13 +72,13 @@ pub const SCANNED: usize = 1_000_000;
 pub const BEST: usize = 10;
 
 /// So many of them are distinct; the others repeat these in their order.
-const DISTINCT: usize = 4096;
+pub const DISTINCT: usize = 4096;
 
 /// The records of a scan under the setup and the query of `Turbo`: a pool of codes, and the pool's
 /// records one behind the other.
 pub struct Archive {
     codes: Vec<TurboCode>,
-    pool: Vec<u8>,
+    pub pool: Vec<u8>,
     /// The length of each record.
     pub size: usize,
     all: OnceLock<Vec<u8>>,
@@ -108,11 +108,12 @@ impl PartialOrd for Hit {
 }
 
 impl Archive {
-    /// The best of all records, as the Rust finds them: a score for each code, and a heap.
-    pub fn best(&self, turbo: &Turbo) -> Vec<Hit> {
+    /// The best of the first so many records, as the Rust finds them: a score for each code, and a
+    /// heap.
+    pub fn best(&self, turbo: &Turbo, count: usize) -> Vec<Hit> {
         let query = black_box(&turbo.prepared);
         let mut heap = BinaryHeap::with_capacity(BEST);
-        for (number, code) in (0..SCANNED as u32).zip(self.codes.iter().cycle()) {
+        for (number, code) in (0..count as u32).zip(self.codes.iter().cycle()) {
             let score = turbo.quantizer.inner_product_estimate_prepared(code, query).unwrap();
             let hit = Hit { number, score };
             if heap.len() < BEST {

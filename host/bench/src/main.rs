@@ -3,7 +3,7 @@
 //! each some milliseconds long, the two sides by turns. A ratio is the median of the
 //! rounds' own. `bench [ROUNDS] [MILLISECONDS] [NAME]`; 21 and 10 if not given, and with
 //! a name only the rows that have it in theirs. A scan's times are a record, in five rounds
-//! at most, each a million records long.
+//! at most, each one scan of a million records.
 
 mod clock;
 mod inputs;
@@ -184,8 +184,13 @@ fn rows(inputs: &Inputs) -> Vec<Row<'_>> {
     // as `.., packed` the packed code that it restores them from, as the port does each time.
     rows.under(&inputs.linear, false, ["prepared score, linear", "decode, linear"]);
     rows.under(&inputs.linear, true, ["prepared score, linear, packed", "decode, linear, packed"]);
-    for name in ["scan, one call", "scan, calls of 1000", "scan, one by one"] {
-        rows.add(name, || inputs.archive.best(&inputs.turbo));
+    // The Rust has one way; the port's three stand beside it.
+    let names: &[&'static str] = match cfg!(feature = "capi") {
+        true => &["scan, one call", "scan, calls of 1000", "scan, one by one"],
+        false => &["scan"],
+    };
+    for &name in names {
+        rows.add(name, || inputs.archive.best(&inputs.turbo, SCANNED));
     }
     rows.rows
 }
@@ -198,8 +203,13 @@ fn long_row(row: &str) -> (usize, u64) {
     }
 }
 
-/// How many calls take about this long.
-fn calls_in(call: &mut Call, long: Duration) -> u32 {
+/// How many calls take about this long; of a call that goes through many items one, after one that
+/// is not timed.
+fn calls_in(call: &mut Call, items: usize, long: Duration) -> u32 {
+    if items > 1 {
+        call();
+        return 1;
+    }
     let mut calls = 1u32;
     loop {
         let start = clock::now();
@@ -250,15 +260,22 @@ fn main() {
     let long = Duration::from_millis(number(1).unwrap_or(10));
     let asked = |row: &str| args.get(2).is_none_or(|name| row.contains(name.as_str()));
     let inputs = Inputs::new(7);
+    let rows: Vec<Row> = rows(&inputs).into_iter().filter(|row| asked(row.name)).collect();
     println!("Seed 7, {rounds} rounds of {long:?} of processor time for each side, by turns.");
+    if let Some((items, most)) = rows.iter().map(|row| long_row(row.name)).find(|row| row.0 > 1) {
+        println!(
+            "A scan's times are ns a record, in {} rounds of {items} records.",
+            rounds.min(most)
+        );
+    }
     println!();
     println!("| call | Rust, ns | least | ± | port, ns | least | ± | ratio | ± | target | |");
     println!("|---|--:|--:|--:|--:|--:|--:|--:|--:|--:|---|");
-    for mut row in rows(&inputs).into_iter().filter(|row| asked(row.name)) {
-        let rust_calls = calls_in(&mut row.rust, long);
-        let port_calls = row.port.as_mut().map(|port| calls_in(port, long));
-        let (mut rust, mut port, mut ratio) = (Vec::new(), Vec::new(), Vec::new());
+    for mut row in rows {
         let (items, most) = long_row(row.name);
+        let rust_calls = calls_in(&mut row.rust, items, long);
+        let port_calls = row.port.as_mut().map(|port| calls_in(port, items, long));
+        let (mut rust, mut port, mut ratio) = (Vec::new(), Vec::new(), Vec::new());
         for _ in 0..rounds.min(most) {
             rust.push(round(&mut row.rust, rust_calls) / items as f64);
             if let (Some(call), Some(calls)) = (row.port.as_mut(), port_calls) {
@@ -288,7 +305,7 @@ fn main() {
         println!("| part of the port's calls, 256 x 64, 8 bits | ns | least | ± |");
         println!("|---|--:|--:|--:|");
         for (name, mut call) in port::parts(&inputs).into_iter().filter(|part| asked(part.0)) {
-            let calls = calls_in(&mut call, long);
+            let calls = calls_in(&mut call, 1, long);
             let times = (0..rounds).map(|_| round(&mut call, calls)).collect();
             let (median, least, wide) = summary(times);
             println!("| {name} | {median:.0} | {least:.0} | {wide:.0} % |");

@@ -6,7 +6,7 @@ use std::hint::black_box;
 use foldrima::{RadiusCodecProfileV1, Range, RotationKind, Scan, Setup, TurboMode};
 
 use crate::{
-    inputs::{Hit, Inputs, Sketch, Turbo, BEST, SCANNED},
+    inputs::{Hit, Inputs, Sketch, Turbo, BEST, DISTINCT, SCANNED},
     Call,
 };
 
@@ -166,27 +166,34 @@ fn single<'a>(row: &str, inputs: &'a Inputs) -> Option<Call<'a>> {
 }
 
 /// A scan of all records by the prepared query, so many in one call; one by one without ends. The
-/// first time its hits are held against the Rust's.
+/// first time its hits are held against the Rust's, and so are those of the distinct records alone:
+/// the best of all are one record, again and again.
 fn scan(inputs: &Inputs, many: usize) -> Call<'_> {
     let (turbo, archive) = (&inputs.turbo, &inputs.archive);
     let ends: Vec<usize> = (1..=many).map(|i| i * archive.size).collect();
-    let mut held = false;
-    Box::new(move || {
+    let scanned = move |records: &[u8]| {
         let (rotated, projected) = (black_box(&turbo.rotated), &turbo.projected);
-        let (setup, all) = (turbo_setup(turbo), black_box(archive.all()));
+        let (setup, records) = (turbo_setup(turbo), black_box(records));
         let mut scan = Scan::open(BEST).unwrap();
         if many == 1 {
-            let records = all.chunks_exact(archive.size);
+            let records = records.chunks_exact(archive.size);
             scan.take_each(&setup, rotated, projected, records).unwrap();
         } else {
-            for bytes in all.chunks_exact(archive.size * many) {
-                scan.take_many(&setup, rotated, projected, bytes, &ends).unwrap();
+            for bytes in records.chunks(archive.size * many) {
+                let ends = &ends[..bytes.len() / archive.size];
+                scan.take_many(&setup, rotated, projected, bytes, ends).unwrap();
             }
         }
-        black_box(&scan);
+        black_box(scan)
+    };
+    let mut held = false;
+    Box::new(move || {
+        let scan = scanned(archive.all());
         if !held {
-            let hits = scan.hits().map(|hit| Hit { number: hit.number, score: hit.score });
-            assert!(hits.eq(archive.best(turbo)), "another scan than the Rust's");
+            for (scan, count) in [(scan, SCANNED), (scanned(&archive.pool), DISTINCT)] {
+                let hits = scan.hits().map(|hit| Hit { number: hit.number, score: hit.score });
+                assert!(hits.eq(archive.best(turbo, count)), "another scan than the Rust's");
+            }
             held = true;
         }
     })

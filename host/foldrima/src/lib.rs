@@ -107,12 +107,12 @@ fn of_record(call: impl FnOnce(*mut u32, *mut usize)) -> Result<Position<()>, Re
     }
 }
 
-/// The same for a call that takes none, which can't answer that it is withdrawn.
+/// The same for a call that never answers withdrawn.
 #[inline]
 fn asked(call: impl FnOnce(*mut u32, *mut usize)) -> Result<(), Refusal> {
     match of_record(call)? {
         Position::Kept(()) => Ok(()),
-        Position::Withdrawn => unreachable!("withdrawn, without a record"),
+        Position::Withdrawn => unreachable!("withdrawn, by a call that never answers so"),
     }
 }
 
@@ -124,7 +124,7 @@ fn scored(call: impl FnOnce(*mut u32, *mut usize, *mut f32)) -> Result<Position<
     Ok(answer.map(|()| value))
 }
 
-/// The same for a call that takes none, with room for a value.
+/// The same for a call that never answers withdrawn, with room for a value.
 #[inline]
 fn valued<T: Default>(call: impl FnOnce(*mut u32, *mut usize, *mut T)) -> Result<T, Refusal> {
     let mut value = T::default();

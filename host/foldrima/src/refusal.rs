@@ -33,7 +33,7 @@ refusals! {
     ZERO_DIMENSION = 2, "dimension 0", "";
     ODD_DIMENSION = 3, "odd dimension", "the dimension";
     ROTATION_FAILED = 4, "an even dimension that is no power of two under Hadamard signs, or above 4,096", "the dimension";
-    DIMENSION_MISMATCH = 5, "an input's length, or a record's dimension, is not the setup's, or an end is wrong", "what was found";
+    DIMENSION_MISMATCH = 5, "an input's length, or a record's dimension, is not the setup's, or an end lies before the one in front of it or behind the bytes", "what was found";
     OUTPUT_LENGTH = 6, "an output isn't exactly the needed length", "the needed length";
     INVALID_DIRECTION = 7, "a direction entry is not finite or outside -1 to 1", "its index";
     ZERO_PROJECTION_COUNT = 8, "in residual mode, projections 0 or above 4,096", "the count";

@@ -39,6 +39,7 @@ fn nearest(
     archive: &[u8],
     ends: &[usize],
 ) -> Result<Vec<Hit>, Refusal> {
+    // Without residual a setup's projections are 0 here.
     let (mut rotated, mut projected) = (vec![0.0; setup.dim], vec![0.0; setup.projections]);
     setup.prepare_query(query, &mut rotated, &mut projected)?;
     let mut scan = Scan::open(10)?;

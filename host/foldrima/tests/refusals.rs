@@ -183,7 +183,14 @@ fn in_words() {
     assert_eq!(said(refusal::ODD_DIMENSION, 7), odd);
     assert_eq!(said(refusal::ZERO_DIMENSION, 0), "refused (2): dimension 0");
     assert_eq!(said(24, 5), "refused with the unknown number 24 at 5");
+    let mismatch = "refused (5): an input's length, or a record's dimension, is not the setup's, \
+                    or an end lies before the one in front of it or behind the bytes; \
+                    what was found: 34";
+    assert_eq!(said(refusal::DIMENSION_MISMATCH, 34), mismatch);
     assert_eq!(said(21, 0), "refused (21): a scan's length is 0 or above 64");
+    let full = "refused (22): a scan has taken 4,294,967,295 records, \
+                or has fewer numbers left than there are records";
+    assert_eq!(said(refusal::SCAN_FULL, 0), full);
     assert_eq!(said(23, 0), "refused (23): a norm is not finite or below zero");
     assert_eq!(said(26, 0), "refused (26): a stored rotation's dimension is above 512");
 }

@@ -1,6 +1,8 @@
 //! A scan: its refusals and their places, what takes a number and what does not, ties, and the
 //! last numbers. Streams of many records are in `streams`.
 
+use std::array::from_fn;
+
 use foldrima::{raw, refusal, Hit, Refusal, Scan, Setup, Taken, Tally};
 use one_pair::{RECORD, SETUP};
 
@@ -207,7 +209,7 @@ fn the_last_numbers() {
     const MOST: u32 = u32::MAX;
     let full = Err(Refusal { number: refusal::SCAN_FULL, place: 0 });
     let mut scan = scan_of(2, MOST - 3, &[(0, 1.0)]);
-    assert_eq!(scan.take(&SETUP, &ROTATED, &[]), Ok(Taken::Withdrawn));
+    assert_eq!(scan.take(&SETUP, &QUERY, &[]), Ok(Taken::Withdrawn));
     // Two numbers are left: many records are taken all or none, and 22 comes first of all.
     let bytes = [of(2.0), of(3.0), of(4.0)].concat();
     let before = held(&scan);
@@ -273,55 +275,139 @@ fn said_and_compared() {
     assert_ne!(Scan::from_raw(held), scan);
 }
 
-/// On counts and lists that no records led to, a call ends and stays within what it is lent.
+/// On counts and lists that no records led to, a call ends and stays within what it is lent. The
+/// hits that it finds there stand below the new ones and move down, as far as there is room.
 #[test]
 fn counts_that_no_records_led_to() {
     let far = usize::MAX;
-    for (length, kept) in [(far, far), (0, far), (far, 0), (0, 0), (3, 9), (9, 3), (65, 64)] {
-        for (numbers_len, scores_len) in [(0, 0), (0, 5), (5, 0), (3, 5), (5, 3), (1, 1), (5, 5)] {
-            let most = length.min(numbers_len).min(scores_len);
-            let mut tally = tally(length, kept, 7, u32::MAX, u32::MAX);
-            let (mut numbers, mut scores) = ([77; 7], [f32::NAN; 7]);
-            let (mut number, mut place, mut value) = (9, 9, 9.0);
-            let records = [of(2.0), of(f32::NAN), of(3.0), of(2.0)];
-            for record in records.iter().map(|record| &record[..]).chain([&[][..]]) {
-                tally = unsafe {
-                    raw::foldrima_scan_take_prepared(
-                        tally,
-                        numbers.as_mut_ptr().add(1),
-                        numbers_len,
-                        scores.as_mut_ptr().add(1),
-                        scores_len,
-                        0,
-                        2,
-                        1,
-                        0,
-                        0,
-                        SETUP.directions.as_ptr(),
-                        4,
-                        ROTATED.as_ptr(),
-                        2,
-                        [].as_ptr(),
-                        0,
-                        record.as_ptr(),
-                        record.len(),
-                        &mut number,
-                        &mut place,
-                        &mut value,
-                    )
-                };
+    for (length, kept) in
+        [(far, far), (0, far), (far, 0), (0, 0), (3, 9), (9, 3), (9, 1), (65, 64), (65, 70)]
+    {
+        for lens in [(0, 0), (0, 5), (5, 0), (3, 5), (5, 3), (1, 1), (2, 2), (5, 5)] {
+            let room = length.min(lens.0).min(lens.1);
+            let before = tally(length, kept, 7, u32::MAX, u32::MAX);
+            // The lists stand from place 1 on.
+            let numbers: [u32; 7] = [70, 71, 72, 73, 74, 75, 76];
+            let scores = [0.5, -1.0, -2.0, f32::MIN, f32::MIN, f32::MIN, 0.25];
+            let mut wanted = (before, numbers, scores.map(f32::to_bits));
+            (wanted.0.taken, wanted.0.refused, wanted.0.withdrawn) = (12, 0, 0);
+            if room > 0 {
+                let old = (1..=kept.min(room)).map(|i| (numbers[i], scores[i]));
+                let new = [(9, 3.0f32), (7, 2.0), (10, 2.0)].into_iter().chain(old).take(room);
+                for (i, (number, score)) in (1..).zip(new) {
+                    (wanted.0.kept, wanted.1[i], wanted.2[i]) = (i, number, score.to_bits());
+                }
             }
-            assert_eq!((tally.length, tally.taken, number), (length, 12, 255));
-            // In front of the lists, and behind the room that there is, nothing is written.
-            let spare = numbers[..1].iter().chain(&numbers[1 + most..]);
-            assert!(spare.eq(vec![&77; 7 - most]), "{numbers:?}");
-            let spare = scores[..1].iter().chain(&scores[1 + most..]);
-            assert!(spare.copied().all(f32::is_nan), "{scores:?}");
-            let scan = raw::Scan { tally, numbers: [1; 64], scores: [1.0; 64] };
-            let mut out = [Hit::default(); 7];
-            let closed = Scan::from_raw(scan).close(&mut out);
-            assert_eq!(closed.is_ok(), tally.kept == 7);
-            assert!(Scan::from_raw(scan).hits().len() <= 64);
+            let records = [of(2.0), of(f32::NAN), of(3.0), of(2.0)];
+            let left = singly(before, numbers, scores, lens, &records);
+            assert_eq!(left, wanted, "{length} and {kept}, {lens:?}");
+            let left = at_once(before, numbers, scores, lens, &records);
+            assert_eq!(left, wanted, "{length} and {kept}, {lens:?}, at once");
+            closed(wanted.0);
         }
     }
+}
+
+/// The tally and both lists, by patterns.
+type Left = (Tally, [u32; 7], [u32; 7]);
+
+/// The records and a withdrawn position taken one by one into lists of these lengths, which stand
+/// from place 1 on.
+fn singly(
+    mut tally: Tally,
+    mut numbers: [u32; 7],
+    mut scores: [f32; 7],
+    (numbers_len, scores_len): (usize, usize),
+    records: &[[u8; 11]],
+) -> Left {
+    let (mut number, mut place, mut value) = (9, 9, 9.0);
+    for record in records.iter().map(|record| &record[..]).chain([&[][..]]) {
+        tally = unsafe {
+            raw::foldrima_scan_take_prepared(
+                tally,
+                numbers.as_mut_ptr().add(1),
+                numbers_len,
+                scores.as_mut_ptr().add(1),
+                scores_len,
+                0,
+                2,
+                1,
+                0,
+                0,
+                SETUP.directions.as_ptr(),
+                4,
+                ROTATED.as_ptr(),
+                2,
+                [].as_ptr(),
+                0,
+                record.as_ptr(),
+                record.len(),
+                &mut number,
+                &mut place,
+                &mut value,
+            )
+        };
+    }
+    assert_eq!((number, place), (255, 0));
+    (tally, numbers, scores.map(f32::to_bits))
+}
+
+/// The same in one call.
+fn at_once(
+    tally: Tally,
+    mut numbers: [u32; 7],
+    mut scores: [f32; 7],
+    (numbers_len, scores_len): (usize, usize),
+    records: &[[u8; 11]],
+) -> Left {
+    let (mut number, mut place) = (9, 9);
+    let bytes = records.concat();
+    let ends: Vec<usize> = (1..=records.len()).chain([records.len()]).map(|i| 11 * i).collect();
+    let tally = unsafe {
+        raw::foldrima_scan_take_many(
+            tally,
+            numbers.as_mut_ptr().add(1),
+            numbers_len,
+            scores.as_mut_ptr().add(1),
+            scores_len,
+            0,
+            2,
+            1,
+            0,
+            0,
+            SETUP.directions.as_ptr(),
+            4,
+            ROTATED.as_ptr(),
+            2,
+            [].as_ptr(),
+            0,
+            bytes.as_ptr(),
+            bytes.len(),
+            ends.as_ptr(),
+            ends.len(),
+            &mut number,
+            &mut place,
+        )
+    };
+    assert_eq!((number, place), (0, 0));
+    (tally, numbers, scores.map(f32::to_bits))
+}
+
+/// A scan of any tally is closed into as many hits as are kept; past 64 the places begin anew.
+fn closed(tally: Tally) {
+    let numbers = from_fn(|i| i as u32);
+    let scores = from_fn(|i| 0.5 * i as f32);
+    let scan = Scan::from_raw(raw::Scan { tally, numbers, scores });
+    assert_eq!(scan.hits().len(), tally.kept.min(64));
+    let other = Hit { number: 77, score: 7.5 };
+    if tally.kept > 100 {
+        let mut out = [other; 64];
+        assert_eq!(scan.close(&mut out), refused(refusal::OUTPUT_LENGTH, tally.kept));
+        assert_eq!(out, [other; 64]);
+        return;
+    }
+    let mut out = vec![other; tally.kept];
+    assert_eq!(scan.close(&mut out), Ok(()));
+    let at = |i: usize| Hit { number: numbers[i % 64], score: scores[i % 64] };
+    assert!(out.iter().copied().eq((0..tally.kept).map(at)), "{out:?}");
 }

@@ -1,12 +1,14 @@
 //! Streams of thousands of records, many of them with equal scores, refused or withdrawn, taken
-//! singly by a query, singly by a prepared one and many at once: after each record a scan has
-//! the hits that a full sort of the accepted records gives, and the counts.
+//! singly by a query, singly by a prepared one and many at once: after each of the first records,
+//! now and then later, after each call that takes many, and at the end a scan has the hits that a
+//! full sort of the accepted records gives, and the counts.
 
 use std::collections::BTreeMap;
 
 use foldrima::{
-    record_size, write_record, Hit, Position, RadiusCodecProfileV1 as Profile, Refusal,
-    RotationKind, Scan, Setup, Taken, TurboMode as Mode,
+    dequantize_angle, raw, record_size, write_record, Hit, Position,
+    RadiusCodecProfileV1 as Profile, Refusal, RotationKind, Scan, Setup, Taken, Tally,
+    TurboMode as Mode,
 };
 
 /// SplitMix64.
@@ -63,19 +65,22 @@ const BOTH: Setup =
     Setup { mode: Mode::PolarWithQjl, bits: 3, projections: 3, matrix: &MATRIX, ..ONLY };
 const TURNED: Setup = Setup { kind: RotationKind::Stored, dim: 6, rotation: &STORED, ..ONLY };
 
-/// A good record under a setup; scores of such records are few.
+/// A good record under a setup; under the three above scores of such records are few.
 fn good(rng: &mut Rng, setup: &Setup) -> Vec<u8> {
     let profile = rng.one_of(&[Profile::F32, Profile::F32, Profile::BlockLinearU16]);
     let (mode, dim) = (setup.mode, setup.dim);
-    let count = if mode == Mode::PolarOnly { 0 } else { setup.projections };
+    let (count, bits) = match mode {
+        Mode::PolarOnly => (0, setup.bits),
+        Mode::PolarWithQjl => (setup.projections, setup.bits - 1),
+    };
     let norm =
         if count == 0 { None } else { rng.one_of(&[None, Some(0.0), Some(-0.0), Some(1.0)]) };
     let radii = rng.many(dim / 2, |rng| rng.one_of(&[0.0, 0.0, 1.0, 2.0]));
-    let indices = rng.many(dim / 2, |rng| rng.below(4) as u16);
+    let indices = rng.many(dim / 2, |rng| rng.below(1 << bits) as u16);
     let signs = rng.many(count, |rng| rng.one_of(&[-1, 1]));
-    let mut record = vec![0; record_size(profile, dim, 2, mode, count, norm).unwrap()];
+    let mut record = vec![0; record_size(profile, dim, bits, mode, count, norm).unwrap()];
     let out = &mut record;
-    write_record(profile, dim, 2, mode, count, norm, &radii, &indices, &signs, out).unwrap();
+    write_record(profile, dim, bits, mode, count, norm, &radii, &indices, &signs, out).unwrap();
     record
 }
 
@@ -97,6 +102,11 @@ fn any(rng: &mut Rng, setup: &Setup) -> Vec<u8> {
         10 if record[0] & 1 == 0 => record[head + 3] |= 0x80,
         11 if record[0] & 1 == 0 => record[head..head + 4].copy_from_slice(&largest),
         12 if record[0] & 1 == 0 => record[head + 2..head + 4].copy_from_slice(&[0x80, 0x7F]),
+        // The last radius.
+        22 if record[0] & 1 == 0 => {
+            let end = head + 2 * setup.dim;
+            record[end - 4..end].copy_from_slice(&(-1.0f32).to_le_bytes());
+        }
         // The range stands behind the six bytes, then the projections, then the norm.
         17 if record[0] & 1 == 1 => record[9] = 0x7F,
         18 if record[0] & 2 == 2 => {
@@ -124,8 +134,8 @@ struct Model {
     taken: u32,
     refused: u32,
     withdrawn: u32,
-    /// How often each number was a refused record's.
-    numbers: BTreeMap<u32, u32>,
+    /// Those of the refused records.
+    refusals: Vec<Refusal>,
 }
 
 impl Model {
@@ -144,7 +154,7 @@ impl Model {
             }
             Err(refusal) => {
                 self.refused += 1;
-                *self.numbers.entry(refusal.number).or_default() += 1;
+                self.refusals.push(refusal);
                 Taken::Refused(refusal)
             }
         }
@@ -186,9 +196,15 @@ fn query(rng: &mut Rng, setup: &Setup) -> Query {
     Query { plain, rotated, projected }
 }
 
+/// All that a scan holds, also behind its hits, with scores as patterns.
+fn held(scan: &Scan) -> (Tally, [u32; 64], [u32; 64]) {
+    let raw::Scan { tally, numbers, scores } = *scan.raw();
+    (tally, numbers, scores.map(f32::to_bits))
+}
+
 /// A call with a setup or a query that is refused: it says what scoring says, and takes nothing.
 fn refuse(rng: &mut Rng, scan: &mut Scan, setup: &Setup, query: &Query, record: &[u8]) {
-    let before = scan.clone();
+    let before = held(scan);
     let Query { plain, rotated, projected } = query;
     let (mut spoilt, mut turned) = (plain.clone(), rotated.clone());
     let at = rng.below(plain.len());
@@ -196,7 +212,7 @@ fn refuse(rng: &mut Rng, scan: &mut Scan, setup: &Setup, query: &Query, record: 
     turned[at] = spoilt[at];
     let long = [&plain[..], &[1.0]].concat();
     let mut table = setup.directions.to_vec();
-    table[at] = 1.5;
+    table[at % setup.directions.len()] = 1.5;
     let odd = [
         Setup { dim: 0, ..*setup },
         Setup { dim: 3, ..*setup },
@@ -225,7 +241,7 @@ fn refuse(rng: &mut Rng, scan: &mut Scan, setup: &Setup, query: &Query, record: 
         let many = scan.take_many(setup, rotated, projected, record, &[record.len(), end]);
         assert_eq!(many, Err(Refusal { number: 5, place: end }));
     }
-    assert_eq!(*scan, before);
+    assert_eq!(held(scan), before);
 }
 
 /// One stream under one query, taken in four ways; the model afterwards.
@@ -235,7 +251,10 @@ fn stream(seed: u64, setup: &Setup, length: usize, count: usize) -> Model {
     let Query { plain, rotated, projected } = &query;
     let records: Vec<Vec<u8>> = rng.many(count, |rng| any(rng, setup));
     let mut model = Model::default();
-    let (mut singly, mut prepared) = (Scan::open(length).unwrap(), Scan::open(length).unwrap());
+    let opened = Scan::open(length).unwrap();
+    let (mut singly, mut prepared, mut many) = (opened.clone(), opened.clone(), opened.clone());
+    // The records that are still to be taken many at once.
+    let (mut bytes, mut ends, mut batch) = (Vec::<u8>::new(), vec![], 1);
     for (i, record) in records.iter().enumerate() {
         let wanted = model.takes(setup.inner_product_estimate(plain, record));
         assert_eq!(singly.take(setup, plain, record), Ok(wanted));
@@ -245,21 +264,22 @@ fn stream(seed: u64, setup: &Setup, length: usize, count: usize) -> Model {
             model.holds(&singly);
             assert_eq!(singly, prepared);
         }
+        bytes.extend(record);
+        ends.push(bytes.len());
+        if ends.len() == batch || i + 1 == count {
+            many.take_many(setup, rotated, projected, &bytes, &ends).unwrap();
+            many.take_many(setup, rotated, projected, &bytes, &[]).unwrap();
+            model.holds(&many);
+            bytes.clear();
+            ends.clear();
+            let most = rng.one_of(&[1, 2, 10, 100, 1000]);
+            batch = 1 + rng.below(most);
+        }
         if rng.below(20) == 0 {
             refuse(rng, &mut singly, setup, &query, record);
         }
     }
-    let mut many = Scan::open(length).unwrap();
-    let mut rest = &records[..];
-    while !rest.is_empty() {
-        let most = rng.one_of(&[1, 2, 10, 100, 1000]);
-        let (batch, later) = rest.split_at(rng.below(most + 1).min(rest.len()));
-        let (bytes, mut end) = (batch.concat(), 0);
-        let ends: Vec<usize> = batch.iter().map(|record| (end += record.len(), end).1).collect();
-        many.take_many(setup, rotated, projected, &bytes, &ends).unwrap();
-        rest = later;
-    }
-    let mut each = Scan::open(length).unwrap();
+    let mut each = opened;
     each.take_each(setup, rotated, projected, &records).unwrap();
     for scan in [&singly, &prepared, &many, &each] {
         model.holds(scan);
@@ -278,8 +298,8 @@ fn a_full_sort_gives_the_hits() {
             cut += (sorted[length - 1].score == sorted[length].score) as u32;
             withdrawn += model.withdrawn;
             zeros += sorted.iter().filter(|hit| hit.score == 0.0).count();
-            for (number, count) in model.numbers {
-                *numbers.entry(number).or_insert(0) += count;
+            for refusal in model.refusals {
+                *numbers.entry(refusal.number).or_insert(0) += 1;
             }
         }
     }
@@ -288,6 +308,41 @@ fn a_full_sort_gives_the_hits() {
     // Every number that a record can be refused with here, many times.
     for number in [1, 2, 3, 4, 5, 8, 12, 13, 14, 16, 17, 18, 20, 23] {
         assert!(numbers.get(&number).is_some_and(|count| *count > 100), "{number} of {numbers:?}");
+    }
+}
+
+/// Records of several blocks of radii, under setups of common widths: every profile and a norm,
+/// and bad radii at both ends.
+#[test]
+fn wide_records() {
+    let rng = &mut Rng(2);
+    let mut directions = vec![];
+    for index in 0..128 {
+        let angle = dequantize_angle(7, index).unwrap();
+        directions.extend([angle.cos(), angle.sin()]);
+    }
+    for (dim, projections, kind) in [
+        (256, 64, RotationKind::FastHadamard),
+        (1024, 256, RotationKind::FastHadamard),
+        (90, 30, RotationKind::Stored),
+    ] {
+        let unit = |rng: &mut Rng| rng.below(2001) as f32 / 1000.0 - 1.0;
+        let rotation = match kind {
+            RotationKind::FastHadamard => rng.many(dim, |rng| rng.one_of(&[-1.0, 1.0])),
+            RotationKind::Stored => rng.many(dim * dim, unit),
+        };
+        let matrix = rng.many(projections * dim, unit);
+        let (rotation, directions, matrix) = (&rotation[..], &directions[..], &matrix[..]);
+        let (mode, bits) = (Mode::PolarWithQjl, 8);
+        let setup = Setup { mode, dim, bits, projections, kind, rotation, directions, matrix };
+        for length in [1, 10, 64] {
+            let model = stream((dim + length) as u64, &setup, length, 500);
+            assert!(model.accepted.len() > 250, "{}", model.accepted.len());
+            for (number, place) in [(16, 0), (16, dim / 2 - 1), (12, 0), (23, 0)] {
+                let refusal = Refusal { number, place };
+                assert!(model.refusals.contains(&refusal), "{refusal}: {:?}", model.refusals);
+            }
+        }
     }
 }
 
