@@ -1,7 +1,7 @@
 -- What holds of every hit of a list, or between each hit and every later one, holds of its parts, of lists put together and of the hit at a place. The properties
 -- that only proofs name stand first. Assumes nothing.
 use mathlib.Core.Path.{_≡_}
-use Prim.Native.Nat.{ℕ, zero, suc, _<_, _≤_}
+use Prim.Native.Nat.{ℕ, zero, suc, _<_}
 use native.Mathlib.Omega.{arith}
 use mathlib.Core.Bool.{false, cond}
 use mathlib.Core.List.{List, [], _∷_, _++_}
@@ -63,12 +63,6 @@ unfolding Every
 every-all P d [] j p l = absurd (omega arith)
 every-all P d (h ∷ hs) zero p l = p .0
 every-all P d (h ∷ hs) (suc j) p l = every-all P d hs j (p .1) (omega arith)
-
-pub olders-more : (n m : ℕ) (hs : List Hit) → n ≤ m → Olders n hs → Olders m hs
-olders-more n m hs le old = every-weaken (λ (h : Hit). h .number < n) (λ (h : Hit). h .number < m) (λ h l. omega arith) hs old
-
-pub olders-snoc : (n : ℕ) (hs : List Hit) (x : Hit) → Olders n hs → x .number < n → Olders n (hs ++ (x ∷ []))
-olders-snoc n hs x old l = every-snoc (λ (h : Hit). h .number < n) hs x old l
 
 -- ---- each hit and every later one
 pub pairwise-both : (P Q R : Hit → Hit → Type 0) → ((y z : Hit) → P y z → Q y z → R y z) → (hs : List Hit) → Pairwise P hs → Pairwise Q hs → Pairwise R hs

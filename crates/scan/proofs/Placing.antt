@@ -7,8 +7,8 @@ use mathlib.Core.List.{List, [], _∷_, _++_, map}
 use mathlib.Core.Logic.{⊎-elim}
 use native.Mathlib.Decide.{decLt}
 use native.Mathlib.Omega.{arith}
-use lib.ListN.{length, take, drop, getD, length-append, length-take, length-drop, List·getD-append}
-use lib.Seq.{take-all, take-at, take-take, take-append-add, length-take-le, getD-take, getD-drop, getD-at, getD-append-add}
+use lib.ListN.{length, take, drop, getD, length-append, length-take, length-drop}
+use lib.Seq.{take-all, take-at, take-take, take-append-add}
 use lib.Ieee.{Float, nan, lt}
 use Rattle.ranking.proofs.Ranking.{either}
 use Rattle.scan.specs.Entering.{placeUp, putIn}
@@ -83,38 +83,6 @@ module _ {A : Type 0} where
         let n : suc last ≡ length (take at xs) + suc (last - at) = omega (arith, length-take at xs) in
         ap (take (suc last)) put-is ∙ take-at head (drop (suc last) xs) (suc last) head-length
         ∙ sym (ap (λ (i : ℕ). take i (between at x xs)) n ∙ take-append-add (take at xs) (x ∷ drop at xs) (suc (last - at)))
-
-    -- what stands where
-    put-head : (j : ℕ) (d : A) → j ≤ last → getD (putIn at last x xs) j d ≡ getD head j d
-    put-head j d l = ap (λ (l : List A). getD l j d) put-is ∙ List·getD-append head (drop (suc last) xs) d j (omega (arith, head-length))
-
-    pub put-low : (j : ℕ) (d : A) → j < at → getD (putIn at last x xs) j d ≡ getD xs j d
-    put-low j d l =
-        put-head j d (omega arith) ∙ List·getD-append (take at xs) (x ∷ take (last - at) (drop at xs)) d j (omega (arith, length-take at xs)) ∙ getD-take at xs j d l
-
-    pub put-there : (d : A) → getD (putIn at last x xs) at d ≡ x
-    put-there d = put-head at d within ∙ getD-at (take at xs) x (take (last - at) (drop at xs)) d at (length-take-le at xs (omega arith))
-
-    pub put-moved : (j : ℕ) (d : A) → at ≤ j → j < last → getD (putIn at last x xs) (suc j) d ≡ getD xs j d
-    put-moved j d from below =
-        let n : suc j ≡ length (take at xs) + suc (j - at) = omega (arith, length-take at xs) in
-        let i : at + (j - at) ≡ j = omega arith in
-        put-head (suc j) d (omega arith)
-        ∙ ap (λ (m : ℕ). getD head m d) n
-        ∙ getD-append-add (take at xs) (x ∷ take (last - at) (drop at xs)) (suc (j - at)) d
-        ∙ getD-take (last - at) (drop at xs) (j - at) d (omega arith)
-        ∙ getD-drop at xs (j - at) d
-        ∙ ap (λ (m : ℕ). getD xs m d) i
-
-    pub put-high : (j : ℕ) (d : A) → last < j → getD (putIn at last x xs) j d ≡ getD xs j d
-    put-high j d l =
-        let n : j ≡ length head + (j - suc last) = omega (arith, head-length) in
-        let i : suc last + (j - suc last) ≡ j = omega arith in
-        ap (λ (l : List A). getD l j d) put-is
-        ∙ ap (λ (m : ℕ). getD (head ++ drop (suc last) xs) m d) n
-        ∙ getD-append-add head (drop (suc last) xs) (j - suc last) d
-        ∙ getD-drop (suc last) xs (j - suc last) d
-        ∙ ap (λ (m : ℕ). getD xs m d) i
 
 -- A list begins with what some items say of themselves, and one more item is put in among them: it then begins with what the items say with that one between them,
 -- as many as there is room for.

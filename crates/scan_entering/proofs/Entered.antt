@@ -4,6 +4,7 @@ use Prim.Native.Nat.{ℕ, suc, _+_, _-_, _%_, _^_, min, _≤_, _<_}
 use mathlib.Core.Path.{_≡_, sym, ap, ap₂, _∙_}
 use mathlib.Core.Bool.{Bool, cond}
 use mathlib.Core.List.{List}
+use native.Mathlib.Numerals.{add-one}
 use native.Mathlib.Omega.{arith}
 use borrow.Author.Tests.{lt-ltb, le-ltb, le-leb, lt-leb}
 use lib.ListN.{length}
@@ -17,16 +18,13 @@ use Rattle.scan.specs.declared.Scan.{Scan}
 use Rattle.scan.specs.Scans.{scanOf, tallyOf}
 use Rattle.scan.specs.Entering.{most, roomOf, heldOf, placeUp, putIn, scoredIn, withHit, sameHits, withAnswer, enterOf}
 
-one-more : (n : ℕ) → n + 1 ≡ suc n
-one-more n = omega arith
-
 module _ (t : Tally) (ns : List ℕ) (ss : List Float) where
   abbrev scan : Scan
   scan = scanOf t ns ss
 
   -- the taken are counted as the program counts them
   counted-more : (refusals withdrawals : ℕ) → scanOf (tallyOf (t .length) (t .kept) (t .taken + 1) refusals withdrawals) ns ss ≡ sameHits scan refusals withdrawals
-  counted-more refusals withdrawals = ap (λ (n : ℕ). scanOf (tallyOf (t .length) (t .kept) n refusals withdrawals) ns ss) (one-more (t .taken))
+  counted-more refusals withdrawals = ap (λ (n : ℕ). scanOf (tallyOf (t .length) (t .kept) n refusals withdrawals) ns ss) (add-one (t .taken))
 
   -- two scans of the same length and counts of refused and withdrawn, part by part
   alike : {k k' n n' : ℕ} {ms ms' : List ℕ} {bs bs' : List Float} → k ≡ k' → n ≡ n' → ms ≡ ms' → bs ≡ bs'
@@ -58,7 +56,7 @@ module _ (t : Tally) (ns : List ℕ) (ss : List Float) where
         → scanOf (tallyOf (t .length) (last + 1) (t .taken + 1) (t .refused) (t .withdrawn)) ns' ss' ≡ scoredIn scan (placeUp x ss (heldOf scan)) x
     entered-in {last} h l n s =
         let end : last ≡ min (heldOf scan) (roomOf scan - 1) = l ∙ ap (λ (m : ℕ). min m (room - 1)) held-is ∙ ap (λ (m : ℕ). min (heldOf scan) (m - 1)) room-is in
-        alike (one-more last ∙ ap suc end) (one-more (t .taken)) (n ∙ ap₂ (λ (i j : ℕ). putIn i j (t .taken) ns) (sym place-is) end) (s ∙ ap₂ (λ (i j : ℕ). putIn i j x ss) (sym place-is) end)
+        alike (add-one last ∙ ap suc end) (add-one (t .taken)) (n ∙ ap₂ (λ (i j : ℕ). putIn i j (t .taken) ns) (sym place-is) end) (s ∙ ap₂ (λ (i j : ℕ). putIn i j x ss) (sym place-is) end)
         ∙ sym (ap (λ (b : Bool). cond b (withHit scan (placeUp x ss (heldOf scan)) x) (sameHits scan (t .refused) (t .withdrawn))) (lt-ltb (placeUp x ss (heldOf scan)) (roomOf scan) (omega (arith, h, room-is, place-is))))
 
   -- ---- the whole

@@ -42,10 +42,10 @@ module _ (x : Float) (scores : List Float) where
   unfolding placeUp
   place-none = refl
 
-  pub place-stopped : (i : ℕ) → 0 < i → lt (getD scores (i - 1) nan) x ≡ false → placeUp x scores i ≡ i
+  pub place-here : (i : ℕ) → 0 < i → lt (getD scores (i - 1) nan) x ≡ false → placeUp x scores i ≡ i
   unfolding placeUp
-  place-stopped zero h e = absurd (omega arith)
-  place-stopped (suc i) h e = simp (simp unary-clauses at e)
+  place-here zero h e = absurd (omega arith)
+  place-here (suc i) h e = simp (simp unary-clauses at e)
 
   pub place-passed : (i : ℕ) → 0 < i → lt (getD scores (i - 1) nan) x ≡ true → placeUp x scores i ≡ placeUp x scores (i - 1)
   unfolding placeUp

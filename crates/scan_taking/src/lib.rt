@@ -35,7 +35,7 @@ pub struct TakenTally {
 // ---- a scan by value
 
 // One record under a setup and a query: 22 first, then setup and query, whose refusals number nothing; then the record takes its number, and is counted as
-// refused or withdrawn or stands among the hits by its score.
+// refused or withdrawn, or stands among the hits where its score is one of the best.
 pub fn take(
     scan: Scan,
     setup: Setup,

@@ -39,6 +39,7 @@ fn singly(scan: Scan) -> Scan {
     each(scan, &bytes)
 }
 
+// Each record of the stream, in its order.
 fn each(scan: Scan, bytes: &[u8]) -> Scan {
     let zero = between(scan, bytes, 0, 19);
     let one = between(zero, bytes, 19, 34);

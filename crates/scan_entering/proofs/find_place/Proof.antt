@@ -5,7 +5,7 @@ use native.Mathlib.Omega.{arith}
 use borrow.Author.Needs.{needs}
 use borrow.Author.Tests.{not-true, not-false}
 use Rattle.scan.specs.Entering.{placeUp}
-use Rattle.scan_entering.proofs.Putting.{place-none, place-stopped, place-passed}
+use Rattle.scan_entering.proofs.Putting.{place-none, place-here, place-passed}
 use Rattle.scan_entering.proofs.find_place.Statement.{statement}
 use Rattle.scan_entering.proofs.find_place.Tie as tie
 
@@ -31,7 +31,7 @@ returns : tie.Need-returns Inv-loop μ-loop
 returns c =
     let a = c .before .before .before .before .args in
     let l = c .before .before .before .loop in
-    (sym (l .inv .1 ∙ place-stopped (a .score) (a .scores .now) (l .i) (c .before .before .loop-test .taken) (not-true _ (c .if1 .taken))), l .inv .0)
+    (sym (l .inv .1 ∙ place-here (a .score) (a .scores .now) (l .i) (c .before .before .loop-test .taken) (not-true _ (c .if1 .taken))), l .inv .0)
 
 sub-i : tie.Need-sub-i Inv-loop μ-loop
 sub-i c = search needs
