@@ -49,6 +49,9 @@
  * withdrawn ones too. Hits stand by falling score, and equal scores, both zeros included, by number: after each record they are the first `length` that
  * a full sort of the accepted records so far would give.
  *
+ * A new score is compared with the hits from the last upward and stops at the first that it does not beat; tally.comparisons has all that were made since
+ * the scan was opened. A record adds at most `length`, and a refused or withdrawn one none: in all they are at most 64 * 4,294,967,295.
+ *
  * A call that takes records is given the tally by value and the two lists in place, and answers the tally that follows, which the caller keeps for the
  * next call. The lists are no outputs as above: they hold the scan's hits, are read, and are written only where a record comes to stand among these.
  * Each has at least `length` places, else the scan keeps fewer hits. Behind the hits kept they may hold anything. foldrima_take_into and its two
@@ -58,8 +61,8 @@
  * was. The same numbers can come from either side, so *number does not tell the two apart.
  *
  * A scan may be copied, and laid away and taken up again, as any struct. On a tally or lists that these calls did not lead to, a call still ends and stays
- * within what it is lent: there is room for as many hits as the least of length, numbers_len and scores_len. foldrima_tally ends in four bytes of padding
- * that nothing is said of: compare scans by their fields.
+ * within what it is lent: there is room for as many hits as the least of length, numbers_len and scores_len. foldrima_tally has four bytes of padding
+ * behind withdrawn, of which nothing is said: compare scans by their fields.
  *
  * Memory and threads. No call allocates, and none keeps anything after it returns, a pointer neither: there is no state but what the caller holds, so
  * calls may run in any number of threads at once, as long as none writes what another is lent.
@@ -323,11 +326,12 @@ void foldrima_read_signs(const uint8_t *bytes, size_t bytes_len, int8_t *out, si
 
 /* What a scan counts. */
 typedef struct foldrima_tally {
-    size_t length;       /* how many hits it keeps at most, 1 to 64 */
-    size_t kept;         /* how many it has */
-    uint32_t taken;      /* how many records took a number; the next one's number */
-    uint32_t refused;    /* how many of these were refused */
-    uint32_t withdrawn;  /* how many of these were withdrawn */
+    size_t length;         /* how many hits it keeps at most, 1 to 64 */
+    size_t kept;           /* how many it has */
+    uint32_t taken;        /* how many records took a number; the next one's number */
+    uint32_t refused;      /* how many of these were refused */
+    uint32_t withdrawn;    /* how many of these were withdrawn */
+    uint64_t comparisons;  /* how many times a new score was compared with a hit's */
 } foldrima_tally;
 
 /* A scan: its counts, and its hits in their order, the number and the score of each. */

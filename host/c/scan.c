@@ -14,10 +14,10 @@
 #include "foldrima.h"
 
 /* Where the fields stand; a test of host/foldrima holds the same of Rust. */
-_Static_assert(sizeof(foldrima_tally) == 32 && sizeof(foldrima_scan) == 544 && sizeof(foldrima_hit) == 8, "sizes");
+_Static_assert(sizeof(foldrima_tally) == 40 && sizeof(foldrima_scan) == 552 && sizeof(foldrima_hit) == 8, "sizes");
 _Static_assert(offsetof(foldrima_tally, length) == 0 && offsetof(foldrima_tally, kept) == 8 && offsetof(foldrima_tally, taken) == 16, "tally");
-_Static_assert(offsetof(foldrima_tally, refused) == 20 && offsetof(foldrima_tally, withdrawn) == 24, "tally");
-_Static_assert(offsetof(foldrima_scan, tally) == 0 && offsetof(foldrima_scan, numbers) == 32 && offsetof(foldrima_scan, scores) == 288, "scan");
+_Static_assert(offsetof(foldrima_tally, refused) == 20 && offsetof(foldrima_tally, withdrawn) == 24 && offsetof(foldrima_tally, comparisons) == 32, "tally");
+_Static_assert(offsetof(foldrima_scan, tally) == 0 && offsetof(foldrima_scan, numbers) == 40 && offsetof(foldrima_scan, scores) == 296, "scan");
 _Static_assert(offsetof(foldrima_hit, number) == 0 && offsetof(foldrima_hit, score) == 4, "hit");
 
 /* Dimension 2, 1 bit: indices 0 and 1 stand for the angles -PI and 0. */
@@ -40,11 +40,12 @@ static void expect(const char *what, int holds)
 }
 
 /* Whether the last answer was this one, and the scan's counts are these. */
-static int told(const foldrima_scan *scan, uint32_t as_number, size_t as_place, size_t kept, uint32_t taken, uint32_t refused, uint32_t withdrawn)
+static int told(const foldrima_scan *scan, uint32_t as_number, size_t as_place, size_t kept, uint32_t taken, uint32_t refused, uint32_t withdrawn,
+                uint64_t comparisons)
 {
     const foldrima_tally tally = scan->tally;
     return number == as_number && place == as_place && tally.length == 3 && tally.kept == kept && tally.taken == taken && tally.refused == refused &&
-           tally.withdrawn == withdrawn;
+           tally.withdrawn == withdrawn && tally.comparisons == comparisons;
 }
 
 static void written(uint8_t *out, float radius, uint16_t index)
@@ -66,26 +67,26 @@ int main(void)
     foldrima_scan scan = foldrima_scan_open(65, &number, &place);
     expect("a scan of 65", number == FOLDRIMA_SCAN_LENGTH && place == 0 && scan.tally.length == 1 && scan.tally.taken == 0);
     scan = foldrima_scan_open(3, &number, &place);
-    expect("a scan of 3", told(&scan, 0, 0, 0, 0, 0, 0));
+    expect("a scan of 3", told(&scan, 0, 0, 0, 0, 0, 0, 0));
 
     /* Numbers 0 to 3: by the query, by the prepared one, a record cut short, a withdrawn position. */
     float score = -1.0f;
     int numbered = foldrima_take_into(&scan, SETUP, TABLES, query, 2, records, SIZE, &number, &place, &score);
-    expect("by the query", numbered && score == rotated[0] && told(&scan, 0, 0, 1, 1, 0, 0));
+    expect("by the query", numbered && score == rotated[0] && told(&scan, 0, 0, 1, 1, 0, 0, 0));
     numbered = foldrima_take_prepared_into(&scan, SETUP, PREPARED, records + SIZE, SIZE, &number, &place, &score);
-    expect("by the prepared query", numbered && score == 2 * rotated[0] && told(&scan, 0, 0, 2, 2, 0, 0));
+    expect("by the prepared query", numbered && score == 2 * rotated[0] && told(&scan, 0, 0, 2, 2, 0, 0, 1));
     numbered = foldrima_take_into(&scan, SETUP, TABLES, query, 2, records, 9, &number, &place, &score);
-    expect("a record cut short", numbered && score == 2 * rotated[0] && told(&scan, FOLDRIMA_MALFORMED_LENGTH, 9, 2, 3, 1, 0));
+    expect("a record cut short", numbered && score == 2 * rotated[0] && told(&scan, FOLDRIMA_MALFORMED_LENGTH, 9, 2, 3, 1, 0, 1));
     numbered = foldrima_take_prepared_into(&scan, SETUP, PREPARED, NULL, 0, &number, &place, &score);
-    expect("a withdrawn position", numbered && score == 2 * rotated[0] && told(&scan, FOLDRIMA_WITHDRAWN, 0, 2, 4, 1, 1));
+    expect("a withdrawn position", numbered && score == 2 * rotated[0] && told(&scan, FOLDRIMA_WITHDRAWN, 0, 2, 4, 1, 1, 1));
 
     /* A query that is refused numbers nothing, and nor do ends of which one passes the bytes. */
     const float bad[2] = {1.0f, INFINITY};
     numbered = foldrima_take_into(&scan, SETUP, TABLES, bad, 2, records, SIZE, &number, &place, &score);
-    expect("a refused query", !numbered && score == 2 * rotated[0] && told(&scan, FOLDRIMA_NON_FINITE_INPUT, 1, 2, 4, 1, 1));
+    expect("a refused query", !numbered && score == 2 * rotated[0] && told(&scan, FOLDRIMA_NON_FINITE_INPUT, 1, 2, 4, 1, 1, 1));
     size_t ends[5] = {11, 22, 33, 44, 56};
     int taken = foldrima_take_many_into(&scan, SETUP, PREPARED, records + 2 * SIZE, 5 * SIZE, ends, 5, &number, &place);
-    expect("an end behind the bytes", !taken && told(&scan, FOLDRIMA_DIMENSION_MISMATCH, 56, 2, 4, 1, 1));
+    expect("an end behind the bytes", !taken && told(&scan, FOLDRIMA_DIMENSION_MISMATCH, 56, 2, 4, 1, 1, 1));
 
     /* Numbers 4 to 8 in one call. The same from here on with lists of three. */
     foldrima_tally tally = scan.tally;
@@ -95,20 +96,21 @@ int main(void)
     memcpy(scores, scan.scores, sizeof scores);
     ends[4] = 55;
     taken = foldrima_take_many_into(&scan, SETUP, PREPARED, records + 2 * SIZE, 5 * SIZE, ends, 5, &number, &place);
-    expect("many", taken && told(&scan, 0, 0, 3, 9, 1, 1));
+    expect("many", taken && told(&scan, 0, 0, 3, 9, 1, 1, 8));
     for (int i = 2; i < 7; i++) {
         tally = foldrima_scan_take_prepared(tally, numbers, 3, scores, 3, SETUP, PREPARED, records + SIZE * i, SIZE, &number, &place, &score);
         expect("one of many", number == 0 && score == radii[i] * (i == 5 ? -rotated[0] : rotated[0]));
     }
     expect("both ways", tally.length == scan.tally.length && tally.kept == scan.tally.kept && tally.taken == scan.tally.taken &&
-                            tally.refused == scan.tally.refused && tally.withdrawn == scan.tally.withdrawn &&
+                            tally.refused == scan.tally.refused && tally.withdrawn == scan.tally.withdrawn && tally.comparisons == scan.tally.comparisons &&
                             !memcmp(numbers, scan.numbers, sizeof numbers) && !memcmp(scores, scan.scores, sizeof scores));
 
     /* All numbers are taken: 22, before the query. */
     foldrima_scan full = scan;
     full.tally.taken = UINT32_MAX;
     numbered = foldrima_take_into(&full, SETUP, TABLES, bad, 2, records, SIZE, &number, &place, &score);
-    expect("a full scan", !numbered && score == rotated[0] && number == FOLDRIMA_SCAN_FULL && place == 0 && full.tally.taken == UINT32_MAX);
+    expect("a full scan", !numbered && score == rotated[0] && number == FOLDRIMA_SCAN_FULL && place == 0 && full.tally.taken == UINT32_MAX &&
+                              full.tally.comparisons == 8);
 
     /* Closing: 6 at the hits kept, and then the hits. */
     foldrima_hit hits[3] = {{77, 7.5f}, {77, 7.5f}, {77, 7.5f}};

@@ -1,36 +1,38 @@
 -- A scan stays what its history leads to: an opened one, with no record yet; one that a record's answer enters; and one whose record was refused before it was read.
 -- Assumes nothing.
-use Prim.Native.Nat.{ℕ, zero, suc, _-_, min, _≤_, _<_}
-use mathlib.Core.Path.{_≡_, refl, sym, ap, _∙_, subst}
+use Prim.Native.Nat.{ℕ, zero, suc, _+_, _-_, min, _≤_, _<_}
+use mathlib.Core.Path.{_≡_, refl, sym, ap, ap₂, _∙_, subst}
 use mathlib.Core.Bool.{true, false}
 use mathlib.Core.List.{List, [], _∷_}
 use mathlib.Core.Logic.{⊎-elim}
 use native.Mathlib.Nat.{mod-eq-of-lt}
 use native.Mathlib.Omega.{arith}
 use lib.Dec.{T, leb, ltb}
-use lib.ListN.{length, take, drop, getD, length-take, List·getD-map}
-use lib.Seq.{take-all, take-at, getD-take}
-use lib.Ieee.{Float, nan, lt}
+use lib.ListN.{length, take, drop, length-take}
+use lib.Seq.{take-all, take-at}
+use lib.Ieee.{Float}
 use lib.Ieee.Scale.{finite}
 use borrow.Author.Tests.{ltb-true, ltb-false, leb-false}
 use Rattle.error.specs.Answer.{Answer, value, refused, withdrawn}
 use Rattle.ranking.specs.declared.Hit.{Hit}
 use Rattle.ranking.specs.Ranked.{beats, sorted}
 use Rattle.ranking.specs.Sorting.{Finites}
-use Rattle.ranking.proofs.Ranking.{either, insert-at, none-before}
+use Rattle.ranking.proofs.Ranking.{either, insert-at}
 use Rattle.scan.specs.declared.Scan.{Scan}
 use Rattle.scan.specs.Opening.{emptyOf}
-use Rattle.scan.specs.Entering.{most, roomOf, heldOf, placeUp, oneMore, withHit, sameHits, scoredIn, withAnswer, enterOf}
+use Rattle.scan.specs.Entering.{most, roomOf, heldOf, placeUp, comparedUp, oneMore, comparisonsAfter, withHit, sameHits, scoredIn, withAnswer, enterOf}
 use Rattle.scan.specs.Events.{Event}
-use Rattle.scan.specs.History.{numbered, acceptedOf, refusedOf, withdrawnOf, hitsOf, Led}
-use Rattle.scan.proofs.Placing.{place-within, place-beaten, place-stopped, between, put-length, put-count, put-in}
+use Rattle.scan.specs.History.{numbered, acceptedOf, refusedOf, withdrawnOf, hitsOf, comparisonsWith, comparisonsOf, Led}
+use Rattle.scan.proofs.Placing.{place-within, between, put-length, put-count, put-in}
 use Rattle.scan.proofs.Histories.{FiniteAnswer, refused-few, withdrawn-few, numbered-full, numbered-next, numbered-skipped}
+use Rattle.scan.proofs.Comparing.{none, scoresOf, place-kept, compared-kept, unbeaten-before, beaten-behind, comparisons-upward}
+use Rattle.scan.proofs.Load.{compared-none, compared-full, compared-next, compared-ceiling}
 use Rattle.scan.proofs.Hits.{hits-few, hits-next, finite-hits, falling-hits, newest}
 
 -- ---- opened, and refused before reading
 
 pub opened-led : (k : ℕ) → 1 ≤ k → k ≤ 64 → Led k [] (emptyOf k)
-unfolding emptyOf numbered acceptedOf sorted refusedOf withdrawnOf
+unfolding emptyOf numbered acceptedOf sorted refusedOf withdrawnOf comparisonsOf
 opened-led zero some few = absurd (omega arith)
 opened-led (suc k) some few = record {
   some = some;
@@ -40,11 +42,12 @@ opened-led (suc k) some few = record {
   scores-room = few;
   hits = record { kept = refl; numbers = refl; scores = refl };
   counts = record { taken = refl; refusals = refl; withdrawals = refl };
+  comparisons = refl;
 }
 
--- a history that numbers the same leads to the same
-pub led-same : (k : ℕ) (es fs : List Event) (scan : Scan) → numbered fs ≡ numbered es → Led k es scan → Led k fs scan
-led-same k es fs scan e led = record {
+-- a history that numbers the same and compares as often leads to the same
+pub led-same : (k : ℕ) (es fs : List Event) (scan : Scan) → numbered fs ≡ numbered es → comparisonsOf k fs ≡ comparisonsOf k es → Led k es scan → Led k fs scan
+led-same k es fs scan e g led = record {
   some = led .some;
   few = led .few;
   long = led .long;
@@ -52,10 +55,11 @@ led-same k es fs scan e led = record {
   scores-room = led .scores-room;
   hits = record { kept = rw e (led .hits .kept); numbers = rw e (led .hits .numbers); scores = rw e (led .hits .scores) };
   counts = record { taken = rw e (led .counts .taken); refusals = rw e (led .counts .refusals); withdrawals = rw e (led .counts .withdrawals) };
+  comparisons = led .comparisons ∙ sym g;
 }
 
 pub skipped-led : (k : ℕ) (es : List Event) (scan : Scan) (n p : ℕ) → Led k es scan → Led k (refused n p ∷ es) scan
-skipped-led k es scan n p led = led-same k es (refused n p ∷ es) scan (numbered-skipped es n p) led
+skipped-led k es scan n p led = led-same k es (refused n p ∷ es) scan (numbered-skipped es n p) (compared-none k es (refused n p) refl) led
 
 -- ---- a record's answer
 
@@ -84,9 +88,9 @@ module _ (k : ℕ) (es : List Event) (scan : Scan) (led : Led k es scan) where
     one-more n le = mod-eq-of-lt (omega (arith, small)) ∙ omega arith
 
     -- neither hits nor room change
-    counted-led : (a : Answer Float) (hs : take k (sorted (acceptedOf (a ∷ numbered es))) ≡ hitsOf k es) (r w : ℕ) → r ≡ refusedOf (a ∷ numbered es) → w ≡ withdrawnOf (a ∷ numbered es)
-        → Led k (value a ∷ es) (sameHits scan r w)
-    counted-led a hs r w e g = record {
+    counted-led : (a : Answer Float) (hs : take k (sorted (acceptedOf (a ∷ numbered es))) ≡ hitsOf k es) (r w c : ℕ) → r ≡ refusedOf (a ∷ numbered es) → w ≡ withdrawnOf (a ∷ numbered es) → c ≡ comparisonsOf k (value a ∷ es)
+        → Led k (value a ∷ es) (sameHits scan r w c)
+    counted-led a hs r w c e g h = record {
       some = led .some;
       few = led .few;
       long = led .long;
@@ -98,28 +102,28 @@ module _ (k : ℕ) (es : List Event) (scan : Scan) (led : Led k es scan) where
         scores = rw (next a, hs) (led .hits .scores);
       };
       counts = record { taken = rw (next a) (ap suc (led .counts .taken)); refusals = rw (next a) e; withdrawals = rw (next a) g };
+      comparisons = h;
     }
 
     refused-led : (n p : ℕ) → Led k (value (refused n p) ∷ es) (withAnswer scan (refused n p))
     unfolding acceptedOf refusedOf withdrawnOf
     refused-led n p =
-        counted-led (refused n p) refl (oneMore (scan .tally .refused)) (scan .tally .withdrawn)
+        counted-led (refused n p) refl (oneMore (scan .tally .refused)) (scan .tally .withdrawn) (scan .tally .comparisons)
         (one-more (scan .tally .refused) (omega (arith, led .counts .taken, led .counts .refusals, refused-few (numbered es))) ∙ ap suc (led .counts .refusals))
         (led .counts .withdrawals)
+        (led .comparisons ∙ sym (compared-none k es (value (refused n p)) refl))
 
     withdrawn-led : Led k (value withdrawn ∷ es) (withAnswer scan withdrawn)
     unfolding acceptedOf refusedOf withdrawnOf
     withdrawn-led =
-        counted-led withdrawn refl (scan .tally .refused) (oneMore (scan .tally .withdrawn))
+        counted-led withdrawn refl (scan .tally .refused) (oneMore (scan .tally .withdrawn)) (scan .tally .comparisons)
         (led .counts .refusals)
         (one-more (scan .tally .withdrawn) (omega (arith, led .counts .taken, led .counts .withdrawals, withdrawn-few (numbered es))) ∙ ap suc (led .counts .withdrawals))
+        (led .comparisons ∙ sym (compared-none k es (value withdrawn) refl))
 
     module _ (x : Float) (f : T (finite x)) (all : Finites (acceptedOf (numbered es))) where
       abbrev at : ℕ
       at = placeUp x (scan .scores) (heldOf scan)
-
-      abbrev none : Hit
-      none = record { number = 0; score = nan }
 
       among : at ≤ scan .tally .kept
       among = omega (arith, place-within x (scan .scores) (heldOf scan), held-is)
@@ -127,36 +131,45 @@ module _ (k : ℕ) (es : List Event) (scan : Scan) (led : Led k es scan) where
       many : length (hitsOf k es) ≡ scan .tally .kept
       many = sym (led .hits .kept)
 
-      score-at : (j : ℕ) → j < scan .tally .kept → getD (hitsOf k es) j none .score ≡ getD (scan .scores) j nan
-      score-at j l =
-          sym (List·getD-map (λ (h : Hit). h .score) (hitsOf k es) j none)
-          ∙ ap (λ (l : List Float). getD l j nan) (sym (led .hits .scores))
-          ∙ getD-take (scan .tally .kept) (scan .scores) j nan l
+      -- the place and the comparisons are those with the hits
+      at-is : at ≡ placeUp x (scoresOf (hitsOf k es)) (length (hitsOf k es))
+      at-is =
+          ap (placeUp x (scan .scores)) held-is
+          ∙ sym (place-kept x (scan .tally .kept) (scan .scores) (scan .tally .kept) (omega arith))
+          ∙ ap₂ (placeUp x) (led .hits .scores) (led .hits .kept)
 
-      none-beaten : (j : ℕ) → j < at → beats (newest (numbered es) x) (getD (hitsOf k es) j none) ≡ false
-      unfolding beats
-      none-beaten j l =
-          none-before (at - 1) (newest (numbered es) x) none (hitsOf k es) f (finite-hits k es all) (falling-hits k es all) (omega (arith, among, many))
-          (ap (λ (y : Float). lt y x) (score-at (at - 1) (omega (arith, among))) ∙ place-stopped x (scan .scores) (heldOf scan) (omega arith))
-          j (omega arith)
+      compared-is : comparedUp x (scan .scores) (heldOf scan) ≡ comparisonsWith x (hitsOf k es)
+      compared-is =
+          ap (comparedUp x (scan .scores)) held-is
+          ∙ sym (compared-kept x (scan .tally .kept) (scan .scores) (scan .tally .kept) (omega arith))
+          ∙ ap₂ (comparedUp x) (led .hits .scores) (led .hits .kept)
+          ∙ sym (comparisons-upward x (hitsOf k es) f (finite-hits k es all) (falling-hits k es all))
+
+      sum : scan .tally .comparisons + comparedUp x (scan .scores) (heldOf scan) ≡ comparisonsOf k (value (value x) ∷ es)
+      sum = ap₂ _+_ (led .comparisons) compared-is ∙ sym (compared-next k es x (rw (led .counts .taken) at free))
+
+      -- none of it is cut off
+      count-is : comparisonsAfter scan x ≡ comparisonsOf k (value (value x) ∷ es)
+      count-is = mod-eq-of-lt (omega (arith, sum, compared-ceiling k (value (value x) ∷ es) (led .few))) ∙ sum
 
       -- the hits with the new one between them, as many as there is room for
       hits-between : take k (sorted (acceptedOf (value x ∷ numbered es))) ≡ take k (between at (newest (numbered es) x) (hitsOf k es))
       unfolding beats
       hits-between =
           hits-next k es x f all
-          ∙ ap (take k) (insert-at at (newest (numbered es) x) none (hitsOf k es) (omega (arith, among, many)) none-beaten
-          (λ l. ap (λ (y : Float). lt y x) (score-at at (omega (arith, many))) ∙ place-beaten x (scan .scores) (heldOf scan) at (omega arith) (omega (arith, many, held-is))))
+          ∙ ap (take k) (insert-at at (newest (numbered es) x) none (hitsOf k es) (omega (arith, among, many))
+          (λ j l. unbeaten-before x (hitsOf k es) f (finite-hits k es all) (falling-hits k es all) j (omega (arith, at-is)))
+          (λ l. beaten-behind x (hitsOf k es) f (finite-hits k es all) (falling-hits k es all) at (omega (arith, at-is)) l))
 
       -- behind all that there is room for: nothing moves
-      behind-led : roomOf scan ≤ at → Led k (value (value x) ∷ es) (sameHits scan (scan .tally .refused) (scan .tally .withdrawn))
+      behind-led : roomOf scan ≤ at → Led k (value (value x) ∷ es) (sameHits scan (scan .tally .refused) (scan .tally .withdrawn) (comparisonsAfter scan x))
       unfolding refusedOf withdrawnOf
       behind-led out =
           counted-led (value x)
           (hits-between
           ∙ take-at (take at (hitsOf k es)) (newest (numbered es) x ∷ drop at (hitsOf k es)) k (omega (arith, length-take at (hitsOf k es), among, many, room-is, hits-few k es))
           ∙ take-all at (hitsOf k es) (omega (arith, many, room-is, hits-few k es)))
-          (scan .tally .refused) (scan .tally .withdrawn) (led .counts .refusals) (led .counts .withdrawals)
+          (scan .tally .refused) (scan .tally .withdrawn) (comparisonsAfter scan x) (led .counts .refusals) (led .counts .withdrawals) count-is
 
       -- among them: it is put in
       among-led : at < roomOf scan → Led k (value (value x) ∷ es) (withHit scan at x)
@@ -184,6 +197,7 @@ module _ (k : ℕ) (es : List Event) (scan : Scan) (led : Led k es scan) where
               refusals = rw (next (value x)) (led .counts .refusals);
               withdrawals = rw (next (value x)) (led .counts .withdrawals);
             };
+            comparisons = count-is;
           }
 
       scored-led : Led k (value (value x) ∷ es) (scoredIn scan at x)
@@ -203,6 +217,6 @@ pub entered-led : (k : ℕ) (es : List Event) (scan : Scan) (a : Answer Float) �
 unfolding enterOf
 entered-led k es scan a f all led =
     ⊎-elim
-    (λ (b : leb most (scan .tally .taken) ≡ true). rw b (led-same k es (value a ∷ es) scan (numbered-full es a (rw (led .counts .taken) at b)) led))
+    (λ (b : leb most (scan .tally .taken) ≡ true). rw b (led-same k es (value a ∷ es) scan (numbered-full es a (rw (led .counts .taken) at b)) (compared-full k es (value a) (rw (led .counts .taken) at b)) led))
     (λ (b : leb most (scan .tally .taken) ≡ false). rw b (numbered-led k es scan led b a f all))
     (either (leb most (scan .tally .taken)))

@@ -11,8 +11,9 @@ use Rattle.ranking.proofs.Ranking.{either}
 use Rattle.scan.specs.declared.Scan.{Scan}
 use Rattle.scan.specs.Entering.{most, enterOf}
 use Rattle.scan.specs.Events.{Event, takeOf, afterTaking}
-use Rattle.scan.specs.History.{numbered, Led}
-use Rattle.scan.proofs.Histories.{FiniteEvent, FiniteEvents, finite-accepted}
+use Rattle.scan.specs.History.{Led}
+use Rattle.scan.proofs.Histories.{FiniteEvent, FiniteEvents, numbered-none, finite-accepted}
+use Rattle.scan.proofs.Load.{compared-none}
 use Rattle.scan.proofs.Entering.{led-same, skipped-led, entered-led}
 
 -- ---- the answer
@@ -42,11 +43,7 @@ after-asked scan e =
 
 -- ---- the history
 
-numbered-none : (es : List Event) → numbered (withdrawn ∷ es) ≡ numbered es
-unfolding numbered
-numbered-none es = refl
-
 pub event-led : (k : ℕ) (es : List Event) (scan : Scan) (e : Event) → FiniteEvent e → FiniteEvents es → Led k es scan → Led k (e ∷ es) (afterTaking scan e)
 event-led k es scan (value a) f fs led = entered-led k es scan a f (finite-accepted es fs) led
 event-led k es scan (refused n p) f fs led = skipped-led k es scan n p led
-event-led k es scan withdrawn f fs led = led-same k es (withdrawn ∷ es) scan (numbered-none es) led
+event-led k es scan withdrawn f fs led = led-same k es (withdrawn ∷ es) scan (numbered-none es) (compared-none k es withdrawn refl) led

@@ -50,6 +50,10 @@ pub numbered-skipped : (es : List Event) (n p : ℕ) → numbered (refused n p �
 unfolding numbered
 numbered-skipped es n p = refl
 
+pub numbered-none : (es : List Event) → numbered (withdrawn ∷ es) ≡ numbered es
+unfolding numbered
+numbered-none es = refl
+
 -- ---- finite scores
 
 abbrev pub FiniteAnswer : Answer Float → Type 0

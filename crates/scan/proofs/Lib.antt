@@ -2,6 +2,8 @@ pub mod Arrays
 pub mod Placing
 pub mod Histories
 pub mod Hits
+pub mod Comparing
+pub mod Load
 pub mod Entering
 pub mod Events
 pub mod Opening

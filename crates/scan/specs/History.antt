@@ -2,17 +2,19 @@
 -- request a): 'Records number from 0, refused ones too. Hits stand by falling score; equal scores, both zeros included, stand by number. A refused record takes its
 -- number, is counted as refused and changes nothing else .. After each record the list is what a full sort of the accepted records so far would give in its first k
 -- places .. a refusal before record reading is answered, numbers nothing and leaves the scan unchanged, and any later refusal makes a refused record.' Request b):
--- 'A scan numbers it and counts it as withdrawn.' Assumes nothing.
-use Prim.Native.Nat.{ℕ, suc, _≤_}
+-- 'A scan numbers it and counts it as withdrawn.' Request n): 'The scan reports all comparisons made so far, which equal that rule's count after every record.' Assumes
+-- nothing.
+use Prim.Native.Nat.{ℕ, suc, _+_, _≤_}
 use mathlib.Core.Path.{_≡_}
 use mathlib.Core.Bool.{cond}
 use mathlib.Core.List.{List, [], _∷_, _++_, map}
-use lib.Dec.{leb}
+use lib.Dec.{leb, ltb}
 use lib.ListN.{length, take}
-use lib.Ieee.{Float}
+use lib.Ieee.{Float, lt}
 use Rattle.error.specs.Answer.{Answer, value, refused, withdrawn}
 use Rattle.ranking.specs.declared.Hit.{Hit}
 use Rattle.ranking.specs.Ranked.{sorted}
+use Rattle.ranking.specs.Sorting.{count}
 use Rattle.scan.specs.declared.Tally.{Tally}
 use Rattle.scan.specs.declared.Scan.{Scan}
 use Rattle.scan.specs.Entering.{most}
@@ -55,6 +57,28 @@ withdrawnOf (withdrawn ∷ rest) = suc (withdrawnOf rest)
 abbrev pub hitsOf : ℕ → List Event → List Hit
 hitsOf k es = take k (sorted (acceptedOf (numbered es)))
 
+-- A score beats so many of the hits.
+abbrev pub beatenBy : Float → List Hit → ℕ
+beatenBy x hits = count (λ (h : Hit). lt (h .score) x) hits
+
+-- A new score is compared with each hit that it beats, and with one more where a hit stops it, which is one that it does not beat. That these are the comparisons from
+-- the last hit upward is `upward` of `Load`.
+abbrev pub comparisonsWith : Float → List Hit → ℕ
+comparisonsWith x hits = beatenBy x hits + cond (ltb (beatenBy x hits) (length hits)) 1 0
+
+-- One record more adds so many comparisons: an accepted one that takes a number those of its score with the hits then kept, any other none.
+abbrev pub addedBy : ℕ → Event → List Event → ℕ
+addedBy k (value (value x)) earlier = cond (leb most (length (numbered earlier))) 0 (comparisonsWith x (hitsOf k earlier))
+addedBy k (value (refused n p)) earlier = 0
+addedBy k (value withdrawn) earlier = 0
+addedBy k (refused n p) earlier = 0
+addedBy k withdrawn earlier = 0
+
+-- '.. all comparisons made so far'.
+unfoldable pub comparisonsOf : ℕ → List Event → ℕ
+comparisonsOf k [] = 0
+comparisonsOf k (e ∷ es) = comparisonsOf k es + addedBy k e es
+
 -- The hits of a scan are those of the history. Behind them its lists may hold anything.
 pub record Holds (k : ℕ) (es : List Event) (scan : Scan) : Type 0 where
   pub kept : scan .tally .kept ≡ length (hitsOf k es)
@@ -76,3 +100,4 @@ pub record Led (k : ℕ) (es : List Event) (scan : Scan) : Type 0 where
   pub scores-room : k ≤ length (scan .scores)
   pub hits : Holds k es scan
   pub counts : Counts es (scan .tally)
+  pub comparisons : scan .tally .comparisons ≡ comparisonsOf k es

@@ -3,3 +3,4 @@ pub mod Opening
 pub mod Entering
 pub mod Events
 pub mod History
+pub mod Load

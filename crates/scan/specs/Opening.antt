@@ -15,7 +15,7 @@ wrongScanLength k = check (eqb k 0 || ltb 64 k) 21 0
 
 -- This is a scan with nothing taken.
 unfoldable pub emptyOf : ℕ → Scan
-emptyOf k = scanOf (tallyOf k 0 0 0 0) (replicate 64 0) (replicate 64 (fin mathlib.Core.Bool.false 0 (pos 0)))
+emptyOf k = scanOf (tallyOf k 0 0 0 0 0) (replicate 64 0) (replicate 64 (fin mathlib.Core.Bool.false 0 (pos 0)))
 
 -- This is the scan, or its refusal.
 unfoldable pub openOf : ℕ → Answer Scan

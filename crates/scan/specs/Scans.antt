@@ -9,6 +9,7 @@ use Rattle.scan.specs.declared.Scan.{Scan}
 abbrev pub scanOf : Tally → List ℕ → List Float → Scan
 scanOf tally numbers scores = record { tally = tally; numbers = numbers; scores = scores }
 
--- These are a scan's length and its hits, and how many records it has taken, refused and found withdrawn.
-abbrev pub tallyOf : ℕ → ℕ → ℕ → ℕ → ℕ → Tally
-tallyOf long kept taken refusals withdrawals = record { length = long; kept = kept; taken = taken; refused = refusals; withdrawn = withdrawals }
+-- These are a scan's length and its hits, how many records it has taken, refused and found withdrawn, and how many comparisons it has made.
+abbrev pub tallyOf : ℕ → ℕ → ℕ → ℕ → ℕ → ℕ → Tally
+tallyOf long kept taken refusals withdrawals comparisons =
+    record { length = long; kept = kept; taken = taken; refused = refusals; withdrawn = withdrawals; comparisons = comparisons }

@@ -1,5 +1,5 @@
-// A scan: the best of a stream of records by their scores, and how many it has taken, refused and found withdrawn. It is opened here, with a length, and
-// its counts are read; taking records and closing stand in the crates above.
+// A scan: the best of a stream of records by their scores, how many it has taken, refused and found withdrawn, and how many comparisons these made. It is
+// opened here, with a length, and its counts are read; taking records and closing stand in the crates above.
 
 use error::Outcome;
 use error::SCAN_LENGTH;
@@ -11,13 +11,14 @@ ghost use Rattle.error.specs.Answer.{done};
 ghost use Rattle.error.specs.Outcomes.{says};
 ghost use Rattle.scan.specs.Opening.{emptyOf, openOf, scanOpened};
 ghost use Rattle.scan.specs.Events.{Event};
-ghost use Rattle.scan.specs.History.{hitsOf, Counts, Led};
+ghost use Rattle.scan.specs.History.{hitsOf, comparisonsOf, Counts, Led};
+ghost use Rattle.scan.specs.Load.{Load};
 
 // The most records that a scan takes: each has a number of 32 bits, and their count has to fit there too.
 pub const MOST_RECORDS: u32 = 4294967295;
 
-// What a scan counts: how many hits it keeps at most, how many it has, and how many records it has taken, refused and found withdrawn. The last two are
-// among those taken.
+// What a scan counts: how many hits it keeps at most, how many it has, and how many records it has taken, refused and found withdrawn; the last two are among
+// those taken. A new score is compared with the hits from the last upward and stops at the first that it does not beat: `comparisons` counts all that were made.
 #[repr(C)]
 pub struct Tally {
     pub length: usize,
@@ -25,6 +26,7 @@ pub struct Tally {
     pub taken: u32,
     pub refused: u32,
     pub withdrawn: u32,
+    pub comparisons: u64,
 }
 
 // A scan: its counts, and its hits in their order, the number and the score of each.
@@ -74,6 +76,7 @@ fn empty(length: usize) -> Scan
         taken: 0,
         refused: 0,
         withdrawn: 0,
+        comparisons: 0,
     };
     Scan {
         tally,
@@ -86,6 +89,8 @@ fn empty(length: usize) -> Scan
 pub fn counts(scan: Scan) -> Tally
     ensures said { λ r. ⌜ r ≡ scan .tally ⌝ }
     ensures led { λ r. ⌜ ((k : ℕ) (es : List Event) → Led k es scan → (r .kept ≡ length (hitsOf k es)) × Counts es r) ⌝ }
+    ensures comparisons { λ r. ⌜ ((k : ℕ) (es : List Event) → Led k es scan → r .comparisons ≡ comparisonsOf k es) ⌝ }
+    ensures load { λ _. ⌜ ((k : ℕ) (es : List Event) → Load k es) ⌝ }
 {
     scan.tally
 }

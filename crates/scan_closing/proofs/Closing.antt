@@ -7,17 +7,15 @@ use mathlib.Core.List.{List, [], _∷_, map}
 use mathlib.Core.Logic.{⊎-elim}
 use lib.ListN.{length, getD, take, length-take, List·getD-append, List·getD-map}
 use lib.Seq.{ext-getD, getD-at, getD-take}
-use lib.Ieee.{Float, nan}
+use lib.Ieee.{Float}
 use Rattle.ranking.specs.declared.Hit.{Hit}
 use Rattle.ranking.specs.Ranked.{sorted}
 use Rattle.scan.specs.declared.Scan.{Scan}
 use Rattle.scan.specs.Events.{Event}
 use Rattle.scan.specs.History.{Led, hitsOf, numbered, acceptedOf}
 use Rattle.scan_closing.specs.Closing.{hitAtOf, hitsTo, hitsIn}
+use Rattle.scan.proofs.Comparing.{none}
 use Rattle.scan_closing.proofs.Filling.{length-hits}
-
-abbrev none : Hit
-none = record { number = 0; score = nan }
 
 hits-getD : (scan : Scan) (n i : ℕ) → i < n → getD (hitsTo scan n) i none ≡ hitAtOf scan i
 unfolding hitsTo

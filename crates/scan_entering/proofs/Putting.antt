@@ -8,7 +8,7 @@ use native.Mathlib.Numerals.{unary-clauses}
 use native.Mathlib.Omega.{arith}
 use lib.ListN.{length, take, drop, getD, set}
 use lib.Ieee.{Float, nan, lt}
-use Rattle.scan.specs.Entering.{placeUp, putIn}
+use Rattle.scan.specs.Entering.{placeUp, comparedUp, putIn}
 
 module _ {A : Type 0} where
   -- the item before the last place is moved there
@@ -37,17 +37,18 @@ module _ {A : Type 0} where
   put-stored zero x (y ∷ ys) h = refl
   put-stored (suc at) x (y ∷ ys) h = simp unary-clauses (ap (λ (l : List A). y ∷ l) (put-stored at x ys (omega arith)))
 
+-- no score is left, the one before stops the new one, or it is beaten: the place, and the comparisons
 module _ (x : Float) (scores : List Float) where
-  pub place-none : placeUp x scores 0 ≡ 0
-  unfolding placeUp
-  place-none = refl
+  pub up-none : (placeUp x scores 0 ≡ 0) × (comparedUp x scores 0 ≡ 0)
+  unfolding placeUp comparedUp
+  up-none = (refl, refl)
 
-  pub place-here : (i : ℕ) → 0 < i → lt (getD scores (i - 1) nan) x ≡ false → placeUp x scores i ≡ i
-  unfolding placeUp
-  place-here zero h e = absurd (omega arith)
-  place-here (suc i) h e = simp (simp unary-clauses at e)
+  pub up-stopped : (i : ℕ) → 0 < i → lt (getD scores (i - 1) nan) x ≡ false → (placeUp x scores i ≡ i) × (comparedUp x scores i ≡ 1)
+  unfolding placeUp comparedUp
+  up-stopped zero h e = absurd (omega arith)
+  up-stopped (suc i) h e = let f = simp unary-clauses at e in (simp f, simp f)
 
-  pub place-passed : (i : ℕ) → 0 < i → lt (getD scores (i - 1) nan) x ≡ true → placeUp x scores i ≡ placeUp x scores (i - 1)
-  unfolding placeUp
-  place-passed zero h e = absurd (omega arith)
-  place-passed (suc i) h e = simp (unary-clauses, simp unary-clauses at e)
+  pub up-passed : (i : ℕ) → 0 < i → lt (getD scores (i - 1) nan) x ≡ true → (placeUp x scores i ≡ placeUp x scores (i - 1)) × (comparedUp x scores i ≡ suc (comparedUp x scores (i - 1)))
+  unfolding placeUp comparedUp
+  up-passed zero h e = absurd (omega arith)
+  up-passed (suc i) h e = let f = simp unary-clauses at e in (simp (unary-clauses, f), simp (unary-clauses, f))

@@ -1,5 +1,5 @@
 // A record's answer enters a scan, in place: it takes the next number, is counted, and where it has a score that stands among the best, it is put in at its
-// place.
+// place. Each comparison with a hit's score is counted where it is made.
 
 use error::Scored;
 use scan::MOST_RECORDS;
@@ -9,7 +9,13 @@ ghost use Prim.Native.Nat.{_≤_, _<_, min};
 ghost use lib.ListN.{length};
 ghost use Rattle.error.specs.Outcomes.{saysScore};
 ghost use Rattle.scan.specs.Scans.{scanOf};
-ghost use Rattle.scan.specs.Entering.{placeUp, putIn, scoredIn, enterOf};
+ghost use Rattle.scan.specs.Entering.{placeUp, comparedUp, putIn, scoredIn, enterOf};
+
+// How many of the held scores a new one stands behind, and how many comparisons it took to find that.
+struct Place {
+    at: usize,
+    compared: u64,
+}
 
 // The scan behind one more answer, on a tally and two lists that are lent; where the scan has taken all the numbers, it stays as it is. The crates above share
 // this; what is said of a scan's history is said there, where the answer is scoring's and a score is finite.
@@ -43,9 +49,11 @@ fn enter_score(tally: Tally, numbers: &mut [u32], scores: &mut [f32], score: f32
 {
     let room = least(tally.length, least(numbers.len(), scores.len()));
     let held = least(tally.kept, room);
-    let at = find_place(scores, held, score);
+    let place = find_place(scores, held, score);
+    let at = place.at;
     let mut next = tally;
     next.taken = tally.taken + 1;
+    next.comparisons = std::num::wrapping_add_u64(tally.comparisons, place.compared);
     if room <= at {
         return next;
     }
@@ -56,20 +64,23 @@ fn enter_score(tally: Tally, numbers: &mut [u32], scores: &mut [f32], score: f32
     next
 }
 
-// How many of the first scores a new one stands behind: it is held against them from the last upward, up to the first that it does not beat.
-fn find_place(scores: &[f32], held: usize, score: f32) -> usize
+// The place of a new score: it is compared with the held scores from the last upward, up to the first that it does not beat.
+fn find_place(scores: &[f32], held: usize, score: f32) -> Place
     requires { ⌜ held ≤ length (now scores) ⌝ }
-    ensures at { λ r. ⌜ r ≡ placeUp score (now (scores .entry)) held ⌝ }
-    ensures within { λ r. ⌜ r ≤ held ⌝ }
+    ensures at { λ r. ⌜ r .at ≡ placeUp score (now (scores .entry)) held ⌝ }
+    ensures within { λ r. ⌜ r .at ≤ held ⌝ }
+    ensures compared { λ r. ⌜ r .compared ≡ comparedUp score (now (scores .entry)) held ⌝ }
 {
     let mut i = held;
+    let mut compared = 0u64;
     while 0 < i {
+        compared += 1;
         if !(scores[i - 1] < score) {
-            return i;
+            return Place { at: i, compared };
         }
         i -= 1;
     }
-    0
+    Place { at: 0, compared }
 }
 
 // A number put in at a place, with those from there to the last place moved down by one.

@@ -106,7 +106,7 @@ fn prepared(scan: Scan) -> ScanAnswer {
     scan_many::take_many(scan, setup, &directions, &rotated, &none, &bytes, &ends)
 }
 
-// The length of a scan, the hits that it keeps, and the records taken, refused and withdrawn.
+// The length of a scan, the hits that it keeps, the records taken, refused and withdrawn, and the comparisons made.
 fn counts(scan: Scan) {
     let tally = scan::counts(scan);
     let told = [
@@ -115,6 +115,7 @@ fn counts(scan: Scan) {
         tally.taken as usize,
         tally.refused as usize,
         tally.withdrawn as usize,
+        tally.comparisons as usize,
     ];
     show::numbers(&told);
 }

@@ -297,7 +297,8 @@ extern "C" {
 }
 
 /// What a scan counts: how many hits it keeps at most, how many it has, and how many records it
-/// has taken, refused and found withdrawn. The last two are part of those taken.
+/// has taken, refused and found withdrawn. The last two are part of those taken. `comparisons` is
+/// how many times a new score was compared with a hit's.
 #[derive(Debug, Clone, Copy, PartialEq, Eq, Hash)]
 #[repr(C)]
 pub struct Tally {
@@ -306,6 +307,7 @@ pub struct Tally {
     pub taken: u32,
     pub refused: u32,
     pub withdrawn: u32,
+    pub comparisons: u64,
 }
 
 /// A scan: its counts, and its hits in their order. Behind the hits kept the lists may hold

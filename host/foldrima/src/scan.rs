@@ -12,6 +12,9 @@ use crate::{asked, call, environment::look, raw, scored, Hit, Position, Refusal,
 /// record they are what a full sort of the accepted records so far would give in its first
 /// places. Closing leaves the scan as it is, so that further records can be taken.
 ///
+/// A new score is compared with the hits from the last upward and stops at the first that it does
+/// not beat. These comparisons are counted: a record adds at most the length.
+///
 /// ```
 /// use foldrima::{Hit, Refusal, RotationKind, Scan, Setup, Taken, TurboMode};
 ///
@@ -33,6 +36,8 @@ use crate::{asked, call, environment::look, raw, scored, Hit, Position, Refusal,
 /// assert_eq!(scan.take_prepared(&setup, &rotated, &[], &[])?, Taken::Withdrawn);
 /// scan.take_each(&setup, &rotated, &[], [towards, away, towards])?;
 /// assert_eq!((scan.taken(), scan.refused(), scan.withdrawn()), (6, 1, 1));
+/// // None with an empty list, then 1, then 1 that stops at an equal score, then 2.
+/// assert_eq!(scan.comparisons(), 4);
 ///
 /// let numbers: Vec<u32> = scan.hits().map(|hit| hit.number).collect();
 /// assert_eq!(numbers, [3, 5]);
@@ -282,6 +287,12 @@ impl Scan {
     /// How many of the records taken were withdrawn.
     pub fn withdrawn(&self) -> u32 {
         self.held.tally.withdrawn
+    }
+
+    /// How many times a new score was compared with a hit's. A record adds at most
+    /// [`Scan::length`], and a refused or withdrawn one none.
+    pub fn comparisons(&self) -> u64 {
+        self.held.tally.comparisons
     }
 
     /// All counts at once.

@@ -18,7 +18,8 @@ const MATRIX: [f32; 6] = [1.0, 0.0, 0.0, 1.0, 1.0, 1.0];
 const SIGNED: [u8; 16] = [2, 2, 0, 0, 0, 1, 3, 0, 0, 0, 0, 0, 0x80, 0x3F, 1, 5];
 
 /// A scan of one hit at most, with none taken.
-const TALLY: raw::Tally = raw::Tally { length: 1, kept: 0, taken: 0, refused: 0, withdrawn: 0 };
+const TALLY: raw::Tally =
+    raw::Tally { length: 1, kept: 0, taken: 0, refused: 0, withdrawn: 0, comparisons: 0 };
 
 /// How an empty slice is lent: as NULL, or with an address that nothing stands at.
 #[derive(Clone, Copy)]

@@ -57,7 +57,8 @@ fn another_mode_panics() {
 
 /// An empty scan, by no call.
 fn scan() -> Scan {
-    let tally = raw::Tally { length: 1, kept: 0, taken: 0, refused: 0, withdrawn: 0 };
+    let tally =
+        raw::Tally { length: 1, kept: 0, taken: 0, refused: 0, withdrawn: 0, comparisons: 0 };
     Scan::from_raw(raw::Scan { tally, numbers: [0; 64], scores: [0.0; 64] })
 }
 

@@ -176,11 +176,12 @@ fn the_structs_are_the_same() {
 #[test]
 fn the_structs_are_laid_out_as_in_c() {
     use raw::{Hit, Scan, Tally};
-    assert_eq!((size_of::<Tally>(), size_of::<Scan>(), size_of::<Hit>()), (32, 544, 8));
+    assert_eq!((size_of::<Tally>(), size_of::<Scan>(), size_of::<Hit>()), (40, 552, 8));
     assert_eq!((offset_of!(Tally, length), offset_of!(Tally, kept)), (0, 8));
     assert_eq!((offset_of!(Tally, taken), offset_of!(Tally, refused)), (16, 20));
-    assert_eq!((offset_of!(Tally, withdrawn), offset_of!(Scan, tally)), (24, 0));
-    assert_eq!((offset_of!(Scan, numbers), offset_of!(Scan, scores)), (32, 288));
+    assert_eq!((offset_of!(Tally, withdrawn), offset_of!(Tally, comparisons)), (24, 32));
+    assert_eq!(offset_of!(Scan, tally), 0);
+    assert_eq!((offset_of!(Scan, numbers), offset_of!(Scan, scores)), (40, 296));
     assert_eq!((offset_of!(Hit, number), offset_of!(Hit, score)), (0, 4));
 }
 

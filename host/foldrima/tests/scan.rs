@@ -23,8 +23,15 @@ fn refused<T>(number: u32, place: usize) -> Result<T, Refusal> {
     Err(Refusal { number, place })
 }
 
-fn tally(length: usize, kept: usize, taken: u32, refused: u32, withdrawn: u32) -> Tally {
-    Tally { length, kept, taken, refused, withdrawn }
+fn tally(
+    length: usize,
+    kept: usize,
+    taken: u32,
+    refused: u32,
+    withdrawn: u32,
+    comparisons: u64,
+) -> Tally {
+    Tally { length, kept, taken, refused, withdrawn, comparisons }
 }
 
 /// All that a scan holds, also behind its hits, with scores as patterns.
@@ -37,13 +44,13 @@ fn hits(scan: &Scan) -> Vec<(u32, f32)> {
     scan.hits().map(|hit| (hit.number, hit.score)).collect()
 }
 
-/// A scan of these hits that has taken so many records.
+/// A scan of these hits that has taken so many records, and made 40 comparisons.
 fn scan_of(length: usize, taken: u32, hits: &[(u32, f32)]) -> Scan {
     let (mut numbers, mut scores) = ([0; 64], [0.0; 64]);
     for (i, (number, score)) in hits.iter().enumerate() {
         (numbers[i], scores[i]) = (*number, *score);
     }
-    let tally = tally(length, hits.len(), taken, 0, 0);
+    let tally = tally(length, hits.len(), taken, 0, 0, 40);
     Scan::from_raw(raw::Scan { tally, numbers, scores })
 }
 
@@ -51,7 +58,7 @@ fn scan_of(length: usize, taken: u32, hits: &[(u32, f32)]) -> Scan {
 fn opened_with_1_to_64() {
     for length in 1..=64 {
         let scan = Scan::open(length).unwrap();
-        assert_eq!(scan.counts(), tally(length, 0, 0, 0, 0));
+        assert_eq!(scan.counts(), tally(length, 0, 0, 0, 0, 0));
         assert_eq!((scan.length(), scan.kept(), scan.hits().len()), (length, 0, 0));
     }
     for length in [0, 65, 66, 1 << 32, usize::MAX] {
@@ -76,7 +83,7 @@ fn a_number_for_every_record() {
     assert_eq!(take(&RECORD[..9]), Ok(Taken::Refused(Refusal { number: 13, place: 9 })));
     assert_eq!(take(&of(-1.0)), Ok(Taken::Refused(Refusal { number: 16, place: 0 })));
     assert_eq!(take(&of(2.0)), Ok(Taken::Accepted(2.0)));
-    assert_eq!(scan.counts(), tally(3, 2, 5, 2, 1));
+    assert_eq!(scan.counts(), tally(3, 2, 5, 2, 1, 1));
     assert_eq!((scan.taken(), scan.refused(), scan.withdrawn()), (5, 2, 1));
     assert_eq!(hits(&scan), [(4, 2.0), (0, 1.0)]);
 }
@@ -87,7 +94,7 @@ fn an_infinite_score_is_a_refused_record() {
     let twelve = Taken::Refused(Refusal { number: 12, place: 0 });
     assert_eq!(scan.take_prepared(&SETUP, &[2.0, 0.0], &[], &of(f32::MAX)), Ok(twelve));
     assert_eq!(scan.take(&SETUP, &[2.0, 2.0], &of(f32::MAX)), Ok(twelve));
-    assert_eq!(scan.counts(), tally(1, 0, 2, 2, 0));
+    assert_eq!(scan.counts(), tally(1, 0, 2, 2, 0, 0));
 }
 
 /// A number that setups and records share numbers nothing where it is the setup's, and is a
@@ -120,7 +127,7 @@ fn refusals_by_their_stage() {
         assert_eq!(scan.take(&SETUP, &QUERY, record), taken);
         assert_eq!(scan.take_prepared(&SETUP, &ROTATED, &[], record), taken);
         scan.take_many(&SETUP, &ROTATED, &[], record, &[record.len()]).unwrap();
-        assert_eq!(scan.counts(), tally(4, 2, 10, 3, 0));
+        assert_eq!(scan.counts(), tally(4, 2, 10, 3, 0, 40));
         assert_eq!(hits(&scan), [(3, 2.0), (5, 2.0)]);
     }
 }
@@ -172,7 +179,7 @@ fn wrong_ends_take_nothing() {
     assert_eq!(held(&scan), before);
     // Bytes behind the last end are not looked at, and an end that is repeated is withdrawn.
     scan.take_many(&SETUP, &ROTATED, &[], &bytes, &[0, 11, 11, 22, 30]).unwrap();
-    assert_eq!(scan.counts(), tally(4, 4, 12, 1, 2));
+    assert_eq!(scan.counts(), tally(4, 4, 12, 1, 2, 43));
     assert_eq!(hits(&scan), [(3, 2.0), (5, 2.0), (10, 2.0), (8, 1.0)]);
 }
 
@@ -182,8 +189,10 @@ fn equal_scores_stand_by_number() {
     let radii = [1.0, 2.0, 1.0, 2.0, 0.5, 2.0, 1.0, 2.0, 2.0];
     scan.take_each(&SETUP, &ROTATED, &[], radii.map(of)).unwrap();
     assert_eq!(hits(&scan), [(1, 2.0), (3, 2.0), (5, 2.0), (7, 2.0)]);
+    assert_eq!(scan.comparisons(), 1 + 1 + 3 + 1 + 3 + 1 + 2 + 1);
     scan.take_each(&SETUP, &ROTATED, &[], [of(3.0)]).unwrap();
     assert_eq!(hits(&scan), [(9, 3.0), (1, 2.0), (3, 2.0), (5, 2.0)]);
+    assert_eq!(scan.comparisons(), 13 + 4);
 }
 
 /// A score is a sum from +0.0 and never −0.0, so the other zero is put into the scan here.
@@ -197,10 +206,12 @@ fn both_zeros_are_equal() {
         assert_eq!(hits(&scan), [(4, 1.0), (2, 0.0), (3, 0.0), (9, 0.0)]);
         let signs: Vec<bool> = scan.hits().map(|hit| hit.score.is_sign_negative()).collect();
         assert_eq!(signs, [false, true, false, false]);
+        // It beats -1.0 and is stopped by 0.0.
+        assert_eq!(scan.comparisons(), 42);
         let mut scan = scan_of(3, 9, &[(4, 1.0), (2, -0.0), (3, -0.0)]);
         let before = hits(&scan);
         scan.take_many(&SETUP, &ROTATED, &[], &zero, &[11]).unwrap();
-        assert_eq!((hits(&scan), scan.taken()), (before, 10));
+        assert_eq!((hits(&scan), scan.taken(), scan.comparisons()), (before, 10, 41));
     }
 }
 
@@ -264,8 +275,8 @@ fn said_and_compared() {
     let mut scan = Scan::open(2).unwrap();
     assert_eq!(scan.take(&SETUP, &QUERY, &of(0.0)).unwrap().score(), Some(0.0));
     assert_eq!(scan.take(&SETUP, &QUERY, &[]).unwrap().score(), None);
-    let said = "Scan { tally: Tally { length: 2, kept: 1, taken: 2, refused: 0, withdrawn: 1 }, \
-                hits: [Hit { number: 0, score: 0.0 }] }";
+    let said = "Scan { tally: Tally { length: 2, kept: 1, taken: 2, refused: 0, withdrawn: 1, \
+                comparisons: 0 }, hits: [Hit { number: 0, score: 0.0 }] }";
     assert_eq!(format!("{scan:?}"), said);
     // What stands behind the hits does not count.
     let mut held = *scan.raw();
@@ -285,12 +296,17 @@ fn counts_that_no_records_led_to() {
     {
         for lens in [(0, 0), (0, 5), (5, 0), (3, 5), (5, 3), (1, 1), (2, 2), (5, 5)] {
             let room = length.min(lens.0).min(lens.1);
-            let before = tally(length, kept, 7, u32::MAX, u32::MAX);
+            let before = tally(length, kept, 7, u32::MAX, u32::MAX, u64::MAX);
             // The lists stand from place 1 on.
             let numbers: [u32; 7] = [70, 71, 72, 73, 74, 75, 76];
             let scores = [0.5, -1.0, -2.0, f32::MIN, f32::MIN, f32::MIN, 0.25];
             let mut wanted = (before, numbers, scores.map(f32::to_bits));
             (wanted.0.taken, wanted.0.refused, wanted.0.withdrawn) = (12, 0, 0);
+            // 2.0 beats all hits, 3.0 beats these and it, and the last stops at the equal one, or at
+            // 3.0 where there is room for no more.
+            let there = |new: usize| (kept.min(room) + new).min(room) as u64;
+            let compared = there(0) + there(1) + there(2) - (room > 1) as u64;
+            wanted.0.comparisons = u64::MAX.wrapping_add(compared);
             if room > 0 {
                 let old = (1..=kept.min(room)).map(|i| (numbers[i], scores[i]));
                 let new = [(9, 3.0f32), (7, 2.0), (10, 2.0)].into_iter().chain(old).take(room);

@@ -1,7 +1,7 @@
 //! Streams of thousands of records, many of them with equal scores, refused or withdrawn, taken
 //! singly by a query, singly by a prepared one and many at once: after each of the first records,
 //! now and then later, after each call that takes many, and at the end a scan has the hits that a
-//! full sort of the accepted records gives, and the counts.
+//! full sort of the accepted records gives, the counts, and the comparisons that the rule makes.
 
 use std::collections::BTreeMap;
 
@@ -127,24 +127,42 @@ fn any(rng: &mut Rng, setup: &Setup) -> Vec<u8> {
     record
 }
 
-/// What the scan must be: all accepted records in the order in which they came, and the counts.
+/// What a scan of this length must be: all accepted records in the order in which they came, and
+/// the counts.
 #[derive(Default)]
 struct Model {
+    length: usize,
     accepted: Vec<Hit>,
     taken: u32,
     refused: u32,
     withdrawn: u32,
+    comparisons: u64,
     /// Those of the refused records.
     refusals: Vec<Refusal>,
 }
 
 impl Model {
+    fn of(length: usize) -> Self {
+        Self { length, ..Self::default() }
+    }
+
+    /// How many comparisons a new score makes: one with each hit that it beats, and one more where
+    /// there is a hit that it does not beat. All hits that it does not beat stand before those that
+    /// it does, so that no hit need be sorted to count them.
+    fn compared(&self, score: f32) -> u64 {
+        let hits = self.accepted.len().min(self.length);
+        let as_good = self.accepted.iter().filter(|hit| hit.score >= score).count();
+        let standing = as_good.min(self.length);
+        (hits - standing) as u64 + (standing > 0) as u64
+    }
+
     /// What a record must answer, by the call that scores one.
     fn takes(&mut self, answer: Result<Position<f32>, Refusal>) -> Taken {
         let number = self.taken;
         self.taken += 1;
         match answer {
             Ok(Position::Kept(score)) => {
+                self.comparisons += self.compared(score);
                 self.accepted.push(Hit { number, score });
                 Taken::Accepted(score)
             }
@@ -169,15 +187,15 @@ impl Model {
 
     fn holds(&self, scan: &Scan) {
         let sorted = self.sorted();
-        let wanted = &sorted[..sorted.len().min(scan.length())];
+        let wanted = &sorted[..sorted.len().min(self.length)];
         let bits = |hit: &Hit| (hit.number, hit.score.to_bits());
         let mut hits = vec![Hit { number: 77, score: 7.5 }; wanted.len()];
         scan.close(&mut hits).unwrap();
         assert!(hits.iter().map(bits).eq(wanted.iter().map(bits)), "{hits:?} and {wanted:?}");
         assert!(scan.hits().eq(hits));
         assert_eq!(scan.kept(), wanted.len());
-        let counts = (scan.taken(), scan.refused(), scan.withdrawn());
-        assert_eq!(counts, (self.taken, self.refused, self.withdrawn));
+        let counts = (scan.taken(), scan.refused(), scan.withdrawn(), scan.comparisons());
+        assert_eq!(counts, (self.taken, self.refused, self.withdrawn, self.comparisons));
     }
 }
 
@@ -250,7 +268,7 @@ fn stream(seed: u64, setup: &Setup, length: usize, count: usize) -> Model {
     let query = query(rng, setup);
     let Query { plain, rotated, projected } = &query;
     let records: Vec<Vec<u8>> = rng.many(count, |rng| any(rng, setup));
-    let mut model = Model::default();
+    let mut model = Model::of(length);
     let opened = Scan::open(length).unwrap();
     let (mut singly, mut prepared, mut many) = (opened.clone(), opened.clone(), opened.clone());
     // The records that are still to be taken many at once.
@@ -351,7 +369,7 @@ fn a_new_query_for_every_record() {
     // Each record may come with a setup and a query of its own.
     let rng = &mut Rng(1);
     for length in [1, 7, 64] {
-        let (mut model, mut scan) = (Model::default(), Scan::open(length).unwrap());
+        let (mut model, mut scan) = (Model::of(length), Scan::open(length).unwrap());
         for _ in 0..2000 {
             let setup = &[ONLY, BOTH, TURNED][rng.below(3)];
             let (query, record) = (query(rng, setup), any(rng, setup));
@@ -362,7 +380,8 @@ fn a_new_query_for_every_record() {
     }
 }
 
-/// Rising scores move every hit down, falling ones none.
+/// Rising scores are compared with every hit and move it down, falling ones with the last alone and
+/// move none.
 #[test]
 fn rising_and_falling_scores() {
     let record = |radius: usize| {
@@ -377,9 +396,11 @@ fn rising_and_falling_scores() {
         rising.take_each(&ONLY, &rotated, &[], (0..500).map(record)).unwrap();
         let wanted = (0..length).map(|i| (499 - i) as u32);
         assert!(rising.hits().map(|hit| hit.number).eq(wanted));
+        assert_eq!(rising.comparisons(), (0..500).map(|i| i.min(length) as u64).sum());
         let mut falling = Scan::open(length).unwrap();
         falling.take_each(&ONLY, &rotated, &[], (0..500).rev().map(record)).unwrap();
         assert!(falling.hits().map(|hit| hit.number).eq(0..length as u32));
+        assert_eq!(falling.comparisons(), 499);
         assert!(falling.hits().map(|hit| hit.score).eq(rising.hits().map(|hit| hit.score)));
     }
 }

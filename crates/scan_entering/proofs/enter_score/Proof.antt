@@ -19,14 +19,18 @@ find-place-requires c κs = search needs
 add-next : tie.Need-add-next
 add-next c = search needs
 
+wrapping-add-u64-requires : tie.Need-wrapping-add-u64-requires
+wrapping-add-u64-requires c κs = search needs
+
 same-length : tie.Need-same-length
 same-length c = search needs
 
 returns : tie.Need-returns
 returns c =
-    let a = c .before .before .before .before .before .before .before .before .before .args in
-    entered-out (a .tally) (a .numbers .now) (a .scores .now) (a .score) (c .before .before .before .before .before .before .least .ensures) (c .before .before .before .before .before .least2 .ensures) (c .before .before .before .before .least3 .ensures) (c .before .before .find-place .ensures .0)
-    (c .if1 .taken)
+    let a = c .before .before .before .before .before .before .before .before .before .before .args in
+    let place = c .before .before .before .find-place .ensures in
+    entered-out (a .tally) (a .numbers .now) (a .scores .now) (a .score) (c .before .before .before .before .before .before .before .least .ensures) (c .before .before .before .before .before .before .least2 .ensures) (c .before .before .before .before .before .least3 .ensures) (place .0) (place .1 .1)
+    (c .before .wrapping-add-u64 .ensures) (c .if1 .taken)
 
 sub-least : tie.Need-sub-least
 sub-least c = search needs
@@ -51,9 +55,10 @@ same-length-3 c = search needs
 
 returns-2 : tie.Need-returns-2
 returns-2 c =
-    let a = c .before .before .before .before .before .before .before .before .before .before .before .before .before .before .before .before .before .before .args in
-    entered-in (a .tally) (a .numbers .now) (a .scores .now) (a .score) (c .before .before .before .before .before .before .before .before .before .before .before .before .before .before .before .least .ensures) (c .before .before .before .before .before .before .before .before .before .before .before .before .before .before .least2 .ensures) (c .before .before .before .before .before .before .before .before .before .before .before .before .before .least3 .ensures) (c .before .before .before .before .before .before .before .before .before .before .before .find-place .ensures .0)
-    (c .before .before .before .before .before .before .before .before .before .if1 .left) (c .before .before .before .before .before .before .before .before .least4 .ensures) (c .before .before .before .before .before .before .put-number .ensures) (c .before .before .put-score .ensures)
+    let a = c .before .before .before .before .before .before .before .before .before .before .before .before .before .before .before .before .before .before .before .args in
+    let place = c .before .before .before .before .before .before .before .before .before .before .before .before .find-place .ensures in
+    entered-in (a .tally) (a .numbers .now) (a .scores .now) (a .score) (c .before .before .before .before .before .before .before .before .before .before .before .before .before .before .before .before .least .ensures) (c .before .before .before .before .before .before .before .before .before .before .before .before .before .before .before .least2 .ensures) (c .before .before .before .before .before .before .before .before .before .before .before .before .before .before .least3 .ensures) (place .0) (place .1 .1)
+    (c .before .before .before .before .before .before .before .before .before .before .wrapping-add-u64 .ensures) (c .before .before .before .before .before .before .before .before .before .if1 .left) (c .before .before .before .before .before .before .before .before .least4 .ensures) (c .before .before .before .before .before .before .put-number .ensures) (c .before .before .put-score .ensures)
 
 pub enter-score-spec : {M : Type 1} → statement M
 enter-score-spec =
@@ -64,6 +69,7 @@ enter-score-spec =
     least-requires-3
     find-place-requires
     add-next
+    wrapping-add-u64-requires
     same-length
     returns
     sub-least
