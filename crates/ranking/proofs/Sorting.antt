@@ -1,7 +1,8 @@
 -- `sorted` does what its name says: the same hits, in their order. Assumes nothing.
 use mathlib.Core.Path.{_≡_, refl, sym, ap, _∙_}
 use mathlib.Core.Logic.{⊎-elim, _≢_}
-use Prim.Native.Nat.{ℕ, suc}
+use Prim.Native.Nat.{ℕ, suc, _≤_}
+use native.Mathlib.Omega.{arith}
 use mathlib.Core.Bool.{Bool, true, false, cond}
 use mathlib.Core.List.{List, [], _∷_}
 use lib.ListN.{length}
@@ -40,6 +41,11 @@ pub count-sorted : (p : Hit → Bool) (hs : List Hit) → count p (sorted hs) �
 unfolding sorted count
 count-sorted p [] = refl
 count-sorted p (h ∷ hs) = count-placed p h (sorted hs) ∙ ap (λ (n : ℕ). cond (p h) (suc n) n) (count-sorted p hs)
+
+pub count-few : (p : Hit → Bool) (hs : List Hit) → count p hs ≤ length hs
+unfolding count
+count-few p [] = omega arith
+count-few p (h ∷ hs) = ⊎-elim (λ (b : p h ≡ true). simp b (omega (arith, count-few p hs))) (λ (b : p h ≡ false). simp b (omega (arith, count-few p hs))) (either (p h))
 
 -- ---- in their order
 distinct-placed : (h : Hit) (ys : List Hit) → Every (λ y. h .number ≢ y .number) ys → Distinct ys → Distinct (placed h ys)

@@ -16,6 +16,7 @@ use Rattle.ranking.specs.declared.Hit.{Hit}
 use Rattle.ranking.specs.Ranked.{beats}
 use Rattle.ranking.specs.Sorting.{Finites, count}
 use Rattle.ranking.proofs.Orders.{Falling}
+use Rattle.ranking.proofs.Sorting.{count-few}
 use Rattle.ranking.proofs.Ranking.{either, none-before}
 use Rattle.scan.specs.Entering.{placeUp, comparedUp}
 use Rattle.scan.specs.History.{beatenBy, comparisonsWith}
@@ -59,16 +60,11 @@ module _ (x : Float) where
   beaten-from zero (h ∷ hits) le before from = simp (from 0 (omega arith) (omega arith)) (omega (arith, beaten-from zero hits (omega arith) (λ j l. absurd (omega arith)) (λ j l m. from (suc j) (omega arith) (omega arith))))
   beaten-from (suc at) (h ∷ hits) le before from = simp (before 0 (omega arith)) (omega (arith, beaten-from at hits (omega arith) (λ j l. before (suc j) (omega arith)) (λ j l m. from (suc j) (omega arith) (omega arith))))
 
-  beaten-few : (hits : List Hit) → beatenBy x hits ≤ length hits
-  unfolding count
-  beaten-few [] = omega arith
-  beaten-few (h ∷ hits) = ⊎-elim (λ (p : lt (h .score) x ≡ true). simp p (omega (arith, beaten-few hits))) (λ (p : lt (h .score) x ≡ false). simp p (omega (arith, beaten-few hits))) (either (lt (h .score) x))
-
   pub comparisons-few : (hits : List Hit) → comparisonsWith x hits ≤ length hits
   comparisons-few hits =
       ⊎-elim
       (λ (b : ltb (beatenBy x hits) (length hits) ≡ true). simp b (omega (arith, ltb-true (beatenBy x hits) (length hits) b)))
-      (λ (b : ltb (beatenBy x hits) (length hits) ≡ false). simp b (omega (arith, beaten-few hits)))
+      (λ (b : ltb (beatenBy x hits) (length hits) ≡ false). simp b (omega (arith, count-few (λ (h : Hit). lt (h .score) x) hits)))
       (either (ltb (beatenBy x hits) (length hits)))
 
   module _ (hits : List Hit) (f : T (finite x)) (all : Finites hits) (down : Falling hits) where

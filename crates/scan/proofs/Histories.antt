@@ -1,13 +1,14 @@
--- What a history numbers. The counts of refused and withdrawn records are no more than those numbered, every accepted record has its number's answer, and where every
--- answered score is finite, every accepted one is. Assumes nothing.
+-- What a history numbers. Those numbered are no more than a scan takes, and accepted, refused and withdrawn records no more than those; every accepted record has its
+-- number's answer, and where every answered score is finite, every accepted one is. Assumes nothing.
 use Prim.Native.Nat.{ℕ, _≤_, _<_}
 use mathlib.Core.Path.{_≡_, refl, ap, _∙_}
 use mathlib.Core.Bool.{true, false}
 use mathlib.Core.List.{List, [], _∷_, _++_, reverse, reverse-cons}
 use mathlib.Core.Logic.{⊎-elim, _≢_}
 use native.Mathlib.Omega.{arith}
+use borrow.Author.Tests.{leb-false}
 use lib.Dec.{T, leb}
-use lib.ListN.{length, getD, length-reverse, List·getD-append}
+use lib.ListN.{length, getD, length-append, length-reverse, List·getD-append}
 use lib.Seq.{getD-at}
 use lib.Ieee.{Float}
 use lib.Ieee.Scale.{finite}
@@ -35,6 +36,24 @@ withdrawn-few [] = omega arith
 withdrawn-few (value x ∷ answers) = omega (arith, withdrawn-few answers)
 withdrawn-few (refused n p ∷ answers) = omega (arith, withdrawn-few answers)
 withdrawn-few (withdrawn ∷ answers) = omega (arith, withdrawn-few answers)
+
+pub accepted-few : (answers : List (Answer Float)) → length (acceptedOf answers) ≤ length answers
+unfolding acceptedOf
+accepted-few [] = omega arith
+accepted-few (value x ∷ answers) = rw length-append (omega (arith, accepted-few answers))
+accepted-few (refused n p ∷ answers) = omega (arith, accepted-few answers)
+accepted-few (withdrawn ∷ answers) = omega (arith, accepted-few answers)
+
+pub numbered-few : (es : List Event) → length (numbered es) ≤ most
+unfolding numbered
+numbered-few [] = omega arith
+numbered-few (value a ∷ es) =
+    ⊎-elim
+    (λ (b : leb most (length (numbered es)) ≡ true). simp b (numbered-few es))
+    (λ (b : leb most (length (numbered es)) ≡ false). simp b (leb-false most (length (numbered es)) b))
+    (either (leb most (length (numbered es))))
+numbered-few (refused n p ∷ es) = numbered-few es
+numbered-few (withdrawn ∷ es) = numbered-few es
 
 -- ---- one event more
 

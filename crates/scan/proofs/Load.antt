@@ -7,7 +7,6 @@ use mathlib.Core.List.{List, [], _∷_}
 use mathlib.Core.Logic.{⊎-elim}
 use native.Mathlib.Nat.{le-trans, mul-le-mul, suc-mul}
 use native.Mathlib.Omega.{arith}
-use borrow.Author.Tests.{leb-false}
 use lib.Dec.{leb}
 use lib.ListN.{length, length-append}
 use lib.Ieee.{Float, lt}
@@ -19,7 +18,7 @@ use Rattle.scan.specs.Entering.{most}
 use Rattle.scan.specs.Events.{Event}
 use Rattle.scan.specs.History.{numbered, acceptedOf, hitsOf, comparisonsWith, addedBy, comparisonsOf}
 use Rattle.scan.specs.Load.{Load, Counted}
-use Rattle.scan.proofs.Histories.{numbered-full, numbered-next, numbered-skipped, numbered-none}
+use Rattle.scan.proofs.Histories.{accepted-few, numbered-few, numbered-full, numbered-next, numbered-skipped, numbered-none}
 use Rattle.scan.proofs.Hits.{hits-few, finite-hits, falling-hits}
 use Rattle.scan.proofs.Comparing.{comparisons-few, comparisons-upward}
 
@@ -85,24 +84,6 @@ module _ (k : ℕ) where
       (either (leb most (length (numbered es))))
   compared-all (refused n p ∷ es) = rw (compared-none k es (refused n p) refl, numbered-skipped es n p) (compared-all es)
   compared-all (withdrawn ∷ es) = rw (compared-none k es withdrawn refl, numbered-none es) (compared-all es)
-
-accepted-few : (answers : List (Answer Float)) → length (acceptedOf answers) ≤ length answers
-unfolding acceptedOf
-accepted-few [] = omega arith
-accepted-few (value x ∷ answers) = rw length-append (omega (arith, accepted-few answers))
-accepted-few (refused n p ∷ answers) = omega (arith, accepted-few answers)
-accepted-few (withdrawn ∷ answers) = omega (arith, accepted-few answers)
-
-numbered-few : (es : List Event) → length (numbered es) ≤ most
-unfolding numbered
-numbered-few [] = omega arith
-numbered-few (value a ∷ es) =
-    ⊎-elim
-    (λ (b : leb most (length (numbered es)) ≡ true). simp b (numbered-few es))
-    (λ (b : leb most (length (numbered es)) ≡ false). simp b (leb-false most (length (numbered es)) b))
-    (either (leb most (length (numbered es))))
-numbered-few (refused n p ∷ es) = numbered-few es
-numbered-few (withdrawn ∷ es) = numbered-few es
 
 -- 4,294,967,295 records of 64 comparisons each
 pub compared-ceiling : (k : ℕ) (es : List Event) → k ≤ 64 → comparisonsOf k es ≤ most * 64

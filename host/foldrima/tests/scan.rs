@@ -327,42 +327,43 @@ fn counts_that_no_records_led_to() {
 /// The tally and both lists, by patterns.
 type Left = (Tally, [u32; 7], [u32; 7]);
 
-/// The records and a withdrawn position taken one by one into lists of these lengths, which stand
+/// A C function that takes records by the prepared query, into lists of these lengths which stand
 /// from place 1 on.
+macro_rules! taken {
+    ($name:ident, $tally:expr, $numbers:ident, $scores:ident, $lens:ident, $($more:expr),*) => {{
+        let (numbers, scores) = ($numbers.as_mut_ptr(), $scores.as_mut_ptr());
+        let (directions, rotated, none) = (SETUP.directions.as_ptr(), ROTATED.as_ptr(), [].as_ptr());
+        unsafe {
+            raw::$name(
+                $tally, numbers.add(1), $lens.0, scores.add(1), $lens.1, 0, 2, 1, 0, 0,
+                directions, 4, rotated, 2, none, 0, $($more),*
+            )
+        }
+    }};
+}
+
+/// The records and a withdrawn position taken one by one.
 fn singly(
     mut tally: Tally,
     mut numbers: [u32; 7],
     mut scores: [f32; 7],
-    (numbers_len, scores_len): (usize, usize),
+    lens: (usize, usize),
     records: &[[u8; 11]],
 ) -> Left {
     let (mut number, mut place, mut value) = (9, 9, 9.0);
     for record in records.iter().map(|record| &record[..]).chain([&[][..]]) {
-        tally = unsafe {
-            raw::foldrima_scan_take_prepared(
-                tally,
-                numbers.as_mut_ptr().add(1),
-                numbers_len,
-                scores.as_mut_ptr().add(1),
-                scores_len,
-                0,
-                2,
-                1,
-                0,
-                0,
-                SETUP.directions.as_ptr(),
-                4,
-                ROTATED.as_ptr(),
-                2,
-                [].as_ptr(),
-                0,
-                record.as_ptr(),
-                record.len(),
-                &mut number,
-                &mut place,
-                &mut value,
-            )
-        };
+        tally = taken!(
+            foldrima_scan_take_prepared,
+            tally,
+            numbers,
+            scores,
+            lens,
+            record.as_ptr(),
+            record.len(),
+            &mut number,
+            &mut place,
+            &mut value
+        );
     }
     assert_eq!((number, place), (255, 0));
     (tally, numbers, scores.map(f32::to_bits))
@@ -373,38 +374,25 @@ fn at_once(
     tally: Tally,
     mut numbers: [u32; 7],
     mut scores: [f32; 7],
-    (numbers_len, scores_len): (usize, usize),
+    lens: (usize, usize),
     records: &[[u8; 11]],
 ) -> Left {
     let (mut number, mut place) = (9, 9);
     let bytes = records.concat();
     let ends: Vec<usize> = (1..=records.len()).chain([records.len()]).map(|i| 11 * i).collect();
-    let tally = unsafe {
-        raw::foldrima_scan_take_many(
-            tally,
-            numbers.as_mut_ptr().add(1),
-            numbers_len,
-            scores.as_mut_ptr().add(1),
-            scores_len,
-            0,
-            2,
-            1,
-            0,
-            0,
-            SETUP.directions.as_ptr(),
-            4,
-            ROTATED.as_ptr(),
-            2,
-            [].as_ptr(),
-            0,
-            bytes.as_ptr(),
-            bytes.len(),
-            ends.as_ptr(),
-            ends.len(),
-            &mut number,
-            &mut place,
-        )
-    };
+    let tally = taken!(
+        foldrima_scan_take_many,
+        tally,
+        numbers,
+        scores,
+        lens,
+        bytes.as_ptr(),
+        bytes.len(),
+        ends.as_ptr(),
+        ends.len(),
+        &mut number,
+        &mut place
+    );
     assert_eq!((number, place), (0, 0));
     (tally, numbers, scores.map(f32::to_bits))
 }
