@@ -1,6 +1,6 @@
 /*
  * Foldrima: the C functions of the proved port of turbo-quant, one for each call of document 01, one for a record's length, and of document 02 two for
- * the stored rotation and five for the scan. For 64-bit x86 only: libcapi.a is an archive for x86-64 Linux.
+ * the stored rotation and six for the scan. For 64-bit x86 only: libcapi.a is an archive for x86-64 Linux.
  *
  * A signature here is that of the function of the same name in crates/capi; a test of host/foldrima holds the two, and the structs and numbers below,
  * against the sources.
@@ -12,7 +12,8 @@
  *
  * Answers. There are three kinds, told by *number and *place: beside a value they are 0 and 0, of a refusal its number (FOLDRIMA_..) and its place,
  * and of a withdrawn position FOLDRIMA_WITHDRAWN and 0. No refusal has the number 0 or 255. Neither a refusal nor a withdrawn position writes to any
- * other memory, but for the tally of a foldrima_scan that a record is taken into: *value, the header's values and every output keep what they held.
+ * other memory, but for the tally of a foldrima_scan that is given to a function defined below: *value, the header's values and every output keep what
+ * they held.
  *
  * Withdrawn positions. A record of no bytes means that a position was withdrawn: that is no refusal, and there is no value. Only a call that takes a
  * record answers so, and its comment says where withdrawn comes in its order; a record of 1 to 5 bytes is refused (13). The calls that find a record's
@@ -50,7 +51,11 @@
  * a full sort of the accepted records so far would give.
  *
  * A new score is compared with the hits from the last upward and stops at the first that it does not beat; tally.comparisons has all that were made since
- * the scan was opened. A record adds at most `length`, and a refused or withdrawn one none: in all they are at most 64 * 4,294,967,295.
+ * the scan was opened. A record adds at most the length then in force, and a refused or withdrawn one none: in all at most 64 * 4,294,967,295.
+ *
+ * A scan may be given a smaller length while records are still to come (foldrima_scan_shorten, and foldrima_shorten on a foldrima_scan): hits beyond it
+ * are gone. From then on its hits, and all counts but comparisons, are those of a scan that was opened with that length, or with the least of several,
+ * and was lent the same records. Shortening makes no comparison; each record's are made at the length that was in force when it came.
  *
  * A call that takes records is given the tally by value and the two lists in place, and answers the tally that follows, which the caller keeps for the
  * next call. The lists are no outputs as above: they hold the scan's hits, are read, and are written only where a record comes to stand among these.
@@ -155,6 +160,7 @@ extern "C" {
 #define FOLDRIMA_SCAN_LENGTH 21           /* a scan's length is 0 or above 64; place 0 */
 #define FOLDRIMA_SCAN_FULL 22             /* a scan has taken 4,294,967,295 records, or has fewer numbers left than there are records; place 0 */
 #define FOLDRIMA_MALFORMED_NORM 23        /* a norm is not finite or below zero; place 0 */
+#define FOLDRIMA_SCAN_NOT_SHORTER 25      /* a scan's new length is 0 or above its present one; place 0 */
 #define FOLDRIMA_STORED_DIMENSION 26      /* a stored rotation's dimension is above 512; place 0 */
 
 /* ---- a withdrawn position */
@@ -374,11 +380,15 @@ foldrima_tally foldrima_scan_take_many(foldrima_tally tally, uint32_t *numbers, 
                                        const float *rotated, size_t rotated_len, const float *projected, size_t projected_len, const uint8_t *bytes,
                                        size_t bytes_len, const size_t *ends, size_t ends_len, uint32_t *number, size_t *place);
 
+/* Gives a scan a smaller length, or leaves it the present one: 25 where the new one is 0 or above the present one. Beside a 25 it answers the tally that
+ * it was given. The lists stay as they are, so they are not lent. */
+foldrima_tally foldrima_scan_shorten(foldrima_tally tally, size_t length, uint32_t *number, size_t *place);
+
 /* Writes the hits of a scan, in their order: 6. The scan stays as it is, and may take further records. */
 void foldrima_scan_close(foldrima_scan scan, foldrima_hit *out, size_t out_len, uint32_t *number, size_t *place);
 
-/* The same three calls on a foldrima_scan in place. The first two answer 1 where the record took a number and 0 where it did not; the third answers 1
- * where the records were taken and 0 where the call was refused. */
+/* The calls that take records, and the one that shortens, on a foldrima_scan in place. The first two answer 1 where the record took a number and 0 where
+ * it did not; the others answer 1 where the records were taken, or the length, and 0 where the call was refused. */
 static inline int foldrima_take_into(foldrima_scan *scan, uint8_t mode, size_t dim, uint8_t bits, size_t projections, uint8_t kind,
                                      const float *rotation, size_t rotation_len, const float *directions, size_t directions_len, const float *matrix,
                                      size_t matrix_len, const float *query, size_t query_len, const uint8_t *bytes, size_t bytes_len,
@@ -409,6 +419,12 @@ static inline int foldrima_take_many_into(foldrima_scan *scan, uint8_t mode, siz
     scan->tally = foldrima_scan_take_many(scan->tally, scan->numbers, 64, scan->scores, 64, mode, dim, bits, projections, kind, directions,
                                           directions_len, rotated, rotated_len, projected, projected_len, bytes, bytes_len, ends, ends_len, number,
                                           place);
+    return *number == 0;
+}
+
+static inline int foldrima_shorten(foldrima_scan *scan, size_t length, uint32_t *number, size_t *place)
+{
+    scan->tally = foldrima_scan_shorten(scan->tally, length, number, place);
     return *number == 0;
 }
 

@@ -97,6 +97,7 @@ static void decode(void) { foldrima_decode_approximate(SETUP, TABLES, record, re
 
 /* A scan is given 64 hits, all of which the record's score moves down; `many` has the record, a withdrawn position and a byte that is no record. */
 static void scan_open(void) { scan = foldrima_scan_open(64, &number, &place); }
+static void scan_shorten(void) { foldrima_shorten(&scan, 64, &number, &place); }
 static void scan_close(void) { foldrima_scan_close(scan, hits, 64, &number, &place); }
 static void scan_take(void)
 {
@@ -275,9 +276,9 @@ int main(void)
         {"prepare_query, stored", stored_prepare, 48 * KB}, {"inner_product_estimate, stored", stored_score, 60 * KB},
         {"prepared score, stored", stored_prepared_score, 24 * KB}, {"l2_distance_estimate, stored", stored_distance, 60 * KB},
         {"decode_approximate, stored", stored_decode, 8 * KB}, {"scan_open", scan_open, 4 * KB}, {"scan_take", scan_take, 60 * KB},
-        {"scan_take_prepared", scan_take_prepared, 24 * KB}, {"scan_take_many", scan_take_many, 24 * KB}, {"scan_close", scan_close, 4 * KB},
-        {"scan_take, stored", stored_take, 60 * KB}, {"scan_take_prepared, stored", stored_take_prepared, 24 * KB},
-        {"scan_take_many, stored", stored_take_many, 24 * KB},
+        {"scan_take_prepared", scan_take_prepared, 24 * KB}, {"scan_take_many", scan_take_many, 24 * KB}, {"scan_shorten", scan_shorten, 4 * KB},
+        {"scan_close", scan_close, 4 * KB}, {"scan_take, stored", stored_take, 60 * KB},
+        {"scan_take_prepared, stored", stored_take_prepared, 24 * KB}, {"scan_take_many, stored", stored_take_many, 24 * KB},
     };
     enum { CALLS = sizeof calls / sizeof *calls };
     static size_t most[CALLS];

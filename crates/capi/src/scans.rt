@@ -1,5 +1,5 @@
 // A scan that the caller keeps. Opening returns a scan. Records are taken in place: the tally goes by value and is returned, beside a refusal too, and the two
-// lists are lent; `taken` of the new tally tells how many numbers were taken. A scan is closed into a list of hits.
+// lists are lent; `taken` of the new tally tells how many numbers were taken. A scan is shortened by its tally alone. It is closed into a list of hits.
 use capi_answers::answers::tell;
 use capi_answers::answers::tell_phased;
 use capi_answers::codes;
@@ -14,6 +14,7 @@ ghost use Rattle.turbo_phased.specs.Estimates.{joined};
 ghost use Rattle.scan.specs.Scans.{scanOf};
 ghost use Rattle.scan.specs.Opening.{openOf, scanOpened};
 ghost use Rattle.scan.specs.Events.{takeOf, afterTaking};
+ghost use Rattle.scan.specs.Shortening.{shortenOf};
 ghost use Rattle.scan_taking.specs.Taking.{byQuery, byPrepared, eventOf};
 ghost use Rattle.scan_many.specs.Many.{takeManyOf};
 ghost use Rattle.scan_closing.specs.Closing.{closeOf};
@@ -151,6 +152,24 @@ pub extern "C" fn foldrima_scan_take_many(
     );
     let outcome = many.outcome;
     let next = many.tally;
+    tell(outcome, number, place);
+    next
+}
+
+// A shorter length for a scan that is open: 25 where it is 0 or above the present one, and the tally stays as it is.
+#[no_mangle]
+pub extern "C" fn foldrima_scan_shorten(
+    tally: Tally,
+    length: usize,
+    number: &mut u32,
+    place: &mut usize,
+) -> Tally
+    ensures answer { λ _. ⌜ said (now (number .exit)) (now (place .exit)) ≡ told (done (shortenOf tally length)) ⌝ }
+    ensures left { λ r. ⌜ r ≡ after (shortenOf tally length) tally ⌝ }
+{
+    let shorter = scan::shorten_within(tally, length);
+    let outcome = shorter.outcome;
+    let next = shorter.tally;
     tell(outcome, number, place);
     next
 }

@@ -73,6 +73,7 @@ numbers = record {
   record-size = λ code. two-kinds (numbered.record-size-numbered code);
   write-record = λ code radii indices signs room. two-kinds (numbered.write-numbered code radii indices signs room);
   scan-open = λ k. two-kinds (numbered.open-numbered k);
+  scan-shorten = λ tally n. two-kinds (numbered.shorten-numbered tally n);
   scan-take = λ tally s l query bytes. three-kinds (numbered.take-numbered tally s l query bytes);
   scan-take-prepared = λ tally s directions rotated values bytes. three-kinds (numbered.take-prepared-numbered tally s directions rotated values bytes);
   scan-take-many = λ scan s directions rotated values bytes ends. two-kinds (numbered.take-many-numbered scan s directions rotated values bytes ends);

@@ -57,6 +57,7 @@ use Rattle.scan.specs.declared.Scan.{Scan}
 use Rattle.scan.specs.Opening.{wrongScanLength, openOf}
 use Rattle.scan.specs.Entering.{most}
 use Rattle.scan.specs.Events.{takeOf}
+use Rattle.scan.specs.Shortening.{wrongShorter, shortenOf}
 use Rattle.scan_taking.specs.Taking.{byQuery, byPrepared, eventOf}
 use Rattle.scan_many.specs.Many.{wrongEnds, takeManyOf}
 use Rattle.scan_closing.specs.Closing.{closeOf}
@@ -286,6 +287,10 @@ estimate-prepared-numbered s directions rotated values bytes =
 pub open-numbered : (k : ℕ) → Plain (openOf k)
 unfolding openOf
 open-numbered k = chain (wrongScanLength k ∷ []) _ refl
+
+pub shorten-numbered : (tally : Tally) (n : ℕ) → Plain (shortenOf tally n)
+unfolding shortenOf
+shorten-numbered tally n = chain (wrongShorter (tally .length) n ∷ []) _ refl
 
 pub close-numbered : (scan : Scan) (room : ℕ) → Plain (closeOf scan room)
 unfolding closeOf

@@ -33,6 +33,7 @@ use Rattle.scan.specs.declared.Tally.{Tally}
 use Rattle.scan.specs.declared.Scan.{Scan}
 use Rattle.scan.specs.Opening.{openOf}
 use Rattle.scan.specs.Events.{takeOf}
+use Rattle.scan.specs.Shortening.{shortenOf}
 use Rattle.scan_taking.specs.Taking.{byQuery, byPrepared, eventOf}
 use Rattle.scan_many.specs.Many.{takeManyOf}
 use Rattle.scan_closing.specs.Closing.{closeOf}
@@ -91,4 +92,5 @@ pub record Numbers : Type 1 where
   pub record-size : (code : Code) → TwoKinds (recordSizeOf code)
   pub write-record : (code : Code) (radii : List Float) (indices : List ℕ) (signs : List ℤ) (room : ℕ) → TwoKinds (writeRecordOf code radii indices signs room)
   pub scan-open : (k : ℕ) → TwoKinds (openOf k)
+  pub scan-shorten : (tally : Tally) (n : ℕ) → TwoKinds (shortenOf tally n)
   pub scan-close : (scan : Scan) (room : ℕ) → TwoKinds (closeOf scan room)

@@ -55,6 +55,8 @@ pub const SCAN_LENGTH: u32 = 21;
 pub const SCAN_FULL: u32 = 22;
 // A source norm is not finite or below zero. Place 0.
 pub const MALFORMED_NORM: u32 = 23;
+// A scan's new length is 0 or above its present one. Place 0.
+pub const SCAN_NOT_SHORTER: u32 = 25;
 // A stored rotation's dimension is above 512. Place 0.
 pub const STORED_DIMENSION: u32 = 26;
 

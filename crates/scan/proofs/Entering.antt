@@ -22,10 +22,12 @@ use Rattle.scan.specs.declared.Scan.{Scan}
 use Rattle.scan.specs.Opening.{emptyOf}
 use Rattle.scan.specs.Entering.{most, roomOf, heldOf, placeUp, comparedUp, oneMore, comparisonsAfter, withHit, sameHits, scoredIn, withAnswer, enterOf}
 use Rattle.scan.specs.Events.{Event}
+use Rattle.scan.specs.Shortening.{Step, came, recordsOf, lengthAfter}
 use Rattle.scan.specs.History.{numbered, acceptedOf, refusedOf, withdrawnOf, hitsOf, comparisonsWith, comparisonsOf, Led}
 use Rattle.scan.proofs.Placing.{place-within, between, put-length, put-count, put-in}
 use Rattle.scan.proofs.Histories.{FiniteAnswer, refused-few, withdrawn-few, numbered-full, numbered-next, numbered-skipped}
 use Rattle.scan.proofs.Comparing.{none, scoresOf, place-kept, compared-kept, unbeaten-before, beaten-behind, comparisons-upward}
+use Rattle.scan.proofs.Lengths.{length-some}
 use Rattle.scan.proofs.Load.{compared-none, compared-full, compared-next, compared-ceiling}
 use Rattle.scan.proofs.Hits.{hits-few, hits-next, finite-hits, falling-hits, newest}
 
@@ -45,21 +47,22 @@ opened-led (suc k) some few = record {
   comparisons = refl;
 }
 
--- a history that numbers the same and compares as often leads to the same
-pub led-same : (k : ℕ) (es fs : List Event) (scan : Scan) → numbered fs ≡ numbered es → comparisonsOf k fs ≡ comparisonsOf k es → Led k es scan → Led k fs scan
-led-same k es fs scan e g led = record {
+-- a record that takes no number and is compared with no hit leaves the scan
+pub led-same : (k : ℕ) (steps : List (Step Event)) (scan : Scan) (e : Event) → numbered (e ∷ recordsOf steps) ≡ numbered (recordsOf steps) → comparisonsOf k (came e ∷ steps) ≡ comparisonsOf k steps
+    → Led k steps scan → Led k (came e ∷ steps) scan
+led-same k steps scan e same g led = record {
   some = led .some;
   few = led .few;
   long = led .long;
   numbers-room = led .numbers-room;
   scores-room = led .scores-room;
-  hits = record { kept = rw e (led .hits .kept); numbers = rw e (led .hits .numbers); scores = rw e (led .hits .scores) };
-  counts = record { taken = rw e (led .counts .taken); refusals = rw e (led .counts .refusals); withdrawals = rw e (led .counts .withdrawals) };
+  hits = record { kept = rw same (led .hits .kept); numbers = rw same (led .hits .numbers); scores = rw same (led .hits .scores) };
+  counts = record { taken = rw same (led .counts .taken); refusals = rw same (led .counts .refusals); withdrawals = rw same (led .counts .withdrawals) };
   comparisons = led .comparisons ∙ sym g;
 }
 
-pub skipped-led : (k : ℕ) (es : List Event) (scan : Scan) (n p : ℕ) → Led k es scan → Led k (refused n p ∷ es) scan
-skipped-led k es scan n p led = led-same k es (refused n p ∷ es) scan (numbered-skipped es n p) (compared-none k es (refused n p) refl) led
+pub skipped-led : (k : ℕ) (steps : List (Step Event)) (scan : Scan) (n p : ℕ) → Led k steps scan → Led k (came (refused n p) ∷ steps) scan
+skipped-led k steps scan n p led = led-same k steps scan (refused n p) (numbered-skipped (recordsOf steps) n p) (compared-none k steps (refused n p) refl) led
 
 -- ---- a record's answer
 
@@ -70,7 +73,17 @@ least-above n kept k a b = omega arith
 least-below : (kept k n : ℕ) → 1 ≤ k → k ≤ n → min kept (k - 1) < n
 least-below kept k n a b = omega arith
 
-module _ (k : ℕ) (es : List Event) (scan : Scan) (led : Led k es scan) where
+module _ (opened : ℕ) (steps : List (Step Event)) (scan : Scan) (led : Led opened steps scan) where
+  -- the length in force, and the records
+  abbrev k : ℕ
+  k = lengthAfter opened steps
+
+  abbrev es : List Event
+  es = recordsOf steps
+
+  some : 1 ≤ k
+  some = length-some opened (led .some) steps
+
   room-is : roomOf scan ≡ k
   room-is = omega (arith, led .long, led .numbers-room, led .scores-room)
 
@@ -88,8 +101,8 @@ module _ (k : ℕ) (es : List Event) (scan : Scan) (led : Led k es scan) where
     one-more n le = mod-eq-of-lt (omega (arith, small)) ∙ omega arith
 
     -- neither hits nor room change
-    counted-led : (a : Answer Float) (hs : take k (sorted (acceptedOf (a ∷ numbered es))) ≡ hitsOf k es) (r w c : ℕ) → r ≡ refusedOf (a ∷ numbered es) → w ≡ withdrawnOf (a ∷ numbered es) → c ≡ comparisonsOf k (value a ∷ es)
-        → Led k (value a ∷ es) (sameHits scan r w c)
+    counted-led : (a : Answer Float) (hs : take k (sorted (acceptedOf (a ∷ numbered es))) ≡ hitsOf k es) (r w c : ℕ) → r ≡ refusedOf (a ∷ numbered es) → w ≡ withdrawnOf (a ∷ numbered es) → c ≡ comparisonsOf opened (came (value a) ∷ steps)
+        → Led opened (came (value a) ∷ steps) (sameHits scan r w c)
     counted-led a hs r w c e g h = record {
       some = led .some;
       few = led .few;
@@ -105,21 +118,21 @@ module _ (k : ℕ) (es : List Event) (scan : Scan) (led : Led k es scan) where
       comparisons = h;
     }
 
-    refused-led : (n p : ℕ) → Led k (value (refused n p) ∷ es) (withAnswer scan (refused n p))
+    refused-led : (n p : ℕ) → Led opened (came (value (refused n p)) ∷ steps) (withAnswer scan (refused n p))
     unfolding acceptedOf refusedOf withdrawnOf
     refused-led n p =
         counted-led (refused n p) refl (oneMore (scan .tally .refused)) (scan .tally .withdrawn) (scan .tally .comparisons)
         (one-more (scan .tally .refused) (omega (arith, led .counts .taken, led .counts .refusals, refused-few (numbered es))) ∙ ap suc (led .counts .refusals))
         (led .counts .withdrawals)
-        (led .comparisons ∙ sym (compared-none k es (value (refused n p)) refl))
+        (led .comparisons ∙ sym (compared-none opened steps (value (refused n p)) refl))
 
-    withdrawn-led : Led k (value withdrawn ∷ es) (withAnswer scan withdrawn)
+    withdrawn-led : Led opened (came (value withdrawn) ∷ steps) (withAnswer scan withdrawn)
     unfolding acceptedOf refusedOf withdrawnOf
     withdrawn-led =
         counted-led withdrawn refl (scan .tally .refused) (oneMore (scan .tally .withdrawn)) (scan .tally .comparisons)
         (led .counts .refusals)
         (one-more (scan .tally .withdrawn) (omega (arith, led .counts .taken, led .counts .withdrawals, withdrawn-few (numbered es))) ∙ ap suc (led .counts .withdrawals))
-        (led .comparisons ∙ sym (compared-none k es (value withdrawn) refl))
+        (led .comparisons ∙ sym (compared-none opened steps (value withdrawn) refl))
 
     module _ (x : Float) (f : T (finite x)) (all : Finites (acceptedOf (numbered es))) where
       abbrev at : ℕ
@@ -145,12 +158,12 @@ module _ (k : ℕ) (es : List Event) (scan : Scan) (led : Led k es scan) where
           ∙ ap₂ (comparedUp x) (led .hits .scores) (led .hits .kept)
           ∙ sym (comparisons-upward x (hitsOf k es) f (finite-hits k es all) (falling-hits k es all))
 
-      sum : scan .tally .comparisons + comparedUp x (scan .scores) (heldOf scan) ≡ comparisonsOf k (value (value x) ∷ es)
-      sum = ap₂ _+_ (led .comparisons) compared-is ∙ sym (compared-next k es x (rw (led .counts .taken) at free))
+      sum : scan .tally .comparisons + comparedUp x (scan .scores) (heldOf scan) ≡ comparisonsOf opened (came (value (value x)) ∷ steps)
+      sum = ap₂ _+_ (led .comparisons) compared-is ∙ sym (compared-next opened steps x (rw (led .counts .taken) at free))
 
       -- none of it is cut off
-      count-is : comparisonsAfter scan x ≡ comparisonsOf k (value (value x) ∷ es)
-      count-is = mod-eq-of-lt (omega (arith, sum, compared-ceiling k (value (value x) ∷ es) (led .few))) ∙ sum
+      count-is : comparisonsAfter scan x ≡ comparisonsOf opened (came (value (value x)) ∷ steps)
+      count-is = mod-eq-of-lt (omega (arith, sum, compared-ceiling opened (came (value (value x)) ∷ steps) (led .few))) ∙ sum
 
       -- the hits with the new one between them, as many as there is room for
       hits-between : take k (sorted (acceptedOf (value x ∷ numbered es))) ≡ take k (between at (newest (numbered es) x) (hitsOf k es))
@@ -162,7 +175,7 @@ module _ (k : ℕ) (es : List Event) (scan : Scan) (led : Led k es scan) where
           (λ l. beaten-behind x (hitsOf k es) f (finite-hits k es all) (falling-hits k es all) at (omega (arith, at-is)) l))
 
       -- behind all that there is room for: nothing moves
-      behind-led : roomOf scan ≤ at → Led k (value (value x) ∷ es) (sameHits scan (scan .tally .refused) (scan .tally .withdrawn) (comparisonsAfter scan x))
+      behind-led : roomOf scan ≤ at → Led opened (came (value (value x)) ∷ steps) (sameHits scan (scan .tally .refused) (scan .tally .withdrawn) (comparisonsAfter scan x))
       unfolding refusedOf withdrawnOf
       behind-led out =
           counted-led (value x)
@@ -172,7 +185,7 @@ module _ (k : ℕ) (es : List Event) (scan : Scan) (led : Led k es scan) where
           (scan .tally .refused) (scan .tally .withdrawn) (comparisonsAfter scan x) (led .counts .refusals) (led .counts .withdrawals) count-is
 
       -- among them: it is put in
-      among-led : at < roomOf scan → Led k (value (value x) ∷ es) (withHit scan at x)
+      among-led : at < roomOf scan → Led opened (came (value (value x)) ∷ steps) (withHit scan at x)
       unfolding refusedOf withdrawnOf
       among-led room =
           let hit = newest (numbered es) x in
@@ -185,8 +198,8 @@ module _ (k : ℕ) (es : List Event) (scan : Scan) (led : Led k es scan) where
             some = led .some;
             few = led .few;
             long = led .long;
-            numbers-room = rw (last, put-length at (min kept (k - 1)) (scan .tally .taken) (scan .numbers) within (least-below kept k (length (scan .numbers)) (led .some) (led .numbers-room))) (led .numbers-room);
-            scores-room = rw (last, put-length at (min kept (k - 1)) x (scan .scores) within (least-below kept k (length (scan .scores)) (led .some) (led .scores-room))) (led .scores-room);
+            numbers-room = rw (last, put-length at (min kept (k - 1)) (scan .tally .taken) (scan .numbers) within (least-below kept k (length (scan .numbers)) some (led .numbers-room))) (led .numbers-room);
+            scores-room = rw (last, put-length at (min kept (k - 1)) x (scan .scores) within (least-below kept k (length (scan .scores)) some (led .scores-room))) (led .scores-room);
             hits = record {
               kept = rw (next (value x), hits-between, last) (sym (put-count (λ (h : Hit). h .number) hit (hitsOf k es) (scan .numbers) at kept k (led .hits .numbers) (led .hits .kept) among full free (led .numbers-room)));
               numbers = rw (next (value x), hits-between, last, led .counts .taken) (put-in (λ (h : Hit). h .number) hit (hitsOf k es) (scan .numbers) at kept k (led .hits .numbers) (led .hits .kept) among full free (led .numbers-room));
@@ -200,23 +213,23 @@ module _ (k : ℕ) (es : List Event) (scan : Scan) (led : Led k es scan) where
             comparisons = count-is;
           }
 
-      scored-led : Led k (value (value x) ∷ es) (scoredIn scan at x)
+      scored-led : Led opened (came (value (value x)) ∷ steps) (scoredIn scan at x)
       scored-led =
           ⊎-elim
           (λ (b : ltb at (roomOf scan) ≡ true). rw b (among-led (ltb-true at (roomOf scan) b)))
           (λ (b : ltb at (roomOf scan) ≡ false). rw b (behind-led (ltb-false at (roomOf scan) b)))
           (either (ltb at (roomOf scan)))
 
-    numbered-led : (a : Answer Float) → FiniteAnswer a → Finites (acceptedOf (numbered es)) → Led k (value a ∷ es) (withAnswer scan a)
+    numbered-led : (a : Answer Float) → FiniteAnswer a → Finites (acceptedOf (numbered es)) → Led opened (came (value a) ∷ steps) (withAnswer scan a)
     numbered-led (value x) f all = scored-led x f all
     numbered-led (refused n p) f all = refused-led n p
     numbered-led withdrawn f all = withdrawn-led
 
-pub entered-led : (k : ℕ) (es : List Event) (scan : Scan) (a : Answer Float) → FiniteAnswer a → Finites (acceptedOf (numbered es)) → Led k es scan
-    → Led k (value a ∷ es) (enterOf scan a)
+pub entered-led : (k : ℕ) (steps : List (Step Event)) (scan : Scan) (a : Answer Float) → FiniteAnswer a → Finites (acceptedOf (numbered (recordsOf steps))) → Led k steps scan
+    → Led k (came (value a) ∷ steps) (enterOf scan a)
 unfolding enterOf
-entered-led k es scan a f all led =
+entered-led k steps scan a f all led =
     ⊎-elim
-    (λ (b : leb most (scan .tally .taken) ≡ true). rw b (led-same k es (value a ∷ es) scan (numbered-full es a (rw (led .counts .taken) at b)) (compared-full k es (value a) (rw (led .counts .taken) at b)) led))
-    (λ (b : leb most (scan .tally .taken) ≡ false). rw b (numbered-led k es scan led b a f all))
+    (λ (b : leb most (scan .tally .taken) ≡ true). rw b (led-same k steps scan (value a) (numbered-full (recordsOf steps) a (rw (led .counts .taken) at b)) (compared-full k steps (value a) (rw (led .counts .taken) at b)) led))
+    (λ (b : leb most (scan .tally .taken) ≡ false). rw b (numbered-led k steps scan led b a f all))
     (either (leb most (scan .tally .taken)))

@@ -11,6 +11,7 @@ use Rattle.ranking.proofs.Ranking.{either}
 use Rattle.scan.specs.declared.Scan.{Scan}
 use Rattle.scan.specs.Entering.{most, enterOf}
 use Rattle.scan.specs.Events.{Event, takeOf, afterTaking}
+use Rattle.scan.specs.Shortening.{Step, came, recordsOf}
 use Rattle.scan.specs.History.{Led}
 use Rattle.scan.proofs.Histories.{FiniteEvent, FiniteEvents, numbered-none, finite-accepted}
 use Rattle.scan.proofs.Load.{compared-none}
@@ -43,7 +44,7 @@ after-asked scan e =
 
 -- ---- the history
 
-pub event-led : (k : ℕ) (es : List Event) (scan : Scan) (e : Event) → FiniteEvent e → FiniteEvents es → Led k es scan → Led k (e ∷ es) (afterTaking scan e)
-event-led k es scan (value a) f fs led = entered-led k es scan a f (finite-accepted es fs) led
-event-led k es scan (refused n p) f fs led = skipped-led k es scan n p led
-event-led k es scan withdrawn f fs led = led-same k es (withdrawn ∷ es) scan (numbered-none es) (compared-none k es withdrawn refl) led
+pub event-led : (k : ℕ) (steps : List (Step Event)) (scan : Scan) (e : Event) → FiniteEvent e → FiniteEvents (recordsOf steps) → Led k steps scan → Led k (came e ∷ steps) (afterTaking scan e)
+event-led k steps scan (value a) f fs led = entered-led k steps scan a f (finite-accepted (recordsOf steps) fs) led
+event-led k steps scan (refused n p) f fs led = skipped-led k steps scan n p led
+event-led k steps scan withdrawn f fs led = led-same k steps scan withdrawn (numbered-none (recordsOf steps)) (compared-none k steps withdrawn refl) led

@@ -3,7 +3,9 @@ pub mod Placing
 pub mod Histories
 pub mod Hits
 pub mod Comparing
+pub mod Lengths
 pub mod Load
 pub mod Entering
 pub mod Events
 pub mod Opening
+pub mod Shortening

@@ -42,6 +42,11 @@ place-stopped x ss (suc i) some =
 
 -- ---- an item put in at a place
 
+pub map-take : {A H : Type 0} (f : H → A) (n : ℕ) (xs : List H) → map f (take n xs) ≡ take n (map f xs)
+map-take f zero xs = refl
+map-take f (suc n) [] = refl
+map-take {A} f (suc n) (x ∷ xs) = ap (λ (l : List A). f x ∷ l) (map-take f n xs)
+
 -- an item between those before a place and those from it on
 abbrev pub between : {A : Type 0} → ℕ → A → List A → List A
 between at x xs = take at xs ++ (x ∷ drop at xs)
@@ -105,10 +110,5 @@ module _ {A H : Type 0} (f : H → A) (x : H) (hs : List H) (old : List A) (at k
       ∙ ap (λ (l : List A). take (suc last) (between at (f x) l)) (sym (take-take last kept old (omega arith)) ∙ ap (take last) same)
       ∙ sym (between-take at last (f x) (map f hs) (omega arith))
       ∙ ap (take (suc last)) (sym (between-map f at x hs))
-      ∙ sym (map-take (suc last) (between at x hs))
+      ∙ sym (map-take f (suc last) (between at x hs))
       ∙ ap (map f) put-room
-    where
-      map-take : (n : ℕ) (l : List H) → map f (take n l) ≡ take n (map f l)
-      map-take zero l = refl
-      map-take (suc n) [] = refl
-      map-take (suc n) (h ∷ l) = ap (λ (r : List A). f h ∷ r) (map-take n l)

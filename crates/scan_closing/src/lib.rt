@@ -11,7 +11,8 @@ ghost use lib.ListN.{length};
 ghost use Rattle.error.specs.Answer.{done, after};
 ghost use Rattle.error.specs.Outcomes.{says};
 ghost use Rattle.scan.specs.Events.{Event};
-ghost use Rattle.scan.specs.History.{Led, hitsOf};
+ghost use Rattle.scan.specs.Shortening.{Step};
+ghost use Rattle.scan.specs.History.{Led, keptOf};
 ghost use Rattle.scan_closing.specs.Closing.{hitAtOf, hitsIn, closeOf};
 ghost use Rattle.scan_closing.specs.Inner.{writtenOf};
 
@@ -19,7 +20,7 @@ ghost use Rattle.scan_closing.specs.Inner.{writtenOf};
 pub fn close(scan: Scan, out: &mut [Hit]) -> Outcome
     ensures said { λ r. ⌜ says r ≡ done (closeOf scan (length (now (out .entry)))) ⌝ }
     ensures left { λ r. ⌜ now (out .exit) ≡ after (closeOf scan (length (now (out .entry)))) (now (out .entry)) ⌝ }
-    ensures led { λ r. ⌜ ((k : ℕ) (es : List Event) → Led k es scan → hitsIn scan ≡ hitsOf k es) ⌝ }
+    ensures led { λ r. ⌜ ((opened : ℕ) (steps : List (Step Event)) → Led opened steps scan → hitsIn scan ≡ keptOf opened steps) ⌝ }
 {
     let n = written(scan, out.len());
     let mut i = 0;

@@ -47,8 +47,8 @@ fn enter_score(tally: Tally, numbers: &mut [u32], scores: &mut [f32], score: f32
     requires { ⌜ tally .taken < 4294967295 ⌝ }
     ensures { λ r. ⌜ scanOf r (now (numbers .exit)) (now (scores .exit)) ≡ scoredIn (scanOf tally (now (numbers .entry)) (now (scores .entry))) (placeUp score (now (scores .entry)) (min (tally .kept) (min (tally .length) (min (length (now (numbers .entry))) (length (now (scores .entry))))))) score ⌝ }
 {
-    let room = least(tally.length, least(numbers.len(), scores.len()));
-    let held = least(tally.kept, room);
+    let room = scan::least(tally.length, scan::least(numbers.len(), scores.len()));
+    let held = scan::least(tally.kept, room);
     let place = find_place(scores, held, score);
     let at = place.at;
     let mut next = tally;
@@ -57,7 +57,7 @@ fn enter_score(tally: Tally, numbers: &mut [u32], scores: &mut [f32], score: f32
     if room <= at {
         return next;
     }
-    let last = least(held, room - 1);
+    let last = scan::least(held, room - 1);
     put_number(numbers, at, last, tally.taken);
     put_score(scores, at, last, score);
     next.kept = last + 1;
@@ -107,11 +107,4 @@ fn put_score(xs: &mut [f32], at: usize, last: usize, x: f32)
         i -= 1;
     }
     xs[at] = x;
-}
-
-// The smaller of two numbers.
-fn least(a: usize, b: usize) -> usize
-    ensures { λ r. ⌜ r ≡ min a b ⌝ }
-{
-    if a < b { a } else { b }
 }

@@ -13,31 +13,32 @@ use Rattle.turbo_prepared.proofs.Answers.{prepared-phased-passed}
 use Rattle.scan.specs.declared.Scan.{Scan}
 use Rattle.scan.specs.Entering.{enterOf}
 use Rattle.scan.specs.Events.{afterTaking}
+use Rattle.scan.specs.Shortening.{Step, came}
 use Rattle.scan_taking.specs.Taking.{Taking, byPrepared, LedBy}
 use Rattle.scan_taking.proofs.Taking.{taken-led}
 use Rattle.scan_many.specs.Many.{recordsIn, manyChecks, enteredEach, takeManyOf, takingsOf}
 use Rattle.scan_many.proofs.Answers.{passed-prepared, many-passed}
 
 module _ (s : Setup) (directions rotated projected : List Float) (passed : first (preparedChecks s directions rotated projected) accepted ≡ accepted) where
-  record-led : (k : ℕ) (earlier : List Taking) (scan : Scan) (bytes : List ℕ) → LedBy k earlier scan
-      → LedBy k (byPrepared s directions rotated projected bytes ∷ earlier) (enterOf scan (recordScoreOf s directions rotated projected bytes))
+  record-led : (k : ℕ) (earlier : List (Step Taking)) (scan : Scan) (bytes : List ℕ) → LedBy k earlier scan
+      → LedBy k (came (byPrepared s directions rotated projected bytes) ∷ earlier) (enterOf scan (recordScoreOf s directions rotated projected bytes))
   record-led k earlier scan bytes led =
       subst
-      (λ (next : Scan). LedBy k (byPrepared s directions rotated projected bytes ∷ earlier) next)
+      (λ (next : Scan). LedBy k (came (byPrepared s directions rotated projected bytes) ∷ earlier) next)
       (ap (afterTaking scan) (prepared-phased-passed s directions rotated projected bytes passed))
       (taken-led k earlier scan (byPrepared s directions rotated projected bytes) led)
 
   -- of the records, each is the newest in its turn
-  pub each-led : (k : ℕ) (earlier : List Taking) (scan : Scan) (records : List (List ℕ)) → LedBy k earlier scan
-      → LedBy k (reverse (map (byPrepared s directions rotated projected) records) ++ earlier) (enteredEach (recordScoreOf s directions rotated projected) records scan)
+  pub each-led : (k : ℕ) (earlier : List (Step Taking)) (scan : Scan) (records : List (List ℕ)) → LedBy k earlier scan
+      → LedBy k (reverse (map came (map (byPrepared s directions rotated projected) records)) ++ earlier) (enteredEach (recordScoreOf s directions rotated projected) records scan)
   unfolding enteredEach
   each-led k earlier scan [] led = led
   each-led k earlier scan (bytes ∷ more) led =
-      let t = byPrepared s directions rotated projected bytes in
-      let ts = map (byPrepared s directions rotated projected) more in
+      let t = came (byPrepared s directions rotated projected bytes) in
+      let ts = map came (map (byPrepared s directions rotated projected) more) in
       subst
-      (λ (takings : List Taking). LedBy k takings (enteredEach (recordScoreOf s directions rotated projected) more (enterOf scan (recordScoreOf s directions rotated projected bytes))))
-      (sym (ap (λ (l : List Taking). l ++ earlier) (reverse-cons t ts) ∙ append-assoc (reverse ts) (t ∷ []) earlier))
+      (λ (steps : List (Step Taking)). LedBy k steps (enteredEach (recordScoreOf s directions rotated projected) more (enterOf scan (recordScoreOf s directions rotated projected bytes))))
+      (sym (ap (λ (l : List (Step Taking)). l ++ earlier) (reverse-cons t ts) ∙ append-assoc (reverse ts) (t ∷ []) earlier))
       (each-led k (t ∷ earlier) (enterOf scan (recordScoreOf s directions rotated projected bytes)) more (record-led k earlier scan bytes led))
 
 module _ (scan : Scan) (s : Setup) (directions rotated projected : List Float) (bytes ends : List ℕ) where
@@ -45,11 +46,11 @@ module _ (scan : Scan) (s : Setup) (directions rotated projected : List Float) (
   unfolding takeManyOf
   many-clear e = sym (first-done (manyChecks (scan .tally .taken) s directions rotated projected (length bytes) ends) (enteredEach (recordScoreOf s directions rotated projected) (recordsIn bytes 0 ends) scan)) ∙ e
 
-  pub many-led : (k : ℕ) (earlier : List Taking) → done (takeManyOf scan s directions rotated projected bytes ends) ≡ accepted → LedBy k earlier scan
-      → LedBy k (reverse (takingsOf s directions rotated projected bytes ends) ++ earlier) (after (takeManyOf scan s directions rotated projected bytes ends) scan)
+  pub many-led : (k : ℕ) (earlier : List (Step Taking)) → done (takeManyOf scan s directions rotated projected bytes ends) ≡ accepted → LedBy k earlier scan
+      → LedBy k (reverse (map came (takingsOf s directions rotated projected bytes ends)) ++ earlier) (after (takeManyOf scan s directions rotated projected bytes ends) scan)
   many-led k earlier e led =
       let passed = many-clear e in
       subst
-      (λ (next : Scan). LedBy k (reverse (takingsOf s directions rotated projected bytes ends) ++ earlier) next)
+      (λ (next : Scan). LedBy k (reverse (map came (takingsOf s directions rotated projected bytes ends)) ++ earlier) next)
       (sym (ap (λ (a : Answer Scan). after a scan) (many-passed scan s directions rotated projected bytes ends passed)))
       (each-led s directions rotated projected (passed-prepared (scan .tally .taken) s directions rotated projected (length bytes) ends passed) k earlier scan (recordsIn bytes 0 ends) led)

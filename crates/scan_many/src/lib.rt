@@ -8,9 +8,10 @@ use scan::MOST_RECORDS;
 use scan::Scan;
 use scan::ScanAnswer;
 use scan::Tally;
+use scan::TallyAnswer;
 use setup::Setup;
 ghost use mathlib.Core.Path.{_≡_};
-ghost use mathlib.Core.List.{List, [], _∷_, _++_, reverse};
+ghost use mathlib.Core.List.{List, [], _∷_, _++_, map, reverse};
 ghost use Prim.Native.Nat.{ℕ};
 ghost use lib.ListN.{length};
 ghost use Rattle.error.specs.Answer.{first, accepted, done, after};
@@ -18,14 +19,9 @@ ghost use Rattle.error.specs.Outcomes.{says};
 ghost use Rattle.setup.specs.Checks.{scalarChecks};
 ghost use Rattle.turbo_record.specs.Scoring.{recordScoreOf};
 ghost use Rattle.scan.specs.Scans.{scanOf};
+ghost use Rattle.scan.specs.Shortening.{Step, came};
 ghost use Rattle.scan_taking.specs.Taking.{Taking, LedBy, AsByQuery};
 ghost use Rattle.scan_many.specs.Many.{recordsIn, wrongEnds, manyChecks, enteredEach, takeManyOf, takingsOf};
-
-// The answer of a call that has no value but the tally: beside a refusal the tally as it was.
-pub struct TallyAnswer {
-    pub outcome: Outcome,
-    pub tally: Tally,
-}
 
 // Many records by a query that is prepared, all of them or none: their bytes stand one behind the other, and `ends` has the end of each. Refusals of single
 // records are counted and not told. Two equal ends are a withdrawn position; bytes behind the last end are left alone.
@@ -40,7 +36,7 @@ pub fn take_many(
 ) -> ScanAnswer
     ensures said { λ r. ⌜ says (r .outcome) ≡ done (takeManyOf scan setup (now (directions .entry)) (now (rotated .entry)) (now (projected .entry)) (now (bytes .entry)) (now (ends .entry))) ⌝ }
     ensures left { λ r. ⌜ r .scan ≡ after (takeManyOf scan setup (now (directions .entry)) (now (rotated .entry)) (now (projected .entry)) (now (bytes .entry)) (now (ends .entry))) scan ⌝ }
-    ensures led { λ r. ⌜ ((k : ℕ) (earlier : List Taking) → says (r .outcome) ≡ accepted → LedBy k earlier scan → LedBy k (reverse (takingsOf setup (now (directions .entry)) (now (rotated .entry)) (now (projected .entry)) (now (bytes .entry)) (now (ends .entry))) ++ earlier) (r .scan)) ⌝ }
+    ensures led { λ r. ⌜ ((opened : ℕ) (earlier : List (Step Taking)) → says (r .outcome) ≡ accepted → LedBy opened earlier scan → LedBy opened (reverse (map came (takingsOf setup (now (directions .entry)) (now (rotated .entry)) (now (projected .entry)) (now (bytes .entry)) (now (ends .entry)))) ++ earlier) (r .scan)) ⌝ }
     ensures plain { λ _. ⌜ AsByQuery setup (now (directions .entry)) (now (rotated .entry)) (now (projected .entry)) ⌝ }
 {
     let tally = scan.tally;
@@ -84,7 +80,7 @@ pub fn take_many_within(
 ) -> TallyAnswer
     ensures said { λ r. ⌜ says (r .outcome) ≡ done (takeManyOf (scanOf tally (now (numbers .entry)) (now (scores .entry))) setup (now (directions .entry)) (now (rotated .entry)) (now (projected .entry)) (now (bytes .entry)) (now (ends .entry))) ⌝ }
     ensures left { λ r. ⌜ scanOf (r .tally) (now (numbers .exit)) (now (scores .exit)) ≡ after (takeManyOf (scanOf tally (now (numbers .entry)) (now (scores .entry))) setup (now (directions .entry)) (now (rotated .entry)) (now (projected .entry)) (now (bytes .entry)) (now (ends .entry))) (scanOf tally (now (numbers .entry)) (now (scores .entry))) ⌝ }
-    ensures led { λ r. ⌜ ((k : ℕ) (earlier : List Taking) → says (r .outcome) ≡ accepted → LedBy k earlier (scanOf tally (now (numbers .entry)) (now (scores .entry))) → LedBy k (reverse (takingsOf setup (now (directions .entry)) (now (rotated .entry)) (now (projected .entry)) (now (bytes .entry)) (now (ends .entry))) ++ earlier) (scanOf (r .tally) (now (numbers .exit)) (now (scores .exit)))) ⌝ }
+    ensures led { λ r. ⌜ ((opened : ℕ) (earlier : List (Step Taking)) → says (r .outcome) ≡ accepted → LedBy opened earlier (scanOf tally (now (numbers .entry)) (now (scores .entry))) → LedBy opened (reverse (map came (takingsOf setup (now (directions .entry)) (now (rotated .entry)) (now (projected .entry)) (now (bytes .entry)) (now (ends .entry)))) ++ earlier) (scanOf (r .tally) (now (numbers .exit)) (now (scores .exit)))) ⌝ }
     ensures plain { λ _. ⌜ AsByQuery setup (now (directions .entry)) (now (rotated .entry)) (now (projected .entry)) ⌝ }
 {
     let checked = check_many(

@@ -35,7 +35,8 @@ numberedTakings (t ∷ earlier) = numberedTaking (eventOf t) t (numberedTakings 
 abbrev pub takingAt : Taking → List Taking → ℕ → Taking
 takingAt noTaking takings n = getD (reverse (numberedTakings takings)) n noTaking
 
--- These are the hits of a scan of length k that took these records, and the one at a place, with `noHit` behind the last.
+-- These are the hits of a scan of length k that took these records, and the one at a place, with `noHit` behind the last. Of a scan that was shortened k is the length
+-- in force (`ByRecords`).
 abbrev pub hitsBy : ℕ → List Taking → List Hit
 hitsBy k takings = hitsOf k (map eventOf takings)
 

@@ -17,7 +17,8 @@ ghost use Rattle.turbo.specs.Prepared.{Prepared};
 ghost use Rattle.ranking.specs.declared.Hit.{Hit};
 ghost use Rattle.scan.specs.Scans.{scanOf};
 ghost use Rattle.scan.specs.Events.{takeOf, afterTaking};
-ghost use Rattle.scan_taking.specs.Taking.{Taking, byQuery, byPrepared, eventOf, LedBy, AsByQuery};
+ghost use Rattle.scan.specs.Shortening.{Step, came};
+ghost use Rattle.scan_taking.specs.Taking.{Taking, byQuery, byPrepared, eventOf, LedBy, ByRecords, AsByQuery};
 ghost use Rattle.scan_taking.specs.Ranks.{Ranks};
 
 // What taking a record answers, and the scan afterwards.
@@ -47,8 +48,9 @@ pub fn take(
 ) -> TakenRecord
     ensures said { λ r. ⌜ saysPhased (r .answer) ≡ takeOf (scan .tally .taken) (eventOf (byQuery setup (lent (now (rotation .entry)) (now (directions .entry)) (now (matrix .entry))) (now (query .entry)) (now (bytes .entry)))) ⌝ }
     ensures left { λ r. ⌜ r .scan ≡ afterTaking scan (eventOf (byQuery setup (lent (now (rotation .entry)) (now (directions .entry)) (now (matrix .entry))) (now (query .entry)) (now (bytes .entry)))) ⌝ }
-    ensures led { λ r. ⌜ ((k : ℕ) (earlier : List Taking) → LedBy k earlier scan → LedBy k (byQuery setup (lent (now (rotation .entry)) (now (directions .entry)) (now (matrix .entry))) (now (query .entry)) (now (bytes .entry)) ∷ earlier) (r .scan)) ⌝ }
+    ensures led { λ r. ⌜ ((opened : ℕ) (earlier : List (Step Taking)) → LedBy opened earlier scan → LedBy opened (came (byQuery setup (lent (now (rotation .entry)) (now (directions .entry)) (now (matrix .entry))) (now (query .entry)) (now (bytes .entry))) ∷ earlier) (r .scan)) ⌝ }
     ensures ordered { λ _. ⌜ Demand setup (lent (now (rotation .entry)) (now (directions .entry)) (now (matrix .entry))) (now (query .entry)) ⌝ }
+    ensures recorded { λ _. ⌜ ((opened : ℕ) (steps : List (Step Taking)) → ByRecords opened steps) ⌝ }
     ensures ranked { λ _. ⌜ ((k : ℕ) (takings : List Taking) (noHit : Hit) (noTaking : Taking) → Ranks k takings noHit noTaking) ⌝ }
 {
     let tally = scan.tally;
@@ -75,7 +77,7 @@ pub fn take_prepared(
 ) -> TakenRecord
     ensures said { λ r. ⌜ saysPhased (r .answer) ≡ takeOf (scan .tally .taken) (eventOf (byPrepared setup (now (directions .entry)) (now (rotated .entry)) (now (projected .entry)) (now (bytes .entry)))) ⌝ }
     ensures left { λ r. ⌜ r .scan ≡ afterTaking scan (eventOf (byPrepared setup (now (directions .entry)) (now (rotated .entry)) (now (projected .entry)) (now (bytes .entry)))) ⌝ }
-    ensures led { λ r. ⌜ ((k : ℕ) (earlier : List Taking) → LedBy k earlier scan → LedBy k (byPrepared setup (now (directions .entry)) (now (rotated .entry)) (now (projected .entry)) (now (bytes .entry)) ∷ earlier) (r .scan)) ⌝ }
+    ensures led { λ r. ⌜ ((opened : ℕ) (earlier : List (Step Taking)) → LedBy opened earlier scan → LedBy opened (came (byPrepared setup (now (directions .entry)) (now (rotated .entry)) (now (projected .entry)) (now (bytes .entry))) ∷ earlier) (r .scan)) ⌝ }
     ensures plain { λ _. ⌜ AsByQuery setup (now (directions .entry)) (now (rotated .entry)) (now (projected .entry)) ⌝ }
     ensures ordered { λ _. ⌜ Prepared setup (now (directions .entry)) (now (rotated .entry)) (now (projected .entry)) ⌝ }
 {
@@ -100,7 +102,8 @@ pub fn take_within(
 ) -> TakenTally
     ensures said { λ r. ⌜ saysPhased (r .answer) ≡ takeOf (tally .taken) (eventOf (byQuery setup (lent (now (rotation .entry)) (now (directions .entry)) (now (matrix .entry))) (now (query .entry)) (now (bytes .entry)))) ⌝ }
     ensures left { λ r. ⌜ scanOf (r .tally) (now (numbers .exit)) (now (scores .exit)) ≡ afterTaking (scanOf tally (now (numbers .entry)) (now (scores .entry))) (eventOf (byQuery setup (lent (now (rotation .entry)) (now (directions .entry)) (now (matrix .entry))) (now (query .entry)) (now (bytes .entry)))) ⌝ }
-    ensures led { λ r. ⌜ ((k : ℕ) (earlier : List Taking) → LedBy k earlier (scanOf tally (now (numbers .entry)) (now (scores .entry))) → LedBy k (byQuery setup (lent (now (rotation .entry)) (now (directions .entry)) (now (matrix .entry))) (now (query .entry)) (now (bytes .entry)) ∷ earlier) (scanOf (r .tally) (now (numbers .exit)) (now (scores .exit)))) ⌝ }
+    ensures led { λ r. ⌜ ((opened : ℕ) (earlier : List (Step Taking)) → LedBy opened earlier (scanOf tally (now (numbers .entry)) (now (scores .entry))) → LedBy opened (came (byQuery setup (lent (now (rotation .entry)) (now (directions .entry)) (now (matrix .entry))) (now (query .entry)) (now (bytes .entry))) ∷ earlier) (scanOf (r .tally) (now (numbers .exit)) (now (scores .exit)))) ⌝ }
+    ensures recorded { λ _. ⌜ ((opened : ℕ) (steps : List (Step Taking)) → ByRecords opened steps) ⌝ }
 {
     let answer = ask(
         tally.taken,
@@ -131,7 +134,7 @@ pub fn take_prepared_within(
 ) -> TakenTally
     ensures said { λ r. ⌜ saysPhased (r .answer) ≡ takeOf (tally .taken) (eventOf (byPrepared setup (now (directions .entry)) (now (rotated .entry)) (now (projected .entry)) (now (bytes .entry)))) ⌝ }
     ensures left { λ r. ⌜ scanOf (r .tally) (now (numbers .exit)) (now (scores .exit)) ≡ afterTaking (scanOf tally (now (numbers .entry)) (now (scores .entry))) (eventOf (byPrepared setup (now (directions .entry)) (now (rotated .entry)) (now (projected .entry)) (now (bytes .entry)))) ⌝ }
-    ensures led { λ r. ⌜ ((k : ℕ) (earlier : List Taking) → LedBy k earlier (scanOf tally (now (numbers .entry)) (now (scores .entry))) → LedBy k (byPrepared setup (now (directions .entry)) (now (rotated .entry)) (now (projected .entry)) (now (bytes .entry)) ∷ earlier) (scanOf (r .tally) (now (numbers .exit)) (now (scores .exit)))) ⌝ }
+    ensures led { λ r. ⌜ ((opened : ℕ) (earlier : List (Step Taking)) → LedBy opened earlier (scanOf tally (now (numbers .entry)) (now (scores .entry))) → LedBy opened (came (byPrepared setup (now (directions .entry)) (now (rotated .entry)) (now (projected .entry)) (now (bytes .entry))) ∷ earlier) (scanOf (r .tally) (now (numbers .exit)) (now (scores .exit)))) ⌝ }
     ensures plain { λ _. ⌜ AsByQuery setup (now (directions .entry)) (now (rotated .entry)) (now (projected .entry)) ⌝ }
 {
     let answer = ask_prepared(tally.taken, setup, directions, rotated, projected, bytes);

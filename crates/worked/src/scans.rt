@@ -1,5 +1,6 @@
 // A scan of the best three of a stream of records under the archive's query: a refused record, a withdrawn position, scores that are equal, and a query that is
-// refused; then the same records in one call, by the query prepared.
+// refused; then the same records in one call, by the query prepared; then this scan is shortened to two before one more record, beside one that was opened
+// with two.
 use super::archive;
 use super::show;
 use scan::Scan;
@@ -10,7 +11,10 @@ pub(crate) fn scans() {
     opened(0);
     opened(65);
     hits(singly(opened(3)));
-    hits(at_once(opened(3)));
+    let three = at_once(opened(3));
+    hits(three);
+    first_two(again(shorter(three)));
+    first_two(again(at_once(opened(2))));
 }
 
 // A scan that is opened with a length, and what opening answers.
@@ -76,7 +80,7 @@ fn taken(scan: Scan, query: &[f32], record: &[u8]) -> TakenRecord {
     scan_taking::take(scan, setup, &signs, &directions, &none, query, record)
 }
 
-// What is answered, and the counts afterwards.
+// What a record answers, and the counts afterwards.
 fn told(taken: TakenRecord) -> Scan {
     let answer = taken.answer;
     let scan = taken.scan;
@@ -87,12 +91,30 @@ fn told(taken: TakenRecord) -> Scan {
 
 // The same records in one call.
 fn at_once(scan: Scan) -> Scan {
-    let made = prepared(scan);
+    answered(prepared(scan))
+}
+
+// No length, one above three, three itself, and two.
+fn shorter(scan: Scan) -> Scan {
+    let none = answered(scan::shorten(scan, 0));
+    let above = answered(scan::shorten(none, 4));
+    let same = answered(scan::shorten(above, 3));
+    answered(scan::shorten(same, 2))
+}
+
+// What a call answers that has no value but the scan, and the counts afterwards.
+fn answered(made: ScanAnswer) -> Scan {
     let outcome = made.outcome;
     let next = made.scan;
     show::outcome(outcome);
     counts(next);
     next
+}
+
+// R1 once more.
+fn again(scan: Scan) -> Scan {
+    let bytes = stream();
+    between(scan, &bytes, 64, 79)
 }
 
 // The query rotated is (3, 1, -4, 2), and without residual it is not projected.
@@ -122,7 +144,12 @@ fn counts(scan: Scan) {
 
 // The hits of a scan that keeps three, as they stand in it.
 fn hits(scan: Scan) {
+    first_two(scan);
+    show::hit(scan.numbers[2], scan.scores[2]);
+}
+
+// The first two of them.
+fn first_two(scan: Scan) {
     show::hit(scan.numbers[0], scan.scores[0]);
     show::hit(scan.numbers[1], scan.scores[1]);
-    show::hit(scan.numbers[2], scan.scores[2]);
 }

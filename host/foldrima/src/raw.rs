@@ -403,6 +403,12 @@ extern "C" {
         number: *mut u32,
         place: *mut usize,
     ) -> Tally;
+    pub fn foldrima_scan_shorten(
+        tally: Tally,
+        length: usize,
+        number: *mut u32,
+        place: *mut usize,
+    ) -> Tally;
     pub fn foldrima_scan_close(
         scan: Scan,
         out: *mut Hit,

@@ -17,7 +17,7 @@ macro_rules! refusals {
         pub const $name: u32 = $number;)*
 
         /// The name of each number, in their order.
-        pub const NAMES: [(&str, u32); 24] = [$((stringify!($name), $name)),*];
+        pub const NAMES: [(&str, u32); 25] = [$((stringify!($name), $name)),*];
 
         fn words(number: u32) -> Option<(&'static str, &'static str)> {
             match number {
@@ -52,6 +52,7 @@ refusals! {
     SCAN_LENGTH = 21, "a scan's length is 0 or above 64", "";
     SCAN_FULL = 22, "a scan has taken 4,294,967,295 records, or has fewer numbers left than there are records", "";
     MALFORMED_NORM = 23, "a norm is not finite or below zero", "";
+    SCAN_NOT_SHORTER = 25, "a scan's new length is 0 or above its present one", "";
     STORED_DIMENSION = 26, "a stored rotation's dimension is above 512", "";
 }
 

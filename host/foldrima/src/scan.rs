@@ -13,7 +13,8 @@ use crate::{asked, call, environment::look, raw, scored, Hit, Position, Refusal,
 /// places. Closing leaves the scan as it is, so that further records can be taken.
 ///
 /// A new score is compared with the hits from the last upward and stops at the first that it does
-/// not beat. These comparisons are counted: a record adds at most the length.
+/// not beat. These comparisons are counted: a record adds at most the length then in force. A
+/// scan may be given a smaller length while records are still to come.
 ///
 /// ```
 /// use foldrima::{Hit, Refusal, RotationKind, Scan, Setup, Taken, TurboMode};
@@ -236,6 +237,39 @@ impl Scan {
         })
     }
 
+    /// Gives the scan a smaller length while records are still to come; hits beyond it are gone. 25
+    /// where it is 0 or above the present one, and the scan is as it was; the present length is
+    /// allowed.
+    ///
+    /// From then on the hits, and how many records were taken, refused and withdrawn, are those of
+    /// a scan that was opened with this length and was lent the same records, whenever that was,
+    /// and after several those of the least. Comparisons are not: each record's are made at the
+    /// length that was in force when it came, and shortening makes none.
+    ///
+    /// ```
+    /// # use foldrima::{Refusal, RotationKind, Scan, Setup, TurboMode};
+    /// # let (mode, dim, bits, projections) = (TurboMode::PolarOnly, 2, 1, 0);
+    /// # let (kind, rotation) = (RotationKind::FastHadamard, &[1.0, 1.0]);
+    /// # let (directions, matrix) = (&[-1.0, 0.0, 1.0, 0.0], &[]);
+    /// # let setup = Setup { mode, dim, bits, projections, kind, rotation, directions, matrix };
+    /// # let rotated = [1.0, 3.0];
+    /// # let towards = [0, 2, 0, 0, 0, 1, 0, 0, 0x80, 0x3F, 1];
+    /// # let away = [0, 2, 0, 0, 0, 1, 0, 0, 0x80, 0x3F, 0];
+    /// let mut scan = Scan::open(3).unwrap();
+    /// scan.take_each(&setup, &rotated, &[], [away, towards, away]).unwrap();
+    /// scan.shorten(2).unwrap();
+    /// assert_eq!(scan.shorten(3), Err(Refusal { number: 25, place: 0 }));
+    /// scan.take_each(&setup, &rotated, &[], [towards]).unwrap();
+    /// let numbers: Vec<u32> = scan.hits().map(|hit| hit.number).collect();
+    /// assert_eq!((numbers, scan.length(), scan.taken()), (vec![1, 3], 2, 4));
+    /// ```
+    pub fn shorten(&mut self, length: usize) -> Result<(), Refusal> {
+        let scan = &mut self.held;
+        asked(|number, place| unsafe {
+            scan.tally = raw::foldrima_scan_shorten(scan.tally, length, number, place)
+        })
+    }
+
     /// Makes a call that takes one record. The tally tells whether it took a number.
     fn one(
         &mut self,
@@ -264,7 +298,7 @@ impl Scan {
         both.map(|(&number, &score)| Hit { number, score })
     }
 
-    /// How many hits are kept at most.
+    /// How many hits are kept at most, as opened or as last shortened.
     pub fn length(&self) -> usize {
         self.held.tally.length
     }
@@ -290,7 +324,7 @@ impl Scan {
     }
 
     /// How many times a new score was compared with a hit's. A record adds at most
-    /// [`Scan::length`], and a refused or withdrawn one none.
+    /// [`Scan::length`] as it then is, and a refused or withdrawn one none.
     pub fn comparisons(&self) -> u64 {
         self.held.tally.comparisons
     }

@@ -111,16 +111,23 @@ fn the_header_has_them() {
 fn the_header_passes_on_what_it_is_given() {
     let Some((_, text)) = header() else { return };
     let defined: Vec<&str> = text.split("static inline ").collect();
-    for (name, text) in ["take", "take_prepared", "take_many"].into_iter().zip(&defined) {
-        let start = format!("int foldrima_{name}_into(foldrima_scan *scan, ");
+    let lists = ", scan->numbers, 64, scan->scores, 64";
+    let wanted = [
+        ("take_into", "take", lists),
+        ("take_prepared_into", "take_prepared", lists),
+        ("take_many_into", "take_many", lists),
+        ("shorten", "shorten", ""),
+    ];
+    assert_eq!(defined.len(), wanted.len());
+    for ((name, called, lists), text) in wanted.into_iter().zip(defined) {
+        let start = format!("int foldrima_{name}(foldrima_scan *scan, ");
         let (list, body) = text.strip_prefix(&start).unwrap().split_once(')').unwrap();
         let name_of = |one: &str| one.rsplit([' ', '*']).next().unwrap().to_string();
         let names: Vec<String> = list.split(", ").map(name_of).collect();
-        let held = "scan->tally, scan->numbers, 64, scan->scores, 64";
-        let call = format!("scan->tally = foldrima_scan_{name}({held}, {});", names.join(", "));
+        let given = format!("scan->tally{lists}, {}", names.join(", "));
+        let call = format!("scan->tally = foldrima_scan_{called}({given});");
         assert!(body.contains(&call), "{name}: {body}");
     }
-    assert_eq!(defined.len(), 3);
 }
 
 /// The fields of a struct and their types, in their order, of Rust's form.

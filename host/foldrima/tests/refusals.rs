@@ -175,7 +175,7 @@ fn by_the_writer_of_a_code() {
 #[test]
 fn in_words() {
     let said = |number, place| Refusal { number, place }.to_string();
-    for ((name, number), wanted) in refusal::NAMES.into_iter().zip((1..=23).chain([26])) {
+    for ((name, number), wanted) in refusal::NAMES.into_iter().zip((1..=23).chain([25, 26])) {
         assert_eq!(number, wanted, "{name}");
         assert!(said(number, 0).starts_with(&format!("refused ({number}): ")), "{name}");
     }
@@ -192,6 +192,7 @@ fn in_words() {
                 or has fewer numbers left than there are records";
     assert_eq!(said(refusal::SCAN_FULL, 0), full);
     assert_eq!(said(23, 0), "refused (23): a norm is not finite or below zero");
+    assert_eq!(said(25, 0), "refused (25): a scan's new length is 0 or above its present one");
     assert_eq!(said(26, 0), "refused (26): a stored rotation's dimension is above 512");
 }
 

@@ -1,5 +1,5 @@
-//! A scan: its refusals and their places, what takes a number and what does not, ties, and the
-//! last numbers. Streams of many records are in `streams`.
+//! A scan: its refusals and their places, what takes a number and what does not, ties, the last
+//! numbers, and shortening. Streams of many records are in `streams`.
 
 use std::array::from_fn;
 
@@ -268,6 +268,90 @@ fn closed_into_as_many_hits_as_are_kept() {
     }
     assert_eq!(hits(&scan), [(3, 4.0), (1, 3.0), (2, 2.0)]);
     assert_eq!(Scan::open(3).unwrap().close(&mut []), Ok(()));
+}
+
+/// What a length that is asked for leaves of a scan: its tally, and both lists as they were.
+#[test]
+fn shortened_by_its_tally() {
+    let not_shorter = refused(refusal::SCAN_NOT_SHORTER, 0);
+    for length in 1..=64 {
+        for kept in [0, 1, length / 2, length - 1, length] {
+            let all: Vec<(u32, f32)> = (0..kept as u32).map(|i| (i, -(i as f32))).collect();
+            let mut raw = *scan_of(length, 70, &all).raw();
+            (raw.tally.refused, raw.tally.withdrawn) = (8, 9);
+            let scan = Scan::from_raw(raw);
+            for wrong in [0, length + 1, 65, 1 << 32, usize::MAX] {
+                let mut copy = scan.clone();
+                assert_eq!(copy.shorten(wrong), not_shorter, "{wrong} of {length}");
+                assert_eq!(held(&copy), held(&scan));
+            }
+            for shorter in 1..=length {
+                let mut copy = scan.clone();
+                assert_eq!(copy.shorten(shorter), Ok(()), "{shorter} of {length}");
+                let (_, numbers, scores) = held(&scan);
+                let counts = tally(shorter, kept.min(shorter), 70, 8, 9, 40);
+                assert_eq!(held(&copy), (counts, numbers, scores));
+                assert_eq!(hits(&copy), all[..kept.min(shorter)]);
+                // Not longer again.
+                if shorter < length {
+                    assert_eq!(copy.shorten(length), not_shorter);
+                }
+            }
+        }
+    }
+    // Also where all numbers are taken, and on counts that no records led to.
+    let (far, most, wide) = (usize::MAX, u32::MAX, u64::MAX);
+    for (length, kept, asked, given) in [
+        (far, far, far, true),
+        (far, far, 3, true),
+        (5, 9, 5, true),
+        (5, 9, 6, false),
+        (0, 3, 0, false),
+        (0, 3, 1, false),
+    ] {
+        let before = tally(length, kept, most, most, most, wide);
+        let lists = *scan_of(1, 7, &[]).raw();
+        let mut scan = Scan::from_raw(raw::Scan { tally: before, ..lists });
+        assert_eq!(scan.shorten(asked), if given { Ok(()) } else { not_shorter });
+        let after = Tally { length: asked, kept: kept.min(asked), ..before };
+        assert_eq!(scan.counts(), if given { after } else { before }, "{asked} of {length}");
+    }
+}
+
+/// A length stays in force for the records that come, and each of these is compared with the hits
+/// that were kept then.
+#[test]
+fn shortened_between_records() {
+    let mut scan = Scan::open(3).unwrap();
+    let take = |scan: &mut Scan, radius| {
+        let taken = scan.take_prepared(&SETUP, &ROTATED, &[], &of(radius));
+        assert_eq!(taken, Ok(Taken::Accepted(radius)));
+    };
+    for radius in [1.0, 3.0, 2.0, 4.0] {
+        take(&mut scan, radius);
+    }
+    assert_eq!(hits(&scan), [(3, 4.0), (1, 3.0), (2, 2.0)]);
+    assert_eq!(scan.comparisons(), 1 + 2 + 3);
+    scan.shorten(2).unwrap();
+    assert_eq!(hits(&scan), [(3, 4.0), (1, 3.0)]);
+    assert_eq!(scan.comparisons(), 6);
+    // A score that would have stood third stops at the second.
+    take(&mut scan, 2.5);
+    assert_eq!((hits(&scan), scan.comparisons()), (vec![(3, 4.0), (1, 3.0)], 7));
+    take(&mut scan, 5.0);
+    assert_eq!((hits(&scan), scan.comparisons()), (vec![(5, 5.0), (3, 4.0)], 9));
+    scan.shorten(2).unwrap();
+    scan.shorten(1).unwrap();
+    take(&mut scan, 5.0);
+    assert_eq!(scan.counts(), tally(1, 1, 7, 0, 0, 10));
+    assert_eq!(hits(&scan), [(5, 5.0)]);
+    // One that was opened with 1 has the same hits and counts, and fewer comparisons.
+    let mut opened = Scan::open(1).unwrap();
+    for radius in [1.0, 3.0, 2.0, 4.0, 2.5, 5.0, 5.0] {
+        take(&mut opened, radius);
+    }
+    assert_eq!(hits(&opened), hits(&scan));
+    assert_eq!(opened.counts(), tally(1, 1, 7, 0, 0, 6));
 }
 
 #[test]

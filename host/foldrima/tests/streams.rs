@@ -2,6 +2,8 @@
 //! singly by a query, singly by a prepared one and many at once: after each of the first records,
 //! now and then later, after each call that takes many, and at the end a scan has the hits that a
 //! full sort of the accepted records gives, the counts, and the comparisons that the rule makes.
+//! Some are shortened at random points: their hits and counts of records then end as if opened
+//! with the least of the lengths, and comparisons do not.
 
 use std::collections::BTreeMap;
 
@@ -127,8 +129,8 @@ fn any(rng: &mut Rng, setup: &Setup) -> Vec<u8> {
     record
 }
 
-/// What a scan of this length must be: all accepted records in the order in which they came, and
-/// the counts.
+/// What a scan of this length, which is the one in force, must be: all accepted records in the
+/// order in which they came, and the counts.
 #[derive(Default)]
 struct Model {
     length: usize,
@@ -139,6 +141,8 @@ struct Model {
     comparisons: u64,
     /// Those of the refused records.
     refusals: Vec<Refusal>,
+    /// How many shortenings cut hits away, and how many left room for more.
+    cuts: (u32, u32),
 }
 
 impl Model {
@@ -154,6 +158,18 @@ impl Model {
         let as_good = self.accepted.iter().filter(|hit| hit.score >= score).count();
         let standing = as_good.min(self.length);
         (hits - standing) as u64 + (standing > 0) as u64
+    }
+
+    /// What a length that is asked for must answer; one that is given stays in force.
+    fn shortens(&mut self, length: usize) -> Result<(), Refusal> {
+        if length == 0 || length > self.length {
+            return Err(Refusal { number: 25, place: 0 });
+        }
+        let hits = self.accepted.len().min(self.length);
+        self.cuts.0 += (hits > length) as u32;
+        self.cuts.1 += (hits < length) as u32;
+        self.length = length;
+        Ok(())
     }
 
     /// What a record must answer, by the call that scores one.
@@ -193,7 +209,7 @@ impl Model {
         scan.close(&mut hits).unwrap();
         assert!(hits.iter().map(bits).eq(wanted.iter().map(bits)), "{hits:?} and {wanted:?}");
         assert!(scan.hits().eq(hits));
-        assert_eq!(scan.kept(), wanted.len());
+        assert_eq!((scan.length(), scan.kept()), (self.length, wanted.len()));
         let counts = (scan.taken(), scan.refused(), scan.withdrawn(), scan.comparisons());
         assert_eq!(counts, (self.taken, self.refused, self.withdrawn, self.comparisons));
     }
@@ -305,6 +321,78 @@ fn stream(seed: u64, setup: &Setup, length: usize, count: usize) -> Model {
     model
 }
 
+/// Records that three scans take: singly by the query, by an iterator, and many at once.
+fn three_ways(
+    model: &mut Model,
+    scans: &mut [Scan; 3],
+    setup: &Setup,
+    query: &Query,
+    records: &[Vec<u8>],
+) {
+    let Query { plain, rotated, projected } = query;
+    let [singly, each, many] = scans;
+    for record in records {
+        let wanted = model.takes(setup.inner_product_estimate(plain, record));
+        assert_eq!(singly.take(setup, plain, record), Ok(wanted));
+    }
+    each.take_each(setup, rotated, projected, records).unwrap();
+    let ends: Vec<usize> = (1..=records.len()).map(|i| records[..i].concat().len()).collect();
+    many.take_many(setup, rotated, projected, &records.concat(), &ends).unwrap();
+    scans.iter().for_each(|scan| model.holds(scan));
+}
+
+/// A length that may be asked for: about half are given, and the others are 0 or above the present
+/// one.
+fn asked(rng: &mut Rng, present: usize) -> usize {
+    let (any, some) = (rng.below(present + 2), present - rng.below(present.min(4)));
+    rng.one_of(&[0, any, some, some, present, present + 1, usize::MAX])
+}
+
+/// One stream under one query, and a few lengths that are asked for before one in `often` records,
+/// in half of the streams also before the first and behind the last; the model afterwards, and
+/// that of a scan that was opened with the least of the lengths.
+fn shortened(seed: u64, setup: &Setup, length: usize, count: usize, often: usize) -> [Model; 2] {
+    let rng = &mut Rng(seed);
+    let query = query(rng, setup);
+    let records: Vec<Vec<u8>> = rng.many(count, |rng| any(rng, setup));
+    let open = |length| [(); 3].map(|_| Scan::open(length).unwrap());
+    let (mut model, mut scans) = (Model::of(length), open(length));
+    let (mut from, mut lowest, edges) = (0, length, rng.below(2) == 0);
+    for i in 0..=count {
+        if rng.below(often) > 0 && !(edges && (i == 0 || i == count)) {
+            continue;
+        }
+        three_ways(&mut model, &mut scans, setup, &query, &records[from..i]);
+        from = i;
+        for _ in 0..=rng.below(3) {
+            let length = asked(rng, model.length);
+            lowest = if length == 0 { lowest } else { lowest.min(length) };
+            let wanted = model.shortens(length);
+            for scan in &mut scans {
+                let before = held(scan);
+                assert_eq!(scan.shorten(length), wanted);
+                if wanted.is_err() {
+                    assert_eq!(held(scan), before);
+                }
+                model.holds(scan);
+            }
+        }
+    }
+    three_ways(&mut model, &mut scans, setup, &query, &records[from..]);
+    let (mut least, mut opened) = (Model::of(lowest), open(lowest));
+    three_ways(&mut least, &mut opened, setup, &query, &records);
+    // Both models say this already; here it is said of the scans themselves.
+    for (scan, opened) in scans.iter().zip(&opened) {
+        assert_eq!(scan.length(), lowest);
+        assert!(scan.hits().eq(opened.hits()));
+        let counts = Tally { comparisons: least.comparisons, ..scan.counts() };
+        assert_eq!(opened.counts(), counts);
+    }
+    // A longer list only adds to a record's comparisons.
+    assert!(least.comparisons <= scans[0].comparisons());
+    [model, least]
+}
+
 #[test]
 fn a_full_sort_gives_the_hits() {
     let (mut cut, mut numbers, mut withdrawn, mut zeros) = (0, BTreeMap::new(), 0, 0);
@@ -327,6 +415,26 @@ fn a_full_sort_gives_the_hits() {
     for number in [1, 2, 3, 4, 5, 8, 12, 13, 14, 16, 17, 18, 20, 23] {
         assert!(numbers.get(&number).is_some_and(|count| *count > 100), "{number} of {numbers:?}");
     }
+}
+
+/// Every length, shortened rarely, so that long ones stay in force for long, or often.
+#[test]
+fn shortened_at_random_points() {
+    let (mut shorter, mut to_one, mut fewer, mut cuts) = (0, 0, 0, (0, 0));
+    for length in 1..=64 {
+        for (i, setup) in [ONLY, BOTH, TURNED].iter().enumerate() {
+            let often = [1000, 200, 20][(length + i) % 3];
+            let seed = (3 * length + i) as u64;
+            let [model, least] = shortened(seed, setup, length, 1000, often);
+            shorter += (model.length < length) as u32;
+            to_one += (model.length == 1) as u32;
+            // Comparisons are not those of a scan that was opened with the least length.
+            fewer += (least.comparisons < model.comparisons) as u32;
+            cuts = (cuts.0 + model.cuts.0, cuts.1 + model.cuts.1);
+        }
+    }
+    assert!(shorter > 100 && to_one > 20 && fewer > 100, "{shorter}, {to_one} and {fewer}");
+    assert!(cuts.0 > 100 && cuts.1 > 50, "{cuts:?}");
 }
 
 /// Records of several blocks of radii, under setups of common widths: every profile and a norm,

@@ -209,7 +209,7 @@ fn an_output_keeps_what_it_held() {
 #[test]
 fn no_refusal_has_its_number() {
     assert_eq!(raw::WITHDRAWN, 255);
-    assert_eq!(refusal::NAMES.len(), 24);
+    assert_eq!(refusal::NAMES.len(), 25);
     for (name, number) in refusal::NAMES {
         assert!(number != 0 && number != raw::WITHDRAWN, "{name}");
     }

@@ -1,11 +1,12 @@
 -- `scan_many::take_many` meets its contract: the two arrays are lent whole, and the history with these records leads to the scan. Assumes nothing.
 use mathlib.Core.Path.{sym, ap, _∙_, subst}
-use mathlib.Core.List.{_++_, reverse}
+use mathlib.Core.List.{_++_, map, reverse}
 use native.Mathlib.Omega.{arith}
 use borrow.Author.Needs.{needs}
 use Rattle.error.specs.Answer.{done, after}
 use Rattle.scan.specs.declared.Scan.{Scan}
 use Rattle.scan.proofs.Arrays.{numbers-long, scores-long, lent-all, lent-whole}
+use Rattle.scan.specs.Shortening.{came}
 use Rattle.scan_taking.specs.Taking.{LedBy}
 use Rattle.scan_taking.proofs.Taking.{as-by-query}
 use Rattle.scan_many.specs.Many.{takeManyOf, takingsOf}
@@ -43,7 +44,7 @@ returns c =
     let m = scores-long scan _ (start .good .0) in
     let said = c .before .before .before .take-many-within .ensures .0 ∙ ap (λ (s : Scan). done (takeManyOf s (a .setup) (a .directions .now) (a .rotated .now) (a .projected .now) (a .bytes .now) (a .ends .now))) (lent-all scan n m) in
     let left = lent-whole scan n m (λ (s : Scan). after (takeManyOf s (a .setup) (a .directions .now) (a .rotated .now) (a .projected .now) (a .bytes .now) (a .ends .now)) s) (c .before .before .before .take-many-within .ensures .1 .0) in
-    (said, (left, ((λ k earlier e led. subst (λ (s : Scan). LedBy k (reverse (takingsOf (a .setup) (a .directions .now) (a .rotated .now) (a .projected .now) (a .bytes .now) (a .ends .now)) ++ earlier) s) (sym left) (many-led scan (a .setup) (a .directions .now) (a .rotated .now) (a .projected .now) (a .bytes .now) (a .ends .now) k earlier (sym said ∙ e) led)), as-by-query (a .setup) (a .directions .now) (a .rotated .now) (a .projected .now))))
+    (said, (left, ((λ k earlier e led. subst (λ (s : Scan). LedBy k (reverse (map came (takingsOf (a .setup) (a .directions .now) (a .rotated .now) (a .projected .now) (a .bytes .now) (a .ends .now))) ++ earlier) s) (sym left) (many-led scan (a .setup) (a .directions .now) (a .rotated .now) (a .projected .now) (a .bytes .now) (a .ends .now) k earlier (sym said ∙ e) led)), as-by-query (a .setup) (a .directions .now) (a .rotated .now) (a .projected .now))))
 
 pub take-many-spec : {M : Type 1} → statement M
 take-many-spec =

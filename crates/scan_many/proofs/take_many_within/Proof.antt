@@ -1,7 +1,7 @@
 -- `scan_many::take_many_within` meets its contract: nothing is entered where a check offends, and else every record is, one after the other.
 -- Assumes nothing.
 use mathlib.Core.Path.{sym, ap, _∙_, subst}
-use mathlib.Core.List.{_++_, reverse}
+use mathlib.Core.List.{_++_, map, reverse}
 use borrow.Author.Needs.{needs}
 use Rattle.error.specs.Answer.{Answer, done, after}
 use Rattle.error.specs.Outcomes.{says}
@@ -9,6 +9,7 @@ use Rattle.error.proofs.Chains.{value-not-refused}
 use lib.ListN.{length}
 use Rattle.scan.specs.declared.Scan.{Scan}
 use Rattle.scan.specs.Scans.{scanOf}
+use Rattle.scan.specs.Shortening.{came}
 use Rattle.scan_taking.specs.Taking.{LedBy}
 use Rattle.scan_taking.proofs.Taking.{as-by-query}
 use Rattle.scan_many.specs.Many.{takingsOf}
@@ -51,7 +52,7 @@ returns-2 c =
     let scan = scanOf (a .tally) (a .numbers .now) (a .scores .now) in
     let e = many-passed scan (a .setup) (a .directions .now) (a .rotated .now) (a .projected .now) (a .bytes .now) (a .ends .now) (sym (c .before .before .before .before .before .before .before .before .before .check-many .ensures) ∙ ap says (c .before .before .before .before .before .before .before .enum-told .given .1)) in
     let left = c .before .before .before .before .enter-many .ensures ∙ sym (ap (λ (x : Answer Scan). after x scan) e) in
-    (sym (ap done e), (left, ((λ k earlier f led. subst (λ (x : Scan). LedBy k (reverse (takingsOf (a .setup) (a .directions .now) (a .rotated .now) (a .projected .now) (a .bytes .now) (a .ends .now)) ++ earlier) x) (sym left) (many-led scan (a .setup) (a .directions .now) (a .rotated .now) (a .projected .now) (a .bytes .now) (a .ends .now) k earlier (ap done e) led)), as-by-query (a .setup) (a .directions .now) (a .rotated .now) (a .projected .now))))
+    (sym (ap done e), (left, ((λ k earlier f led. subst (λ (x : Scan). LedBy k (reverse (map came (takingsOf (a .setup) (a .directions .now) (a .rotated .now) (a .projected .now) (a .bytes .now) (a .ends .now))) ++ earlier) x) (sym left) (many-led scan (a .setup) (a .directions .now) (a .rotated .now) (a .projected .now) (a .bytes .now) (a .ends .now) k earlier (ap done e) led)), as-by-query (a .setup) (a .directions .now) (a .rotated .now) (a .projected .now))))
 
 pub take-many-within-spec : {M : Type 1} → statement M
 take-many-within-spec =

@@ -11,9 +11,10 @@ use Rattle.turbo.proofs.Demand.{demand}
 use Rattle.turbo_phased.specs.Estimates.{saysPhased}
 use Rattle.scan.specs.declared.Scan.{Scan}
 use Rattle.scan.specs.Events.{afterTaking}
+use Rattle.scan.specs.Shortening.{came}
 use Rattle.scan_taking.specs.Taking.{byQuery, eventOf, LedBy}
 use Rattle.scan.proofs.Events.{after-asked}
-use Rattle.scan_taking.proofs.Taking.{taken-led}
+use Rattle.scan_taking.proofs.Taking.{by-records, taken-led}
 use Rattle.scan_taking.proofs.Ranks.{ranks}
 use Rattle.scan_taking.proofs.take.Statement.{statement}
 use Rattle.scan_taking.proofs.take.Tie as tie
@@ -40,7 +41,7 @@ returns c =
     let t = byQuery (a .setup) (lent (a .rotation .now) (a .directions .now) (a .matrix .now)) (a .query .now) (a .bytes .now) in
     let asked = c .before .ask .ensures in
     let left = c .enter-by-value .ensures .1 ∙ ap (afterTaking (a .scan)) asked ∙ after-asked (a .scan) (eventOf t) in
-    (ap saysPhased (c .enter-by-value .ensures .0) ∙ asked, (left, ((λ k earlier led. subst (λ (s : Scan). LedBy k (t ∷ earlier) s) (sym left) (taken-led k earlier (a .scan) t led)), (demanded (c .before .before .before), ranks))))
+    (ap saysPhased (c .enter-by-value .ensures .0) ∙ asked, (left, ((λ k earlier led. subst (λ (s : Scan). LedBy k (came t ∷ earlier) s) (sym left) (taken-led k earlier (a .scan) t led)), (demanded (c .before .before .before), (by-records, ranks)))))
 
 pub take-spec : {M : Type 1} → statement M
 take-spec = tie.close (tie.spec ask-requires enter-by-value-requires returns)

@@ -6,6 +6,7 @@ use Rattle.turbo.proofs.Prepared.{prepared-stands}
 use Rattle.turbo_phased.specs.Estimates.{saysPhased}
 use Rattle.scan.specs.declared.Scan.{Scan}
 use Rattle.scan.specs.Events.{afterTaking}
+use Rattle.scan.specs.Shortening.{came}
 use Rattle.scan_taking.specs.Taking.{byPrepared, eventOf, LedBy}
 use Rattle.scan.proofs.Events.{after-asked}
 use Rattle.scan_taking.proofs.Taking.{taken-led, as-by-query}
@@ -25,7 +26,7 @@ returns c =
     let stands = prepared-stands (a .setup) (a .directions .now) (a .rotated .now) (a .projected .now) (λ j h. c .before .before .before .before .before .before .shared-slice-known .given j) in
     let asked = c .before .ask-prepared .ensures in
     let left = c .enter-by-value .ensures .1 ∙ ap (afterTaking (a .scan)) asked ∙ after-asked (a .scan) (eventOf t) in
-    (ap saysPhased (c .enter-by-value .ensures .0) ∙ asked, (left, (λ k earlier led. subst (λ (s : Scan). LedBy k (t ∷ earlier) s) (sym left) (taken-led k earlier (a .scan) t led), (as-by-query (a .setup) (a .directions .now) (a .rotated .now) (a .projected .now), stands))))
+    (ap saysPhased (c .enter-by-value .ensures .0) ∙ asked, (left, (λ k earlier led. subst (λ (s : Scan). LedBy k (came t ∷ earlier) s) (sym left) (taken-led k earlier (a .scan) t led), (as-by-query (a .setup) (a .directions .now) (a .rotated .now) (a .projected .now), stands))))
 
 pub take-prepared-spec : {M : Type 1} → statement M
 take-prepared-spec = tie.close (tie.spec ask-prepared-requires enter-by-value-requires returns)

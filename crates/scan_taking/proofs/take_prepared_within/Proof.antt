@@ -5,6 +5,7 @@ use borrow.Author.Needs.{needs}
 use Rattle.scan.specs.declared.Scan.{Scan}
 use Rattle.scan.specs.Scans.{scanOf}
 use Rattle.scan.specs.Events.{afterTaking}
+use Rattle.scan.specs.Shortening.{came}
 use Rattle.scan_taking.specs.Taking.{byPrepared, eventOf, LedBy}
 use Rattle.scan.proofs.Events.{after-asked}
 use Rattle.scan_taking.proofs.Taking.{taken-led, as-by-query}
@@ -30,7 +31,7 @@ returns c =
     let asked = c .before .before .before .before .before .before .before .ask-prepared .ensures in
     let t = byPrepared (a .setup) (a .directions .now) (a .rotated .now) (a .projected .now) (a .bytes .now) in
     let left = c .before .before .before .before .enter-phased .ensures ∙ ap (afterTaking scan) asked ∙ after-asked scan (eventOf t) in
-    (asked, (left, ((λ k earlier led. subst (λ (s : Scan). LedBy k (t ∷ earlier) s) (sym left) (taken-led k earlier scan t led)), as-by-query (a .setup) (a .directions .now) (a .rotated .now) (a .projected .now))))
+    (asked, (left, ((λ k earlier led. subst (λ (s : Scan). LedBy k (came t ∷ earlier) s) (sym left) (taken-led k earlier scan t led)), as-by-query (a .setup) (a .directions .now) (a .rotated .now) (a .projected .now))))
 
 pub take-prepared-within-spec : {M : Type 1} → statement M
 take-prepared-within-spec =

@@ -6,9 +6,10 @@ use Rattle.setup.specs.Lent.{lent}
 use Rattle.scan.specs.declared.Scan.{Scan}
 use Rattle.scan.specs.Scans.{scanOf}
 use Rattle.scan.specs.Events.{afterTaking}
+use Rattle.scan.specs.Shortening.{came}
 use Rattle.scan_taking.specs.Taking.{byQuery, eventOf, LedBy}
 use Rattle.scan.proofs.Events.{after-asked}
-use Rattle.scan_taking.proofs.Taking.{taken-led}
+use Rattle.scan_taking.proofs.Taking.{by-records, taken-led}
 use Rattle.scan_taking.proofs.take_within.Statement.{statement}
 use Rattle.scan_taking.proofs.take_within.Tie as tie
 
@@ -31,7 +32,7 @@ returns c =
     let asked = c .before .before .before .before .before .before .before .ask .ensures in
     let t = byQuery (a .setup) (lent (a .rotation .now) (a .directions .now) (a .matrix .now)) (a .query .now) (a .bytes .now) in
     let left = c .before .before .before .before .enter-phased .ensures ∙ ap (afterTaking scan) asked ∙ after-asked scan (eventOf t) in
-    (asked, (left, λ k earlier led. subst (λ (s : Scan). LedBy k (t ∷ earlier) s) (sym left) (taken-led k earlier scan t led)))
+    (asked, (left, ((λ k earlier led. subst (λ (s : Scan). LedBy k (came t ∷ earlier) s) (sym left) (taken-led k earlier scan t led)), by-records)))
 
 pub take-within-spec : {M : Type 1} → statement M
 take-within-spec =

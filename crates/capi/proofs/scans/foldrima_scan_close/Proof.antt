@@ -48,7 +48,8 @@ use Rattle.ranking.specs.declared.Hit.{Hit}
 use Rattle.ranking.proofs.Hit as T
 use Rattle.scan.specs.declared.Scan.{Scan}
 use Rattle.scan.specs.Events.{Event}
-use Rattle.scan.specs.History.{Led, hitsOf}
+use Rattle.scan.specs.Shortening.{Step}
+use Rattle.scan.specs.History.{Led, keptOf}
 use Rattle.scan.proofs.Scan as S
 use Rattle.scan.proofs.Scan.Laws as S′
 use Rattle.scan_closing.specs.Closing.{hitsIn, closeOf}
@@ -263,7 +264,7 @@ module _ {M : Type 1} (𝓤 : URA M) (H : Heap 𝓤) (A : Atoms 𝓤) (W : Given
           Closed r zs = (says r ≡ doneOf (closeOf scan len)) × (zs ≡ after (closeOf scan len) xs)
 
           Said : Outcome → List Hit → SProp 𝓤
-          Said r zs = sep 𝓤 (fact 𝓤 (says r ≡ doneOf (closeOf scan len))) (sep 𝓤 (fact 𝓤 (zs ≡ after (closeOf scan len) xs)) (fact 𝓤 ((k : ℕ) (es : List Event) → Led k es scan → hitsIn scan ≡ hitsOf k es)))
+          Said r zs = sep 𝓤 (fact 𝓤 (says r ≡ doneOf (closeOf scan len))) (sep 𝓤 (fact 𝓤 (zs ≡ after (closeOf scan len) xs)) (fact 𝓤 ((k : ℕ) (steps : List (Step Event)) → Led k steps scan → hitsIn scan ≡ keptOf k steps)))
 
     walk : ent 𝓤 (onEntry 𝓤 H A f.signature (κ₀, (κ₁, (κ₂, tt))) (q₀, (q₁, (q₂, tt))) a vals) (WpFn 𝓤 H C Λ code.function (mach ∷ s ∷ vptr b₁ o₁ ∷ vptr b₂ o₂ ∷ []) Post)
     walk = enters 𝓤 H A W C Λ tyUnit S′.mir (sliceTy (tyRef (named 0) mut hits)) (tyRef (named 1) mut (tyInt w32)) (tyRef (named 2) mut (tyInt w64)) O′.mir (tyRef erased mut hits) (sliceTy (tyRef erased mut hits)) tyUnit
