@@ -1,6 +1,8 @@
 // What bit packing of indices goes by: how many bytes indices take, which index is too large, and whether the padding is zero.
 // Ported from turbo-quant/src/bitpack.rs and changed: refusals are numbers.
 // Packing order is little-endian within each byte: the first index starts at bit 0 of byte 0.
+#![tactic(auto)]
+
 ghost use Rattle.std.specs.Prelude.{◌≤◌, ◌≡◌};
 ghost use Rattle.error.specs.Answer.{place, clear};
 ghost use Rattle.error.specs.Lengths.{says_length};

@@ -1,5 +1,7 @@
 // Unpacking of indices. Ported from turbo-quant/src/bitpack.rs and changed: the output is lent, refusals are numbers, and groups of eight indices are read from
 // whole words.
+#![tactic(auto)]
+
 ghost use Rattle.std.specs.Prelude.{◌+◌, ◌*◌, ◌^◌, ◌<◌, ◌≤◌, ◌≡◌, ◌++◌, length, take, drop};
 ghost use Rattle.error.specs.Answer.{done, after};
 ghost use Rattle.error.specs.Outcomes.{says};
@@ -11,7 +13,7 @@ ghost use Rattle.bitpack_reading.specs.Inner.{Unpackable, Eights, Refillable, Re
 use error::{Length, OUTPUT_LENGTH, Outcome};
 
 // Bits that were read and not yet handed out, and the next byte to read.
-#[derive(Drop)]
+#[derive(Clone, Copy)]
 struct Window {
     acc: u64,
     held: u64,

@@ -1,4 +1,6 @@
 // The first number that is no sign, and laws about signs and their bits. Ported from turbo-quant/src/bitpack.rs and changed: the search is a function of its own.
+#![tactic(auto)]
+
 ghost use Rattle.std.specs.Prelude.{◌≡◌, cond};
 ghost use Rattle.error.specs.Answer.{clear};
 ghost use Rattle.bitpack.specs.Signs.{bad_sketch_sign, first_bad_sketch_sign_of};

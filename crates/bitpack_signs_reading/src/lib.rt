@@ -1,5 +1,7 @@
 // Signs unpacked from bytes. Ported from turbo-quant/src/bitpack.rs and changed: outputs are lent, refusals are numbers.
 // Packing order is little-endian within each byte: the first sign is bit 0 of byte 0.
+#![tactic(auto)]
+
 ghost use Rattle.std.specs.Prelude.{◌+◌, ◌-◌, ◌*◌, ◌≤◌, ◌≡◌, ◌++◌, map, length, take, drop};
 ghost use Rattle.error.specs.Answer.{done, after};
 ghost use Rattle.error.specs.Outcomes.{says};

@@ -1,5 +1,7 @@
 // Bit packing of indices. Ported from turbo-quant/src/bitpack.rs and changed: the output is lent, refusals are numbers, and groups of eight indices are written in
 // whole words.
+#![tactic(auto)]
+
 ghost use Rattle.std.specs.Prelude.{◌+◌, ◌-◌, ◌*◌, ◌/◌, ◌^◌, ◌<◌, ◌≤◌, ◌≡◌, ◌++◌, length, take, drop};
 ghost use Rattle.error.specs.Answer.{done, after};
 ghost use Rattle.error.specs.Outcomes.{says};

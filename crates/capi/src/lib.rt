@@ -4,6 +4,8 @@
 // A slice is a pointer and a length on the C side. Answers leave by lent numbers: `number` and `place` of a refusal, 0 and 0 beside a value,
 // or 255 and 0 for a withdrawn position; and the value, which keeps its former contents where there is none. A scan that is opened, and its tally behind
 // a record, are returned, beside a refusal too.
+#![tactic(auto)]
+
 pub mod bits;
 pub mod books;
 pub mod radii;

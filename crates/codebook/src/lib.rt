@@ -1,4 +1,6 @@
 // A uniform scalar codebook. Ported from turbo-quant/src/codebook.rs and changed: each call checks the codebook first, and refusals are numbers.
+#![tactic(auto)]
+
 ghost use Rattle.std.specs.Prelude.{◌≤◌, ◌^◌, ◌≡◌};
 ghost use Rattle.error.specs.Outcomes.{says};
 ghost use Rattle.codebook.specs.Codebook.{uniform_of, levels_of, quantize_of, dequantize_midpoint_of};
@@ -8,7 +10,7 @@ ghost use Rattle.codebook.specs.Says.{says_made, says_count, says_index, says_po
 use error::{INVALID_BIT_WIDTH, MALFORMED_INDEX, MALFORMED_RANGE, NON_FINITE_INPUT, Outcome};
 
 // A deterministic uniform scalar codebook over a closed interval.
-#[derive(Drop)]
+#[derive(Clone, Copy)]
 pub struct ScalarCodebook {
     pub bits: u8,
     pub min: f32,
@@ -16,28 +18,28 @@ pub struct ScalarCodebook {
 }
 
 // A codebook, or a refusal.
-#[derive(Drop)]
+#[derive(Clone, Copy)]
 pub enum Made {
     Codebook(ScalarCodebook),
     Refused { number: u32, place: usize },
 }
 
 // A number of levels, or a refusal.
-#[derive(Drop)]
+#[derive(Clone, Copy)]
 pub enum LevelCount {
     Levels(u32),
     Refused { number: u32, place: usize },
 }
 
 // The index of a level, or a refusal.
-#[derive(Drop)]
+#[derive(Clone, Copy)]
 pub enum Quantized {
     Index(u16),
     Refused { number: u32, place: usize },
 }
 
 // The midpoint of a level, or a refusal.
-#[derive(Drop)]
+#[derive(Clone, Copy)]
 pub enum Dequantized {
     Midpoint(f32),
     Refused { number: u32, place: usize },

@@ -1,5 +1,7 @@
 // Numbers and their digits, cited by every crate that reads or writes bytes: definitions and laws, and the one reading and the one writing of
 // four bytes, the least significant first.
+#![tactic(auto)]
+
 ghost use Rattle.std.specs.Prelude.{◌≡◌, [], ◌∷◌};
 ghost use Rattle.digits.specs.Digits.{number};
 ghost use Rattle.digits.specs.Words.{put_word_of};

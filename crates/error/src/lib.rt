@@ -1,6 +1,7 @@
 // The refusals; the answers of a call that has no value of its own, of one that fills memory from a record, of one that counts bytes and of one that
 // scores; and the check of floats that several crates above make.
 // Ported from turbo-quant/src/error.rs and changed: an error is a number and a place.
+#![tactic(auto)]
 
 ghost use Rattle.std.specs.Prelude.{◌≡◌};
 ghost use Rattle.error.specs.Checks.{bad_value, first_non_finite_of, finite_score_of};
@@ -61,14 +62,14 @@ pub const SCAN_NOT_SHORTER: u32 = 25;
 pub const STORED_DIMENSION: u32 = 26;
 
 // What a call answers whose result, if any, stands in lent memory.
-#[derive(Drop)]
+#[derive(Clone, Copy)]
 pub enum Outcome {
     Done,
     Refused { number: u32, place: usize },
 }
 
 // What a call answers that fills lent memory from a record: a withdrawn position is neither done nor refused.
-#[derive(Drop)]
+#[derive(Clone, Copy)]
 pub enum Filled {
     Done,
     Refused { number: u32, place: usize },
@@ -76,14 +77,14 @@ pub enum Filled {
 }
 
 // What a call answers that counts bytes.
-#[derive(Drop)]
+#[derive(Clone, Copy)]
 pub enum Length {
     Bytes(usize),
     Refused { number: u32, place: usize },
 }
 
 // A score or a distance with its value, a refusal, or a withdrawn position, which is neither.
-#[derive(Drop)]
+#[derive(Clone, Copy)]
 pub enum Scored {
     Score(f32),
     Refused { number: u32, place: usize },

@@ -1,5 +1,6 @@
 // Whether every value of a long list is finite, and which is the first that is not, found by adding: a sum that is finite has finite terms only,
 // and one addition for a value is less than a test. Where the sum is not finite, which finite values may bring about too, each value is tested.
+#![tactic(auto)]
 
 ghost use Rattle.std.specs.Prelude.{◌≡◌, true, ◌+◌, ◌≤◌, length};
 ghost use Rattle.error.specs.Answer.{clear};

@@ -1,5 +1,6 @@
 // What `std` lacks for `f32`, worked out for every float: NaN, the infinities and both zeros among them.
 // The Rust original calls `f32::is_finite`, `from_le_bytes`, `clamp`, `floor` and `sqrt`, and `copy_from_slice`, of its own `std`.
+#![tactic(auto)]
 
 ghost use Rattle.std.specs.Prelude.{◌≡◌, ◌+◌, ◌*◌, ◌^◌, ◌<◌, T, [], ◌∷◌, from_bits, is_nan, to_bits};
 ghost use Rattle.std.specs.Float.{binary32};

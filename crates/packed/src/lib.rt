@@ -1,5 +1,7 @@
 // The record: what a code, a header and an answer of the reader are, and the fields of a header with their checks.
 // Ported from turbo-quant/src/packed.rs and changed: the byte layout is this port's own, and refusals are numbers.
+#![tactic(auto)]
+
 ghost use Rattle.std.specs.Prelude.{◌≡◌};
 ghost use Rattle.error.specs.Answer.{first, accepted};
 ghost use Rattle.error.specs.Outcomes.{says};
@@ -13,14 +15,14 @@ use radius::{RadiusCodecProfileV1, Range};
 use setup::TurboMode;
 
 // The norm that a record is written with: none, or one that is stored.
-#[derive(Drop)]
+#[derive(Clone, Copy)]
 pub enum SourceNorm {
     Absent,
     Given(f32),
 }
 
 // The scalars that a record is written with. Without signs the projections are ignored.
-#[derive(Drop)]
+#[derive(Clone, Copy)]
 pub struct Code {
     pub profile: RadiusCodecProfileV1,
     pub mode: TurboMode,
@@ -32,7 +34,7 @@ pub struct Code {
 
 // What a record says before its payloads, and where these start in its bytes: each goes on to where the next one starts, the signs to `end`. Where
 // no norm stands it is 1.0.
-#[derive(Drop)]
+#[derive(Clone, Copy)]
 pub struct Header {
     pub mode: TurboMode,
     pub profile: RadiusCodecProfileV1,
@@ -49,7 +51,7 @@ pub struct Header {
 }
 
 // The header of an accepted record, a refusal, or a withdrawn position.
-#[derive(Drop)]
+#[derive(Clone, Copy)]
 pub enum Reading {
     Read(Header),
     Refused { number: u32, place: usize },

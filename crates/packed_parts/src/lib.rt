@@ -1,6 +1,8 @@
 // The parts of a record: its payloads as parts of its own bytes.
 // Ported from turbo-quant/src/packed.rs and changed: payloads are parts of the record's own bytes, empty where the record is refused or
 // withdrawn.
+#![tactic(auto)]
+
 ghost use Rattle.std.specs.Prelude.{◌≡◌};
 ghost use Rattle.packed.specs.Reading.{radii_part_of, indices_part_of, signs_part_of};
 ghost use Rattle.packed_parts.specs.Parts.{nowhere, locate_of, bad_places, cut_of, cut_start, Inside};
@@ -8,7 +10,7 @@ ghost use Rattle.packed_parts.specs.Parts.{nowhere, locate_of, bad_places, cut_o
 use packed::Reading;
 
 // Where the payloads of a record stand: each from its own place to the next one, the signs to `end`.
-#[derive(Drop)]
+#[derive(Clone, Copy)]
 pub struct Places {
     pub radii: usize,
     pub indices: usize,

@@ -1,5 +1,7 @@
 // Reading the record: its header, and where its payloads stand. Ported from turbo-quant/src/packed.rs and changed: the byte layout is this port's own, refusals are
 // numbers, and a record of no bytes is withdrawn.
+#![tactic(auto)]
+
 ghost use Rattle.std.specs.Prelude.{◌+◌, ◌≤◌, ◌≡◌, length};
 ghost use Rattle.error.specs.Answer.{first, accepted};
 ghost use Rattle.error.specs.Outcomes.{says};

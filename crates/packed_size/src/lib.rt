@@ -1,5 +1,7 @@
 // How many bytes a record takes, by the scalars that it is written with, and the checks of these scalars. Beside turbo-quant/src/packed.rs, which has
 // no such call: the byte layout is this port's own, and a caller lends the memory that a record is written to.
+#![tactic(auto)]
+
 ghost use Rattle.std.specs.Prelude.{◌≤◌, ◌≡◌};
 ghost use Rattle.error.specs.Answer.{first, accepted};
 ghost use Rattle.error.specs.Lengths.{says_length};

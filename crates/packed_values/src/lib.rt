@@ -1,5 +1,7 @@
 // The values of a record: its radii, indices and signs as they are read.
 // Ported from turbo-quant/src/packed.rs and changed: outputs are lent, refusals are numbers.
+#![tactic(auto)]
+
 ghost use Rattle.std.specs.Prelude.{◌≡◌, length};
 ghost use Rattle.error.specs.Answer.{done, after};
 ghost use Rattle.error.specs.Outcomes.{says, says_filled};

@@ -1,5 +1,7 @@
 // Writing the record that `packed_reading` reads: a polar code and, beside it, a residual sketch, as bytes. Ported from turbo-quant/src/packed.rs and
 // changed: the byte layout is this port's own, inputs and output are lent, refusals are numbers.
+#![tactic(auto)]
+
 ghost use Rattle.std.specs.Prelude.{◌+◌, ◌-◌, ◌≤◌, ◌≡◌, false, ◌++◌, length, take, drop};
 ghost use Rattle.error.specs.Answer.{value, first, accepted, done, after};
 ghost use Rattle.error.specs.Lengths.{says_length};

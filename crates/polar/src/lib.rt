@@ -1,6 +1,7 @@
 // Angles, the polar sum and the pairs of a decoded code.
 // Ported from turbo-quant/src/polar.rs and changed: cosines and sines come from a lent table of directions, the rotated query is lent, an output
 // is lent, and an error is a number and a place. `encode` is left out.
+#![tactic(auto)]
 
 ghost use Rattle.std.specs.Prelude.{◌≡◌, ◌*◌, ◌<◌, length};
 ghost use Rattle.error.specs.Answer.{done, after};
@@ -11,7 +12,7 @@ ghost use Rattle.polar.specs.Polar.{value_at, direction_at, term, polar_sum_of, 
 use error::{INVALID_BIT_WIDTH, MALFORMED_INDEX, OUTPUT_LENGTH, Outcome};
 
 // An angle in radians, or a refusal.
-#[derive(Drop)]
+#[derive(Clone, Copy)]
 pub enum Angle {
     Radians(f32),
     Refused { number: u32, place: usize },

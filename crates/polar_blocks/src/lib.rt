@@ -1,5 +1,7 @@
 // The polar sum and the pairs of a decoded code, straight from the bytes of a record: its radii and its indices as they stand there.
 // A block of radii at a time is read and judged, and four indices at a time are taken from one word, so that no list of either is kept.
+#![tactic(auto)]
+
 ghost use Rattle.std.specs.Prelude.{◌+◌, ◌*◌, ◌%◌, ◌^◌, ◌<◌, ◌≤◌, ◌≡◌, length, drop, get_or};
 ghost use Rattle.error.specs.Answer.{clear};
 ghost use Rattle.digits.specs.Digits.{number};
@@ -13,7 +15,7 @@ ghost use Rattle.polar_blocks.specs.Inner.{below_zero, not_below_infinity, index
 use radius::{RadiusCodecProfileV1, Range};
 
 // A sum, or that it is to be found otherwise.
-#[derive(Drop)]
+#[derive(Clone, Copy)]
 pub enum PayloadSum {
     Sum(f32),
     Otherwise,

@@ -1,5 +1,6 @@
 // The checks of a vector or a query under a setup. What a sketch of signs and its score answer is defined here too.
 // Ported from turbo-quant/src/qjl.rs and changed: the matrix is lent, and an error is a number and a place.
+#![tactic(auto)]
 
 ghost use Rattle.std.specs.Prelude.{◌≡◌};
 ghost use Rattle.error.specs.Answer.{first, accepted};

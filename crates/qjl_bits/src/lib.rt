@@ -1,6 +1,8 @@
 // The sum of a residual, from the bytes that hold its signs: no array of signs is made.
 // Ported from turbo-quant/src/qjl.rs (`inner_product_estimate_with_projected_query_and_source_norm`) and changed: signs are read as bits, eight of a byte
 // at a time.
+#![tactic(auto)]
+
 ghost use Rattle.std.specs.Prelude.{ℕ, ◌+◌, ◌*◌, ◌/◌, ◌≤◌, ◌<◌, ◌≡◌, length, drop};
 ghost use Rattle.std.specs.Float.{binary32};
 ghost use Rattle.std.specs.Float.Ieee.{mul, of_int};

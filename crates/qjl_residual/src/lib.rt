@@ -1,6 +1,7 @@
 // The residual of a score: a scale times the sum of sign times projected value.
 // Ported from turbo-quant/src/qjl.rs (`inner_product_estimate_with_projected_query_and_source_norm`) and changed: signs and projected
 // values are lent, and every check is left to the callers.
+#![tactic(auto)]
 
 ghost use Rattle.std.specs.Prelude.{◌≡◌};
 ghost use Rattle.std.specs.Float.{binary32};

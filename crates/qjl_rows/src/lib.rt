@@ -1,6 +1,7 @@
 // The projection of a query on the rows of a lent matrix: each is a sum in index order.
 // Ported from turbo-quant/src/qjl.rs (`project_query`) and changed: the matrix and the output are lent, what is not finite is left to
 // the callers' checks, and an error is a number and a place.
+#![tactic(auto)]
 
 ghost use Rattle.std.specs.Prelude.{◌≡◌, ◌*◌, eqb, length};
 ghost use Rattle.error.specs.Answer.{done, after};

@@ -1,5 +1,6 @@
 // The score of a sketch of signs for a query: the residual of the query's projections on the rows of a lent matrix, with the sketch's source norm.
 // Ported from turbo-quant/src/qjl.rs (`inner_product_estimate`) and changed: the matrix and the sketch are lent, and an error is a number and a place.
+#![tactic(auto)]
 
 ghost use Rattle.std.specs.Prelude.{◌≡◌, ◌≤◌, length};
 ghost use Rattle.error.specs.Outcomes.{says_score};

@@ -1,5 +1,6 @@
 // Sketches of signs: a vector projected on the rows of a lent matrix, of which a sketch keeps only the signs.
 // Ported from turbo-quant/src/qjl.rs (`sketch`) and changed: the matrix and the output are lent, and an error is a number and a place.
+#![tactic(auto)]
 
 ghost use Rattle.std.specs.Prelude.{◌≡◌, map, ◌≤◌, length};
 ghost use Rattle.error.specs.Answer.{done, after};

@@ -1,6 +1,7 @@
 // The sums of a matrix's rows, each entry times the query's: eight rows at a time, so that the sum of one row does not wait for that of another.
 // Each row's sum takes its terms in the order of the columns. The products of sixteen columns are formed first, side by side with those of a
 // neighbouring row, as the additions need them.
+#![tactic(auto)]
 
 ghost use Rattle.std.specs.Prelude.{◌≡◌, ◌+◌, ◌*◌, ◌≤◌, ◌<◌, min, length, drop};
 ghost use Rattle.rounding.specs.Sums.{dot};
@@ -8,7 +9,7 @@ ghost use Rattle.rounding.specs.Rows.{projected};
 ghost use Rattle.qjl_sums.specs.Inner.{Interleaved, Added, FourSoFar, four_set};
 
 // The sums of four rows that follow one another.
-#[derive(Drop)]
+#[derive(Clone, Copy)]
 struct Four {
     a: f32,
     b: f32,
@@ -17,14 +18,14 @@ struct Four {
 }
 
 // The sums of four rows and of four more.
-#[derive(Drop)]
+#[derive(Clone, Copy)]
 struct Eight {
     upper: Four,
     lower: Four,
 }
 
 // The same sums as far as a column.
-#[derive(Drop)]
+#[derive(Clone, Copy)]
 struct Begun {
     column: usize,
     sums: Eight,

@@ -1,5 +1,7 @@
 // Radius compression profiles. Ported from turbo-quant/src/radius.rs and changed: payloads are lent, the range travels by value, refusals are numbers.
 // What reading (`radius_reading`) and writing (`radius_writing`) share: the profiles, what a radius is, and linear radii one by one.
+#![tactic(auto)]
+
 ghost use Rattle.std.specs.Prelude.{◌≡◌, true};
 ghost use Rattle.error.specs.Answer.{clear};
 ghost use Rattle.error.specs.Lengths.{says_length};
@@ -11,7 +13,7 @@ ghost use Rattle.radius.specs.Firsts.{first_bad_radius_of};
 use error::{Length, UNDEFINED_PROFILE};
 
 // How radii are stored. BlockLogU8 is known and refused.
-#[derive(Drop)]
+#[derive(Clone, Copy)]
 pub enum RadiusCodecProfileV1 {
     F32,
     BlockLinearU16,
@@ -19,7 +21,7 @@ pub enum RadiusCodecProfileV1 {
 }
 
 // The least and the greatest radius, kept together.
-#[derive(Drop)]
+#[derive(Clone, Copy)]
 pub struct Range {
     pub min: f32,
     pub max: f32,

@@ -1,5 +1,7 @@
 // The range of radii, found for several radii at a time: sixteen lanes keep the least and the greatest of every sixteenth radius, and their own range is the answer.
 // That is the range in order wherever equal radii are the same float, so it is done where all are above zero.
+#![tactic(auto)]
+
 ghost use Rattle.std.specs.Prelude.{◌<◌, ◌≡◌, true, cond, length};
 ghost use Rattle.std.specs.Float.Ieee.{lt};
 ghost use Rattle.error.specs.Answer.{clear};

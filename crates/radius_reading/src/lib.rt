@@ -1,4 +1,6 @@
 // Radii read from their bytes. Ported from turbo-quant/src/radius.rs and changed: payloads are lent, the range travels by value, refusals are numbers.
+#![tactic(auto)]
+
 ghost use Rattle.std.specs.Prelude.{◌+◌, ◌*◌, ◌≤◌, ◌<◌, ◌≡◌, true, false, [], ◌∷◌, map, length};
 ghost use Rattle.error.specs.Answer.{place, first, accepted, done, after};
 ghost use Rattle.error.specs.Checks.{differs};

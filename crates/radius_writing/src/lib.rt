@@ -1,4 +1,6 @@
 // Radii written as bytes. Ported from turbo-quant/src/radius.rs and changed: payloads are lent, the range travels by value, refusals are numbers.
+#![tactic(auto)]
+
 ghost use Rattle.std.specs.Prelude.{◌+◌, ◌*◌, ◌≤◌, ◌≡◌, true, length, take, drop};
 ghost use mathlib.Core.List.{◌++◌, flat_map};
 ghost use Rattle.error.specs.Answer.{place, clear, first, accepted, after};
@@ -15,7 +17,7 @@ use error::{MALFORMED_RADIUS, OUTPUT_LENGTH, Outcome, UNDEFINED_PROFILE};
 use radius::{RadiusCodecProfileV1, Range};
 
 // The range that goes with the bytes written, or a refusal.
-#[derive(Drop)]
+#[derive(Clone, Copy)]
 pub enum Compressed {
     Made(Range),
     Refused { number: u32, place: usize },

@@ -59,7 +59,7 @@ pub const PROJECTED: usize = 8;
 pub const PART: usize = 9;
 
 // From where to where a list lies.
-#[derive(Drop)]
+#[derive(Clone, Copy)]
 struct Span {
     from: usize,
     to: usize,

@@ -1,5 +1,7 @@
 // Replays a fixed list of answers: each case is put to the library, and what it answers and writes is held against what the list says. The list comes on
 // standard input: for each call its name in 24 bytes and the number of its cases in two, and each case behind two bytes with its length.
+#![tactic(auto)]
+
 mod frame;
 mod outputs;
 mod same;
@@ -14,7 +16,7 @@ use std::num::wrapping_add_u64;
 const CALLS: u8 = 36;
 
 // How many cases were replayed, and how many of them differ.
-#[derive(Drop)]
+#[derive(Clone, Copy)]
 struct Tally {
     cases: u64,
     differ: u64,

@@ -1,6 +1,7 @@
 // Deterministic rotation: signs, then a normalized Hadamard transform, and back.
 // Ported from turbo-quant/src/rotation.rs (`FastHadamardRotation`) and changed: its signs are lent, the output is lent, and an error is a
 // number and a place.
+#![tactic(auto)]
 
 ghost use Rattle.std.specs.Prelude.{◌≡◌, ◌≤◌, length};
 ghost use Rattle.std.specs.Int.Count.{ones};

@@ -1,6 +1,7 @@
 // The butterflies of a Hadamard transform, all stages of them, in place.
 // Ported from turbo-quant/src/rotation.rs (the loops of `FastHadamardRotation`) and changed: two stages are done in one pass over the values, which gives
 // each value the same sums and differences in the same order.
+#![tactic(auto)]
 
 ghost use Rattle.std.specs.Prelude.{◌≡◌, ◌+◌, ◌*◌, ◌≤◌, length};
 ghost use Rattle.std.specs.Float.{binary32};

@@ -1,6 +1,7 @@
 // The stored rotation: a lent matrix, column by column, times a vector, and its transpose times a vector.
 // Ported from turbo-quant/src/rotation.rs (`StoredRotation`) and changed: the matrix and the output are lent, the dimension is even and at
 // most 512, and an error is a number and a place.
+#![tactic(auto)]
 
 ghost use Rattle.std.specs.Prelude.{◌≡◌, true, ◌+◌, ◌*◌, ◌≤◌, ◌<◌, length};
 ghost use Rattle.std.specs.Float.{nan};

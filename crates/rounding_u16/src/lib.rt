@@ -1,4 +1,6 @@
 // A float rounded to an unsigned integer of 16 bits with no branch and no shift, so that a loop does it for several floats at a time.
+#![tactic(auto)]
+
 ghost use Rattle.std.specs.Prelude.{◌≡◌};
 ghost use Rattle.float.specs.Rounding.{round_unsigned};
 ghost use Rattle.rounding_u16.specs.Inner.{Small};

@@ -1,5 +1,6 @@
 // A scan: the best of a stream of records by their scores, how many it has taken, refused and found withdrawn, and how many comparisons these made. It is
 // opened here, with a length, is given a shorter one, and its counts are read; taking records and closing stand in the crates above.
+#![tactic(auto)]
 
 ghost use Rattle.std.specs.Prelude.{◌≡◌, List, [], ◌∷◌, ℕ, min, length, Float};
 ghost use Rattle.error.specs.Answer.{done, after};
@@ -20,7 +21,7 @@ pub const MOST_RECORDS: u32 = 4294967295;
 // What a scan counts: how many hits it keeps at most, how many it has, and how many records it has taken, refused and found withdrawn; the last two are among
 // those taken. A new score is compared with the hits from the last upward and stops at the first that it does not beat: `comparisons` counts all that were made.
 #[repr(C)]
-#[derive(Drop)]
+#[derive(Clone, Copy)]
 pub struct Tally {
     pub length: usize,
     pub kept: usize,
@@ -32,7 +33,7 @@ pub struct Tally {
 
 // A scan: its counts, and its hits in their order, the number and the score of each.
 #[repr(C)]
-#[derive(Drop)]
+#[derive(Clone, Copy)]
 pub struct Scan {
     pub tally: Tally,
     pub numbers: [u32; 64],
@@ -40,14 +41,14 @@ pub struct Scan {
 }
 
 // The answer of a call that has no value but the scan: beside a refusal the scan as it was, and of opening one of length 1.
-#[derive(Drop)]
+#[derive(Clone, Copy)]
 pub struct ScanAnswer {
     pub outcome: Outcome,
     pub scan: Scan,
 }
 
 // The answer of a call that has no value but the tally: beside a refusal the tally as it was.
-#[derive(Drop)]
+#[derive(Clone, Copy)]
 pub struct TallyAnswer {
     pub outcome: Outcome,
     pub tally: Tally,

@@ -1,4 +1,5 @@
 // A scan is closed into a list of hits that the caller lends. The list is a slice of structs; the scan itself is taken by value and stays as it is.
+#![tactic(auto)]
 
 ghost use Rattle.std.specs.Prelude.{◌≡◌, ℕ, List, length};
 ghost use Rattle.error.specs.Answer.{done, after};

@@ -1,5 +1,6 @@
 // A record's answer enters a scan, in place: it takes the next number, is counted, and where it has a score that stands among the best, it is put in at its
 // place. Each comparison with a hit's score is counted where it is made.
+#![tactic(auto)]
 
 ghost use Rattle.std.specs.Prelude.{◌≡◌, ◌<◌, ◌≤◌, min, length};
 ghost use Rattle.error.specs.Outcomes.{says_score};
@@ -10,7 +11,7 @@ use error::Scored;
 use scan::{MOST_RECORDS, Tally};
 
 // How many of the held scores a new one stands behind, and how many comparisons it took to find that.
-#[derive(Drop)]
+#[derive(Clone, Copy)]
 struct Place {
     at: usize,
     compared: u64,

@@ -1,5 +1,6 @@
 // Many records are taken into a scan in one call, by a query that is prepared: the setup, its directions and the query are checked once for all of them. A scan
 // goes by value, or in place: its tally by value beside its two lists, which are lent.
+#![tactic(auto)]
 
 ghost use Rattle.std.specs.Prelude.{◌≡◌, List, [], ◌∷◌, ◌++◌, map, reverse, ℕ, length};
 ghost use Rattle.error.specs.Answer.{first, accepted, done, after};

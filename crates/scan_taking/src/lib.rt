@@ -1,4 +1,5 @@
 // A record is taken into a scan, by a query or by a prepared one. A scan goes by value, or in place: its tally by value beside its two lists, which are lent.
+#![tactic(auto)]
 
 ghost use Rattle.std.specs.Prelude.{◌≡◌, List, ◌∷◌, ℕ};
 ghost use Rattle.setup.specs.Lent.{lent};
@@ -18,14 +19,14 @@ use setup::Setup;
 use turbo_phased::Phased;
 
 // What taking a record answers, and the scan afterwards.
-#[derive(Drop)]
+#[derive(Clone, Copy)]
 pub struct TakenRecord {
     pub answer: Phased,
     pub scan: Scan,
 }
 
 // What taking a record answers, and the tally afterwards, of a scan whose lists are lent.
-#[derive(Drop)]
+#[derive(Clone, Copy)]
 pub struct TakenTally {
     pub answer: Phased,
     pub tally: Tally,

@@ -1,5 +1,6 @@
 // The setup of a quantizer: its scalars with their checks, and the seeds of the host's generators.
 // Ported from turbo-quant/src/turbo.rs, with the seeds of rotation.rs and qjl.rs, and changed: an error is a number and a place.
+#![tactic(auto)]
 
 ghost use Rattle.std.specs.Prelude.{◌≡◌, [], ◌∷◌};
 ghost use Rattle.error.specs.Answer.{first, accepted};
@@ -14,7 +15,7 @@ use error::{
 };
 
 // Whether a residual sketch stands beside the polar code.
-#[derive(Drop)]
+#[derive(Clone, Copy)]
 pub enum TurboMode {
     // No residual sketch.
     PolarOnly,
@@ -23,7 +24,7 @@ pub enum TurboMode {
 }
 
 // Which rotation a setup has, and so what is lent for it.
-#[derive(Drop)]
+#[derive(Clone, Copy)]
 pub enum RotationKind {
     // Signs and the Hadamard transform: a sign for each dimension is lent.
     FastHadamard,
@@ -32,7 +33,7 @@ pub enum RotationKind {
 }
 
 // The scalars of a setup: the mode, the dimension, the total bits, the projections and which rotation it has.
-#[derive(Drop)]
+#[derive(Clone, Copy)]
 pub struct Setup {
     pub mode: TurboMode,
     pub dim: usize,

@@ -1,6 +1,7 @@
 // The rotation that a setup has, and its inverse: signs and the Hadamard transform, or a stored matrix.
 // Ported from turbo-quant/src/rotation.rs (`RotationBackend`) and changed: what the rotation needs is lent, the output is lent, and an error is a
 // number and a place.
+#![tactic(auto)]
 
 ghost use Rattle.std.specs.Prelude.{◌≡◌, length};
 ghost use Rattle.error.specs.Answer.{done, after};

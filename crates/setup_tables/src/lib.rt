@@ -1,5 +1,6 @@
 // The checks of the tables that the host lends beside a setup's scalars: what the rotation needs, directions and matrix.
 // Ported from turbo-quant/src/turbo.rs and changed: the tables are lent and checked, and an error is a number and a place.
+#![tactic(auto)]
 
 ghost use Rattle.std.specs.Prelude.{◌≡◌, [], ◌∷◌, ◌*◌, ◌^◌, ◌≤◌, length};
 ghost use Rattle.error.specs.Answer.{first, accepted, clear};

@@ -1,6 +1,7 @@
 // Scores of a record, by a query or by a prepared one, and the distance of a record from a query.
 // Ported from turbo-quant/src/turbo.rs and changed: the setup is lent and checked at each call, the code is a record's bytes, and an error is a number
 // and a place; of a withdrawn position no score is answered.
+#![tactic(auto)]
 
 ghost use Rattle.std.specs.Prelude.{◌≡◌, true};
 ghost use Rattle.error.specs.Answer.{value};

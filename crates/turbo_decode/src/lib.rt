@@ -1,6 +1,7 @@
 // A record decoded approximately: its pairs, rotated back.
 // Ported from turbo-quant/src/turbo.rs (`decode_approximate`) and changed: the code is a record's bytes, the tables are lent, the output is lent, and an
 // error is a number and a place.
+#![tactic(auto)]
 
 ghost use Rattle.std.specs.Prelude.{◌≡◌, length};
 ghost use Rattle.error.specs.Answer.{done, after};

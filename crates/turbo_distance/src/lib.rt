@@ -1,6 +1,7 @@
 // The distance of a query from the vector that a record stands for, by the radii of the record and the score of the two.
 // Ported from turbo-quant/src/turbo.rs, `l2_distance_estimate` from its score on, and changed: a sum that is NaN is refused, and an error is a number and
 // a place.
+#![tactic(auto)]
 
 ghost use Rattle.std.specs.Prelude.{◌≡◌};
 ghost use Rattle.error.specs.Outcomes.{says_score};

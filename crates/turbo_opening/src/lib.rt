@@ -1,6 +1,7 @@
 // A record under a setup: read, and held against the setup.
 // Ported from turbo-quant/src/turbo.rs (`validate_for`) and changed: the code is a record's bytes, and an error is a number and a place.
 // A header holds a `radius::Range`, so crates.txt names that crate beside those whose calls are made.
+#![tactic(auto)]
 
 ghost use Rattle.std.specs.Prelude.{◌≡◌};
 ghost use Rattle.packed.specs.Reading.{says_reading};

@@ -1,6 +1,7 @@
 // The score of a record by a query, with the phase of a refusal: before the record is read, or from its reading on.
 // Ported from turbo-quant/src/turbo.rs and changed: the setup is lent and checked at each call, the code is a record's bytes, and an error is a number
 // and a place; of a withdrawn position no score is answered.
+#![tactic(auto)]
 
 ghost use Rattle.std.specs.Prelude.{◌≡◌, length};
 ghost use Rattle.error.specs.Answer.{value, first, accepted};
@@ -15,7 +16,7 @@ use setup::Setup;
 
 // A score with its value, or a refusal with its phase: before the record is read, or from its reading on. A withdrawn position is told from its reading
 // on.
-#[derive(Drop)]
+#[derive(Clone, Copy)]
 pub enum Phased {
     Score(f32),
     BeforeReading { number: u32, place: usize },

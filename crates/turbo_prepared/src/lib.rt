@@ -1,6 +1,7 @@
 // The checks of a query that is prepared, and the score of a record by it, with the phase of a refusal: before the record is read, or from its reading on.
 // Ported from turbo-quant/src/turbo.rs and changed: the setup is lent and checked at each call, the code is a record's bytes, and an error is a number
 // and a place; of a withdrawn position no score is answered.
+#![tactic(auto)]
 
 ghost use Rattle.std.specs.Prelude.{◌≡◌};
 ghost use Rattle.error.specs.Answer.{first, accepted};

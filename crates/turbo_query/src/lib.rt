@@ -1,5 +1,6 @@
 // A query that was rotated and projected on the rows of the matrix is judged, for scoring and for preparing; and it is prepared once for many records.
 // Ported from turbo-quant/src/turbo.rs (`prepare_query`) and changed: the outputs are lent, and an error is a number and a place.
+#![tactic(auto)]
 
 ghost use Rattle.std.specs.Prelude.{◌≡◌, length};
 ghost use Rattle.error.specs.Answer.{first, accepted, done, after};

@@ -1,6 +1,7 @@
 // The score of a record by a query that is rotated and projected: in one pass over the record where nothing offends, and else part by part, which finds
 // what does. Ported from turbo-quant/src/turbo.rs and changed: the code is a record's bytes, and an error is a number and a place.
 // A header holds a `radius::Range`, so crates.txt names that crate beside those whose calls are made.
+#![tactic(auto)]
 
 ghost use Rattle.std.specs.Prelude.{◌≡◌, length};
 ghost use Rattle.error.specs.Answer.{value, first, accepted};

@@ -1,6 +1,7 @@
 // A query rotated and projected into lent memory under a setup, and not judged: what is finite there tells that all that it came of is finite.
 // Taken from turbo-quant/src/turbo.rs (`prepare_query`) and changed: the outputs are lent, the values are left to the callers' checks, and an error is a number and a
 // place.
+#![tactic(auto)]
 
 ghost use Rattle.std.specs.Prelude.{◌≡◌, length};
 ghost use Rattle.error.specs.Answer.{first, accepted, done, after};

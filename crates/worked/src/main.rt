@@ -1,5 +1,7 @@
 // Fills in a text: document 01's worked examples with what is expected of each, then a small archive under a query, and a scan of the best of its
 // records. The text comes on standard input with a `|` for each answer; the program copies it and puts the library's answer in each of these places.
+#![tactic(auto)]
+
 mod archive;
 mod scans;
 mod show;

@@ -1,0 +1,7 @@
+-- `capi::bits::foldrima_unpack_indices` meets its contract. Assumes nothing.
+use Rattle.capi_answers.proofs.Tell.{told-as}
+use borrow.Author.Rules.{rules}
+use Rattle.capi.proofs.bits.foldrima_unpack_indices.Goals as goal
+
+pub returns : goal.returns
+returns c = record { answer = told-as c.tell.ensures c.unpack_indices.ensures.said; left = c.unpack_indices.ensures.left }

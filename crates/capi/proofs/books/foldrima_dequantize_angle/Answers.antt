@@ -1,0 +1,7 @@
+-- `capi::books::foldrima_dequantize_angle` meets its contract. Assumes nothing.
+use Rattle.capi_answers.proofs.Tell.{told-as, left_as}
+use borrow.Author.Rules.{rules}
+use Rattle.capi.proofs.books.foldrima_dequantize_angle.Goals as goal
+
+pub returns : goal.returns
+returns c = record { answer = told-as c.tell_angle.ensures.answer c.dequantize_angle.ensures; left = left_as c.args.value.now c.tell_angle.ensures.left c.dequantize_angle.ensures }

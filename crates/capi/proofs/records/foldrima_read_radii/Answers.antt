@@ -1,0 +1,7 @@
+-- `capi::records::foldrima_read_radii` meets its contract. Assumes nothing.
+use Rattle.capi_answers.proofs.Tell.{told-as}
+use borrow.Author.Rules.{rules}
+use Rattle.capi.proofs.records.foldrima_read_radii.Goals as goal
+
+pub returns : goal.returns
+returns c = record { answer = told-as c.tell_filled.ensures c.read_radii.ensures.said; left = c.read_radii.ensures.left }

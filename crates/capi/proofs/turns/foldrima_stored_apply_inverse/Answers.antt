@@ -1,0 +1,7 @@
+-- `capi::turns::foldrima_stored_apply_inverse` meets its contract. Assumes nothing.
+use Rattle.capi_answers.proofs.Tell.{told-as}
+use borrow.Author.Rules.{rules}
+use Rattle.capi.proofs.turns.foldrima_stored_apply_inverse.Goals as goal
+
+pub returns : goal.returns
+returns c = record { answer = told-as c.tell.ensures c.apply_inverse.ensures.result_value; left = c.apply_inverse.ensures.output_after }

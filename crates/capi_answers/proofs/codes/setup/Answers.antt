@@ -1,0 +1,6 @@
+-- `capi_answers::codes::setup` meets its contract. Assumes nothing.
+use borrow.Author.Rules.{rules}
+use Rattle.capi_answers.proofs.codes.setup.Goals as goal
+
+pub returns : goal.returns
+returns c = rw (c.mode-chosen.ensures, c.rotation_kind-turned.ensures)

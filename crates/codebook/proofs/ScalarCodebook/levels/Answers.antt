@@ -1,0 +1,24 @@
+-- `codebook::ScalarCodebook::levels` meets its contract: it says what the check says, or the power of two. Assumes nothing.
+use Prim.Native.Nat.{◌^◌}
+use mathlib.Core.Path.{sym, ap, ◌∙◌}
+use borrow.Author.Rules.{rules}
+use Rattle.error.specs.Answer.{value}
+use Rattle.error.specs.Outcomes.{says}
+use Rattle.codebook.specs.Codebook.{levels_of}
+use Rattle.codebook.proofs.Checks.{check-refused, check-passed, check-narrow}
+use Rattle.codebook.proofs.ScalarCodebook.levels.Goals as goal
+
+pub level_count-requires : goal.level_count-requires
+level_count-requires c = let a = c.args in
+    check-narrow a.self.bits a.self.min a.self.max (sym c.check.ensures ∙ ap says c.in-Done.is)
+
+pub returns-in-Done : goal.returns-in-Done
+unfolding levels_of
+returns-in-Done c = let a = c.args in
+    ap value c.level_count.ensures
+    ∙ sym (check-passed a.self.bits a.self.min a.self.max (value (2 ^ a.self.bits)) (sym c.check.ensures ∙ ap says c.in-Done.is))
+
+pub returns-in-Refused : goal.returns-in-Refused
+unfolding levels_of
+returns-in-Refused c = let a = c.args in
+    sym (check-refused a.self.bits a.self.min a.self.max (value (2 ^ a.self.bits)) (sym c.check.ensures ∙ ap says c.in-Refused.is))

@@ -1,0 +1,16 @@
+-- `finite_sums::add_lanes` meets its contract: after i turns, i sums have taken a value each. Assumes nothing.
+use Prim.Native.Nat.{ℕ, ◌+◌, ◌-◌, ◌≤◌}
+use mathlib.Core.Path.{◌≡◌, subst}
+use native.Mathlib.Nat.{add-zero, add_assoc}
+use native.Mathlib.Omega.{arith}
+use borrow.Author.Rules.{rules, scaled_Fits}
+use lib.ListN.{length, length-set}
+use Rattle.finite_sums.specs.Inner.{Took}
+use Rattle.finite_sums.proofs.Sums.{took-start, took_more}
+use Rattle.finite_sums.proofs.add_lanes.Given as goal
+
+abbrev pub invariant-loop-i : goal.invariant-loop-i
+invariant-loop-i l = (l.i ≤ 32) × ((length l.more ≡ 32) × Took l.values l.at (l.at + l.i) l.initial.more l.more)
+
+abbrev pub decreases-loop-i : goal.decreases-loop-i
+decreases-loop-i l = 32 - l.i

@@ -1,0 +1,17 @@
+-- `packed_values::read_radii` meets its contract: withdrawn, the reader's refusal, or the values by the header that was read. Assumes nothing.
+use mathlib.Core.Path.{sym, ap, ◌∙◌}
+use Rattle.error.proofs.Answers.{both-refused, both-withdrawn}
+use Rattle.packed.specs.Reading.{says_reading}
+use Rattle.packed_values.proofs.Values.{both-as, radii_at-read, radii_refused, radii-withdrawn}
+use borrow.Author.Rules.{rules}
+use Rattle.packed_values.proofs.read_radii.Goals as goal
+
+pub returns-in-Read : goal.returns-in-Read
+returns-in-Read c = let a = c.args in
+    both-as a.out.now (radii_at-read a.bytes.now _ (sym c.read_record.ensures ∙ ap says_reading c.in-Read.is)) (c.as_filled.ensures ∙ c.radii_at.ensures.said, c.radii_at.ensures.left)
+
+pub returns-in-Refused : goal.returns-in-Refused
+returns-in-Refused c = both-refused _ _ (radii_refused c.args.bytes.now _ (sym c.read_record.ensures ∙ ap says_reading c.in-Refused.is))
+
+pub returns-in-Withdrawn : goal.returns-in-Withdrawn
+returns-in-Withdrawn c = both-withdrawn _ _ (radii-withdrawn c.args.bytes.now _ (sym c.read_record.ensures ∙ ap says_reading c.in-Withdrawn.is))

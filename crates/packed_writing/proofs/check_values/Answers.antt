@@ -1,0 +1,33 @@
+-- `packed_writing::check_values` meets its contract: each return is one case of the checks, in their order. Assumes nothing.
+use mathlib.Core.Path.{◌≡◌, sym, ap, ◌∙◌}
+use mathlib.Core.Bool.{false}
+use borrow.Author.Rules.{rules}
+use Rattle.radius.specs.Radii.{bad_radius}
+use Rattle.packed_size.specs.Size.{norm_value}
+use Rattle.packed_writing.proofs.Written.{values-norm, values-radius, values-lost, values-codes}
+use Rattle.packed_writing.proofs.check_values.Goals.{After-is_bad_radius, Else-is_bad_radius}
+use Rattle.packed_writing.proofs.check_values.Goals as goal
+
+-- the norm as the code asks of it
+asked : (c : goal.After-is_bad_radius) → c.is_bad_radius.result ≡ bad_radius (norm_value c.args.norm)
+asked c = c.is_bad_radius.ensures ∙ ap bad_radius c.norm_value.ensures
+
+normal : (c : goal.Else-is_bad_radius) → bad_radius (norm_value c.args.norm) ≡ false
+normal c = sym (asked c) ∙ c.if-is_bad_radius.false
+
+pub returns-then-is_bad_radius : goal.returns-then-is_bad_radius
+returns-then-is_bad_radius c = let a = c.args in
+    sym (values-norm a.profile a.bits a.norm a.radii.now a.indices.now a.signs.now (sym (asked (goal.at.returns-then-is_bad_radius c).After-is_bad_radius) ∙ c.if-is_bad_radius.true))
+
+pub returns-then-bad-radii : goal.returns-then-bad-radii
+returns-then-bad-radii c = let a = c.args in
+    sym (values-radius a.profile a.bits a.norm a.radii.now a.indices.now a.signs.now (normal (goal.at.returns-then-bad-radii c).Else-is_bad_radius) c.first_bad_radius-bad.ensures c.if-bad-radii.true)
+
+pub returns-then-lost-radii : goal.returns-then-lost-radii
+returns-then-lost-radii c = let a = c.args in
+    sym (values-lost a.profile a.bits a.norm a.radii.now a.indices.now a.signs.now (normal (goal.at.returns-then-lost-radii c).Else-is_bad_radius) c.first_bad_radius-bad.ensures c.if-bad-radii.false c.requires c.first_bad_read_back-lost.ensures c.if-lost-radii.true)
+
+pub returns : goal.returns
+returns c = let a = c.args in
+    c.check_codes.ensures
+    ∙ sym (values-codes a.profile a.bits a.norm a.radii.now a.indices.now a.signs.now (normal (goal.at.returns c).Else-is_bad_radius) c.first_bad_radius-bad.ensures c.if-bad-radii.false c.requires c.first_bad_read_back-lost.ensures c.if-lost-radii.false)

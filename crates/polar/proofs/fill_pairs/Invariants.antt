@@ -1,0 +1,14 @@
+-- `polar::fill_pairs` meets its contract. The invariant: what is written so far, with the pairs from i on, is the whole. Assumes nothing.
+use Rattle.std.proofs.Common.{◌≡◌, ℕ, ◌+◌, ◌-◌, ◌*◌, ◌≤◌, ◌++◌, length, take, refl, ap, ◌∙◌, arith, length-set}
+use Rattle.rounding.specs.Butterfly.{from}
+use Rattle.polar.specs.Polar.{value_at, along, across, laid, decoded_pairs}
+use Rattle.polar.proofs.Entries.{product_at}
+use Rattle.polar.proofs.Loops.{laid-start, laid_more, laid_end}
+use Rattle.polar.proofs.fill_pairs.Given as goal
+
+abbrev pub invariant-loop-i : goal.invariant-loop-i
+invariant-loop-i l = (l.i ≤ length l.radii) × (length l.out ≡ length l.initial.out)
+    × (decoded_pairs l.directions l.indices l.radii ≡ take (2 * l.i) l.out ++ laid (along l.directions l.indices l.radii) (across l.directions l.indices l.radii) (from l.i (length l.radii - l.i)))
+
+abbrev pub decreases-loop-i : goal.decreases-loop-i
+decreases-loop-i l = length l.radii - l.i

@@ -1,0 +1,65 @@
+-- `polar_blocks::add_block` meets its contract: what was restored is judged, and its terms are added. Assumes nothing.
+use borrow.Author.Rules.{rules}
+use Prim.Native.Nat.{◌+◌, ◌-◌, ◌*◌, ◌≤◌}
+use mathlib.Core.Path.{◌≡◌, sym, ◌∙◌}
+use mathlib.Core.List.{◌++◌}
+use native.Mathlib.Nat.{mul-add}
+use native.Mathlib.Omega.{arith}
+use borrow.Rule.Slice.PartMut.{post_of}
+use lib.ListN.{length, take}
+use Rattle.lists.proofs.Parts.{part-long, part-read, part-again, part-enough}
+use Rattle.radius.specs.Codec.{width_of}
+use Rattle.polar_blocks.specs.Inner.{part_radii}
+use Rattle.polar_blocks.proofs.Radii.{part-restored}
+use borrow.Author.Tests.{not-true, not-false}
+use Rattle.polar_blocks.proofs.Blocks.{added-sum, added_none, block-lent}
+use Rattle.polar_blocks.proofs.add_block.Goals.{After-no_radii-block, After-restore, After-width_of-width}
+use Rattle.polar_blocks.proofs.add_block.Goals as goal
+
+-- the width, as it is read
+width : (c : goal.After-width_of-width) → c.width_of-width.result ≡ width_of c.args.profile
+width c = c.width_of-width.ensures
+
+-- where the block's bytes end
+ends : (c : goal.After-width_of-width) → c.width_of-width.result * c.args.at + c.width_of-width.result * c.args.count ≤ length c.args.radii.now
+ends c = rw (width c) (omega (arith, c.requires.sized, mul-add (width_of c.args.profile) c.args.at c.args.count))
+
+-- the array has room
+room : (c : goal.After-no_radii-block) → c.args.count ≤ length c.no_radii-block.result
+room c = omega (arith, c.requires.small, c.no_radii-block.type_inv)
+
+-- what the part of the array holds that is read
+block-is : (c : goal.After-restore) → take (c.args.count - 0) (c.restore.new.out ++ post_of 0 (c.args.count - 0) c.no_radii-block.result) ≡ part_radii c.args.profile c.args.range c.args.radii.now c.args.at c.args.count
+block-is c =
+    part-read c.args.count c.no_radii-block.result (room c) c.restore.new.out (post_of 0 (c.args.count - 0) c.no_radii-block.result) c.restore.auto.out
+    ∙ c.restore.ensures.left
+    ∙ part-restored c.args.profile c.args.range c.args.radii.now c.args.at c.args.count _ _ _ c.requires.known (width c) c.requires.sized (part-long c.args.count c.no_radii-block.result (room c))
+
+pub overflow_mul-start : goal.overflow_mul-start
+overflow_mul-start c = omega (arith, ends (goal.at.overflow_mul-start c).After-width_of-width)
+
+pub overflow_mul-stop : goal.overflow_mul-stop
+overflow_mul-stop c = omega (arith, ends (goal.at.overflow_mul-stop c).After-width_of-width)
+
+pub overflow_add-stop : goal.overflow_add-stop
+overflow_add-stop c = omega (arith, ends (goal.at.overflow_add-stop c).After-width_of-width)
+
+pub slice_bounds-restore-end : goal.slice_bounds-restore-end
+slice_bounds-restore-end c = ends (goal.at.slice_bounds-restore-end c).After-width_of-width
+
+pub slice_bounds-all_good-end : goal.slice_bounds-all_good-end
+slice_bounds-all_good-end c = let k = c.args.count in
+    part-enough k c.no_radii-block.result (room (goal.at.slice_bounds-all_good-end c).After-no_radii-block) c.restore.new.out (post_of 0 (k - 0) c.no_radii-block.result) c.restore.auto.out
+
+pub returns-then-not-all_good : goal.returns-then-not-all_good
+returns-then-not-all_good c = added_none c.args.directions.now c.args.rotated.now c.args.profile c.args.range c.args.radii.now c.args.indices.now c.args.bits c.args.at c.args.count (block-is (goal.at.returns-then-not-all_good c).After-restore) c.args.sum (sym c.all_good.ensures ∙ not-true _ c.if-not-all_good.true)
+
+pub slice_bounds-block_sum-end : goal.slice_bounds-block_sum-end
+slice_bounds-block_sum-end c = let k = c.args.count in
+    part-enough k c.no_radii-block.result (room (goal.at.slice_bounds-block_sum-end c).After-no_radii-block) c.restore.new.out (post_of 0 (k - 0) c.no_radii-block.result) c.restore.auto.out
+
+pub block_sum-requires : goal.block_sum-requires
+block_sum-requires c = block-lent _ c.requires (part-again c.args.count c.no_radii-block.result (room (goal.at.block_sum-requires c).After-no_radii-block) c.restore.new.out (post_of 0 (c.args.count - 0) c.no_radii-block.result) c.restore.auto.out)
+
+pub returns : goal.returns
+returns c = added-sum c.args.directions.now c.args.rotated.now c.args.profile c.args.range c.args.radii.now c.args.indices.now c.args.bits c.args.at c.args.count (block-is (goal.at.returns c).After-restore) c.args.sum _ (sym c.all_good.ensures ∙ not-false _ c.if-not-all_good.false) c.block_sum.ensures

@@ -1,0 +1,9 @@
+-- `polar_blocks::byte_at` meets its contract: past the end there is nothing. Assumes nothing.
+use borrow.Author.Rules.{rules}
+use mathlib.Core.Path.{sym}
+use lib.ListN.{get_or-eq_default}
+use native.Mathlib.Omega.{arith}
+use Rattle.polar_blocks.proofs.byte_at.Goals as goal
+
+pub returns-else-i-bytes : goal.returns-else-i-bytes
+returns-else-i-bytes c = sym (get_or-eq_default c.args.bytes.now 0 {n = c.args.i} (omega arith))

@@ -1,0 +1,61 @@
+-- `qjl_bits::bit_sum` meets its contract: the loop keeps `BytesAdded`, and the last byte or no bits serve the values that are left. Assumes nothing.
+use Prim.Native.Nat.{◌-◌, ◌/◌, ◌≤◌}
+use mathlib.Core.Logic.{⊎_elim}
+use native.Mathlib.Omega.{arith}
+use borrow.Author.Tests.{ltb-true, ltb-false}
+use lib.ListN.{length}
+use lib.Ieee.{of_bits}
+use Rattle.qjl_bits.proofs.Bits.{BytesAdded, bytes-start, bytes-turn, bytes-last, bytes-none}
+use Rattle.qjl_bits.proofs.bit_sum.Goals.{Then-k-packed-2}
+use Rattle.qjl_bits.proofs.bit_sum.Goals as goal
+
+-- where a byte is left, the loop was left for the values
+all : (c : goal.Then-k-packed-2) → length c.args.projected.now / 8 ≤ c.loop-k.k
+all c =
+    ⊎_elim (λ w. omega (arith, ltb-false c.loop-k.k (length c.args.packed.now) w.1.false, c.if-k-packed-2.true)) (λ w. w.false) c.loop-k-test.branch
+
+pub loop-k-init : goal.loop-k-init
+unfolding of_bits
+loop-k-init c = bytes-start c.args.packed.now c.args.projected.now
+
+pub bounds-packed-k : goal.bounds-packed-k
+bounds-packed-k c = ltb-true _ _ c.if-k-packed.true
+
+pub overflow_mul-k : goal.overflow_mul-k
+overflow_mul-k c = omega arith
+
+pub add_byte-sum-requires : goal.add_byte-sum-requires
+add_byte-sum-requires c = omega arith
+
+pub overflow_add-k : goal.overflow_add-k
+overflow_add-k c = omega arith
+
+pub loop-k-smaller : goal.loop-k-smaller
+loop-k-smaller c = omega arith
+
+pub loop-k-preserved : goal.loop-k-preserved
+loop-k-preserved c = let a = c.args in
+    bytes-turn a.packed.now a.projected.now c.loop-k.sum c.loop-k.k c.loop-k.invariant _ c.loop-k-test.true (ltb-true _ _ c.if-k-packed.true) c.add_byte-sum.ensures
+
+pub bounds-packed-k-then-k-packed-2 : goal.bounds-packed-k-then-k-packed-2
+bounds-packed-k-then-k-packed-2 c = omega arith
+
+pub overflow_mul-k-then-k-packed-2 : goal.overflow_mul-k-then-k-packed-2
+overflow_mul-k-then-k-packed-2 c = omega arith
+
+pub add_rest-requires : goal.add_rest-requires
+add_rest-requires c = omega arith
+
+pub returns-then-k-packed-2 : goal.returns-then-k-packed-2
+returns-then-k-packed-2 c = let a = c.args in
+    bytes-last a.packed.now a.projected.now c.loop-k.sum c.loop-k.k c.loop-k.invariant _ (all (goal.at.returns-then-k-packed-2 c).Then-k-packed-2) c.if-k-packed-2.true c.add_rest.ensures
+
+pub overflow_mul-k-2 : goal.overflow_mul-k-2
+overflow_mul-k-2 c = omega arith
+
+pub add_rest-requires-2 : goal.add_rest-requires-2
+add_rest-requires-2 c = omega arith
+
+pub returns : goal.returns
+returns c = let a = c.args in
+    bytes-none a.packed.now a.projected.now c.loop-k.sum c.loop-k.k c.loop-k.invariant _ c.if-k-packed-2.false c.add_rest-2.ensures

@@ -1,0 +1,15 @@
+-- `qjl_sums::block` meets its contract: the loop keeps what the sums have taken of the products that were placed. Assumes nothing.
+use Prim.Native.Nat.{◌+◌, ◌-◌, ◌≤◌, ◌<◌}
+use mathlib.Core.Path.{◌≡◌, refl}
+use native.Mathlib.Nat.{add-zero}
+use native.Mathlib.Omega.{arith}
+use lib.ListN.{length}
+use Rattle.qjl_sums.specs.Inner.{FourSoFar}
+use Rattle.qjl_sums.proofs.Fours.{four-placed}
+use Rattle.qjl_sums.proofs.block.Given as goal
+
+abbrev pub invariant-loop-i : goal.invariant-loop-i
+invariant-loop-i l = (l.i ≤ 16) × (FourSoFar l.matrix l.query l.upper (l.column + l.i) l.first × FourSoFar l.matrix l.query l.lower (l.column + l.i) l.second)
+
+abbrev pub decreases-loop-i : goal.decreases-loop-i
+decreases-loop-i l = 16 - l.i

@@ -1,0 +1,20 @@
+-- `qjl_sums::each_row` meets its contract: the loop keeps that the rows below `row` are through, and that what is left of the matrix starts with the next row. Assumes nothing.
+use Prim.Native.Nat.{ℕ, ◌-◌, ◌*◌, ◌≤◌, ◌<◌}
+use mathlib.Core.Path.{◌≡◌, sym, ap, ◌∙◌}
+use mathlib.Core.List.{List}
+use native.Mathlib.Nat.{zero-mul}
+use native.Mathlib.Omega.{arith}
+use lib.ListN.{length, drop}
+use lib.Ieee.{Float, nan}
+use Rattle.lists.specs.Inner.{Filled}
+use Rattle.lists.proofs.Loops.{filled-start, filled_more}
+use Rattle.rounding.specs.Sums.{dot}
+use Rattle.qjl_sums.specs.Inner.{on_row}
+use Rattle.qjl_sums.proofs.Rows.{drop-least, rows-through}
+use Rattle.qjl_sums.proofs.each_row.Given as goal
+
+abbrev pub invariant-loop-row : goal.invariant-loop-row
+invariant-loop-row l = (l.from ≤ length l.matrix) × ((drop l.from l.matrix ≡ drop (l.row * length l.query) l.matrix) × ((l.row ≤ length l.initial.out) × Filled nan (on_row (length l.query) l.matrix l.query) 0 l.row l.initial.out l.out))
+
+abbrev pub decreases-loop-row : goal.decreases-loop-row
+decreases-loop-row l = length l.initial.out - l.row

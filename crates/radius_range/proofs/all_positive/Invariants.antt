@@ -1,0 +1,16 @@
+-- `radius_range::all_positive` meets its contract, by the laws of `Sweep`. Assumes nothing.
+use Prim.Native.Nat.{◌-◌}
+use mathlib.Core.Logic.{⊎_elim}
+use native.Mathlib.Omega.{arith}
+use lib.ListN.{length}
+use lib.Ieee.{nan, of_bits}
+use borrow.Author.Rules.{scaled_Fits}
+use Rattle.error.proofs.Sweep.{Swept, swept-start, swept-pass, swept-spot, swept-end}
+use Rattle.radius_range.specs.Inner.{not_positive}
+use Rattle.radius_range.proofs.all_positive.Given as goal
+
+abbrev pub invariant-loop-i : goal.invariant-loop-i
+invariant-loop-i l = Swept not_positive l.radii l.i l.ok
+
+abbrev pub decreases-loop-i : goal.decreases-loop-i
+decreases-loop-i l = length l.radii - l.i

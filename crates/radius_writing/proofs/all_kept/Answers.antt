@@ -1,0 +1,62 @@
+-- `radius_writing::all_kept` meets its contract: a turn keeps `Flagged` of the radii as they are read back. Assumes nothing.
+use Prim.Native.Nat.{◌-◌}
+use mathlib.Core.Path.{◌≡◌, sym, ap, ◌∙◌}
+use mathlib.Core.Bool.{true, false, false≢true}
+use mathlib.Core.Logic.{⊎_elim}
+use native.Mathlib.Omega.{arith}
+use lib.ListN.{length, get_or}
+use lib.Ieee.{Float, nan, inf, lt, nan_bits, of_bits}
+use borrow.Author.Rules.{rules, scaled_Fits}
+use borrow.Author.Tests.{not-false}
+use Rattle.error.specs.Answer.{clear}
+use Rattle.float.specs.Constants.{pos_zero}
+use Rattle.radius.specs.Linear.{quantize_radius_of, radius_of}
+use Rattle.radius.specs.Radii.{bad_radius}
+use Rattle.radius.specs.declared.Range.{Range}
+use Rattle.radius.proofs.Passes.{Flagged, flagged-start, flagged-next, flagged-end}
+use Rattle.radius_writing.proofs.all_kept.Goals.{After-radius_of-kept, Joined-kept, Joined-not-kept}
+use Rattle.radius_writing.proofs.all_kept.Goals as goal
+
+-- what a radius is read back as, from a least radius and a span
+abbrev kept_of : Range → Float → Float → Float → Float
+kept_of range min span r = radius_of range (quantize_radius_of min span r)
+
+pub loop-i-init : goal.loop-i-init
+loop-i-init c = flagged-start (kept_of _ _ _) _
+
+pub offset_bounds-radii-i : goal.offset_bounds-radii-i
+offset_bounds-radii-i c = scaled_Fits _ _ 4 c.loop-i-test.true c.well_formed.0.1
+
+pub bounds-radii-i : goal.bounds-radii-i
+bounds-radii-i c = omega arith
+
+pub overflow_add-i : goal.overflow_add-i
+overflow_add-i c = omega arith
+
+pub loop-i-smaller : goal.loop-i-smaller
+loop-i-smaller c = omega arith
+
+-- what was judged is the radius at hand
+judged : (c : goal.After-radius_of-kept) → c.radius_of-kept.result ≡ kept_of c.args.range c.args.range.min c.span_of-span.result (get_or c.args.radii.now c.loop-i.i nan)
+judged c = c.radius_of-kept.ensures ∙ ap (radius_of _) c.quantize_radius-number.ensures
+
+-- a flag that stands after its test stood before it, and the test passed
+stands-above : (c : goal.Joined-kept) → c.if-kept.above ≡ true → (c.loop-i.above ≡ true) × (lt (kept_of c.args.range c.args.range.min c.span_of-span.result (get_or c.args.radii.now c.loop-i.i nan)) pos_zero ≡ false)
+unfolding of_bits
+stands-above c e = ⊎_elim (λ w. absurd (false≢true (sym w.1 ∙ e))) (λ w. (sym w.1 ∙ e, ap (λ (x : Float). lt x pos_zero) (sym (judged c)) ∙ w.0.false)) c.if-kept.branch
+
+stands-below : (c : goal.Joined-not-kept) → c.if-not-kept.below ≡ true → (c.loop-i.below ≡ true) × (lt (kept_of c.args.range c.args.range.min c.span_of-span.result (get_or c.args.radii.now c.loop-i.i nan)) (inf false) ≡ true)
+unfolding of_bits
+stands-below c e = ⊎_elim (λ w. absurd (false≢true (sym w.1 ∙ e))) (λ w. (sym w.1 ∙ e, ap (λ (x : Float). lt x (inf false)) (sym (judged c)) ∙ not-false _ w.0.false)) c.if-not-kept.branch
+
+pub loop-i-preserved : goal.loop-i-preserved
+loop-i-preserved c = flagged-next (kept_of _ _ _) _ _ _ _ _ _ c.loop-i-test.true (stands-above (goal.at.loop-i-preserved c).Joined-kept) (stands-below (goal.at.loop-i-preserved c).Joined-not-kept) c.loop-i.invariant
+
+pub returns-then-above : goal.returns-then-above
+returns-then-above c = λ e.
+    let a = c.args in
+    ap (λ (span : Float). clear (λ r. bad_radius (kept_of a.range a.range.min span r)) a.radii.now) (sym c.span_of-span.ensures)
+    ∙ flagged-end (kept_of _ _ _) _ _ _ _ c.loop-i-test.false c.loop-i.invariant c.if-above.true e
+
+pub returns-else-above : goal.returns-else-above
+returns-else-above c = λ e. absurd (false≢true (sym c.if-above.false ∙ e))

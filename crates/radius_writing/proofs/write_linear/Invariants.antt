@@ -1,0 +1,19 @@
+-- `radius_writing::write_linear` meets its contract: a turn writes the two bytes of one radius. Assumes nothing.
+use Prim.Native.Nat.{ℕ, ◌-◌}
+use mathlib.Core.List.{List, flat_map}
+use lib.ListN.{length}
+use lib.Ieee.{Float, nan}
+use mathlib.Core.Path.{sym, ap, ◌∙◌}
+use borrow.Author.Rules.{rules, scaled_Fits}
+use Rattle.digits.specs.Digits.{digits}
+use Rattle.digits.proofs.Laws.{length_digits}
+use Rattle.radius.specs.Linear.{quantize_radius_of, linear_bytes}
+use Rattle.lists.proofs.Loops.{Written, written_start, written_next, written-end, place-within}
+use native.Mathlib.Omega.{arith}
+use Rattle.radius_writing.proofs.write_linear.Given as goal
+
+abbrev pub invariant-loop-i : goal.invariant-loop-i
+invariant-loop-i l = Written (pair l.min l.span) 2 l.radii l.out l.i l.at
+
+abbrev pub decreases-loop-i : goal.decreases-loop-i
+decreases-loop-i l = length l.radii - l.i

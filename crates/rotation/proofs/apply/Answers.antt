@@ -1,0 +1,36 @@
+-- `rotation::apply` answers `apply_of`: after the checks it flips the signs into the output and transforms it there,
+-- and a refusal leaves the output as it was. Assumes nothing.
+use borrow.Author.Rules.{rules}
+use mathlib.Core.Path.{◌≡◌, sym, ap, ◌∙◌}
+use lib.ListN.{length}
+use Rattle.error.specs.Answer.{first, accepted}
+use Rattle.error.specs.Outcomes.{says}
+use Rattle.error.proofs.Answers.{both-refused, both-value}
+use Rattle.rotation.specs.Checks.{rotation_checks}
+use Rattle.rotation.specs.Rotation.{hadamard_of, rotated}
+use Rattle.rotation.proofs.Accepted.{Rotatable, rotatable}
+use Rattle.rotation.proofs.Applied.{applied-refused, applied-value}
+use Rattle.rotation.proofs.apply.Goals.{In_default}
+use Rattle.rotation.proofs.apply.Goals as goal
+
+-- what the check leaves, where it is done
+passed : (c : goal.In_default) → first (rotation_checks c.args.dim c.args.signs.now (length c.args.input.now) (length c.args.output.now)) accepted ≡ accepted
+passed c = sym c.check-checked.ensures ∙ ap says c.in_default.is
+
+fit : (c : goal.In_default) → Rotatable c.args.dim c.args.signs.now (length c.args.input.now) (length c.args.output.now)
+fit c = rotatable _ _ _ _ (passed c)
+
+pub returns-in-Refused : goal.returns-in-Refused
+returns-in-Refused c = both-refused _ _ (applied-refused _ _ _ _ (sym c.check-checked.ensures ∙ ap says c.in-Refused.is))
+
+pub flip_into-requires : goal.flip_into-requires
+flip_into-requires c = let f = fit (goal.at.flip_into-requires c).In_default in
+    (f.signs_long ∙ sym f.input_long, f.output_long ∙ sym f.input_long)
+
+pub hadamard-requires : goal.hadamard-requires
+hadamard-requires c = let f = fit (goal.at.hadamard-requires c).In_default in
+    record { bit = f.power.bit; small = f.power.small; whole = c.flip_into.auto.output ∙ f.output_long }
+
+pub returns : goal.returns
+unfolding rotated
+returns c = both-value _ _ _ (applied-value _ _ _ _ (passed (goal.at.returns c).In_default)) (c.hadamard.ensures ∙ ap (hadamard_of c.args.dim) c.flip_into.ensures)

@@ -1,0 +1,36 @@
+-- `rotation::apply_inverse` answers `apply_inverse_of`: after the checks it copies the input and turns it back in the output, and a refusal leaves the output
+-- as it was. Assumes nothing.
+use borrow.Author.Rules.{rules}
+use mathlib.Core.Path.{◌≡◌, sym, ap, ◌∙◌}
+use lib.ListN.{length}
+use Rattle.float.proofs.Copying.{copy_into-same}
+use Rattle.error.specs.Answer.{first, accepted}
+use Rattle.error.specs.Outcomes.{says}
+use Rattle.error.proofs.Answers.{both-refused, both-value}
+use Rattle.rotation.specs.Checks.{rotation_checks}
+use Rattle.rotation.specs.Rotation.{unrotated}
+use Rattle.rotation.proofs.Accepted.{Rotatable, rotatable}
+use Rattle.rotation.proofs.Applied.{inverse-refused, inverse-value}
+use Rattle.rotation.proofs.apply_inverse.Goals.{In_default}
+use Rattle.rotation.proofs.apply_inverse.Goals as goal
+
+-- what the check leaves, where it is done
+passed : (c : goal.In_default) → first (rotation_checks c.args.dim c.args.signs.now (length c.args.input.now) (length c.args.output.now)) accepted ≡ accepted
+passed c = sym c.check-checked.ensures ∙ ap says c.in_default.is
+
+fit : (c : goal.In_default) → Rotatable c.args.dim c.args.signs.now (length c.args.input.now) (length c.args.output.now)
+fit c = rotatable _ _ _ _ (passed c)
+
+pub returns-in-Refused : goal.returns-in-Refused
+returns-in-Refused c = both-refused _ _ (inverse-refused _ _ _ _ (sym c.check-checked.ensures ∙ ap says c.in-Refused.is))
+
+pub turn_back-requires : goal.turn_back-requires
+turn_back-requires c = let f = fit (goal.at.turn_back-requires c).In_default in
+    let long = c.copy_into.auto.output ∙ f.output_long in
+    (record { bit = f.power.bit; small = f.power.small; whole = long }, f.signs_long ∙ sym long)
+
+pub returns : goal.returns
+returns c = let a = c.args in
+    let f = fit (goal.at.returns c).In_default in
+    let copied = c.copy_into.ensures ∙ copy_into-same a.input.now a.output.now (f.input_long ∙ sym f.output_long) in
+    both-value _ _ _ (inverse-value _ _ _ _ (passed (goal.at.returns c).In_default)) (c.turn_back.ensures ∙ ap (unrotated a.dim a.signs.now) copied)

@@ -1,0 +1,36 @@
+-- `rotation_stored::check` answers the first check of a stored rotation that fails: those of the dimension and the matrix, then those of the two lengths. Assumes nothing.
+use borrow.Author.Rules.{rules}
+use mathlib.Core.Path.{◌≡◌, sym, ap, ◌∙◌}
+use mathlib.Core.List.{[], ◌∷◌}
+use borrow.Author.Tests.{eq-eqb, ne_eqb}
+use Rattle.error.specs.Answer.{first, accepted}
+use Rattle.error.specs.Outcomes.{says}
+use Rattle.error.specs.Checks.{wrong_input, wrong_room}
+use Rattle.error.proofs.Chains.{append-passed, append-refused}
+use Rattle.rotation_stored.specs.Checks.{matrix_checks, stored_checks}
+use Rattle.rotation_stored.proofs.check.Goals.{In_default}
+use Rattle.rotation_stored.proofs.check.Goals as goal
+
+pub returns-in-Refused : goal.returns-in-Refused
+returns-in-Refused c = let a = c.args in
+    sym
+    (append-refused (matrix_checks a.dim a.matrix.now) (wrong_input a.input a.dim ∷ wrong_room a.output a.dim ∷ []) tt accepted
+    (sym c.check_matrix-held.ensures ∙ ap says c.in-Refused.is))
+
+-- what the checks of the dimension and the matrix leave, where they pass
+rest : (c : goal.In_default)
+    → let a = c.args in
+    first (stored_checks a.dim a.matrix.now a.input a.output) accepted ≡ first (wrong_input a.input a.dim ∷ wrong_room a.output a.dim ∷ []) accepted
+rest c =
+    let a = c.args in
+    append-passed (matrix_checks a.dim a.matrix.now) (wrong_input a.input a.dim ∷ wrong_room a.output a.dim ∷ []) tt accepted
+    (sym c.check_matrix-held.ensures ∙ ap says c.in_default.is)
+
+pub returns-then-input-dim : goal.returns-then-input-dim
+returns-then-input-dim c = sym (rest (goal.at.returns-then-input-dim c).In_default ∙ simp (ne_eqb _ _ c.if-input-dim.true))
+
+pub returns-then-output-dim : goal.returns-then-output-dim
+returns-then-output-dim c = sym (rest (goal.at.returns-then-output-dim c).In_default ∙ simp (eq-eqb _ _ c.if-input-dim.false, ne_eqb _ _ c.if-output-dim.true))
+
+pub returns : goal.returns
+returns c = sym (rest (goal.at.returns c).In_default ∙ simp (eq-eqb _ _ c.if-input-dim.false, eq-eqb _ _ c.if-output-dim.false))
