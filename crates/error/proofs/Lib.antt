@@ -5,3 +5,4 @@ pub mod Sweep
 pub mod Finite
 pub mod Differs
 pub mod AtOnce
+pub mod Clauses

@@ -46,8 +46,8 @@ pub fn dequantize_angle(bits: u8, index: u16) -> Angle
 // The pairs of a code before the inverse rotation: r × c and r × s of each, into the output.
 // A direction or an index that is missing counts as in `polar_sum`.
 pub fn polar_pairs(directions: &[f32], indices: &[u16], radii: &[f32], out: &mut [f32]) -> Outcome
-    ensures result_value { says result ≡ done (polar_pairs_of directions.now indices.now radii.now (length out.old)) }
-    ensures out_after { out.new ≡ after (polar_pairs_of directions.now indices.now radii.now (length out.old)) out.old }
+    ensures said { says result ≡ done (polar_pairs_of directions.now indices.now radii.now (length out.old)) }
+    ensures left { out.new ≡ after (polar_pairs_of directions.now indices.now radii.now (length out.old)) out.old }
 {
     let needed = 2 * radii.len();
     if out.len() != needed {

@@ -12,8 +12,8 @@ use error::{DIMENSION_MISMATCH, Outcome};
 
 // The query projected on the rows of the matrix, one for each value of the output.
 pub fn project(dim: usize, matrix: &[f32], query: &[f32], out: &mut [f32]) -> Outcome
-    ensures result_value { says result ≡ done (project_of dim matrix.now query.now (length out.old)) }
-    ensures out_after { out.new ≡ after (project_of dim matrix.now query.now (length out.old)) out.old }
+    ensures said { says result ≡ done (project_of dim matrix.now query.now (length out.old)) }
+    ensures left { out.new ≡ after (project_of dim matrix.now query.now (length out.old)) out.old }
 {
     if query.len() != dim {
         return Outcome::Refused {

@@ -24,8 +24,8 @@ pub fn sketch(
     vector: &[f32],
     out: &mut [i8],
 ) -> Outcome
-    ensures result_value { says result ≡ done (sketch_of setup (lent rotation.now directions.now matrix.now) vector.now (length out.old)) }
-    ensures out_after { out.new ≡ after (sketch_of setup (lent rotation.now directions.now matrix.now) vector.now (length out.old)) out.old }
+    ensures said { says result ≡ done (sketch_of setup (lent rotation.now directions.now matrix.now) vector.now (length out.old)) }
+    ensures left { out.new ≡ after (sketch_of setup (lent rotation.now directions.now matrix.now) vector.now (length out.old)) out.old }
 {
     if sketch_at_once(setup, rotation, directions, matrix, vector, out) {
         return Outcome::Done;
@@ -72,8 +72,8 @@ fn sketch_checked(
     vector: &[f32],
     out: &mut [i8],
 ) -> Outcome
-    ensures result_value { says result ≡ done (sketch_of setup (lent rotation.now directions.now matrix.now) vector.now (length out.old)) }
-    ensures out_after { out.new ≡ after (sketch_of setup (lent rotation.now directions.now matrix.now) vector.now (length out.old)) out.old }
+    ensures said { says result ≡ done (sketch_of setup (lent rotation.now directions.now matrix.now) vector.now (length out.old)) }
+    ensures left { out.new ≡ after (sketch_of setup (lent rotation.now directions.now matrix.now) vector.now (length out.old)) out.old }
 {
     let checked = qjl::check_vector(setup, rotation, directions, matrix, vector);
     if let Outcome::Refused { number, place } = checked {

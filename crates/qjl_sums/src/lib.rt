@@ -188,8 +188,8 @@ fn products(
     z: &mut [f32; 32],
 )
     requires { ((column + 16 ≤ length query.now) × (from + 4 * length query.now ≤ length matrix.now)) × ((length y.old ≡ 32) × (length z.old ≡ 32)) }
-    ensures interleaved { Interleaved matrix.now query.now (from + length query.now) from column 16 y.new }
-    ensures interleaved_2 { Interleaved matrix.now query.now (from + length query.now + length query.now) (from + length query.now + length query.now + length query.now) column 16 z.new }
+    ensures second { Interleaved matrix.now query.now (from + length query.now) from column 16 y.new }
+    ensures third { Interleaved matrix.now query.now (from + length query.now + length query.now) (from + length query.now + length query.now + length query.now) column 16 z.new }
 {
     let columns = query.len();
     let second = from + columns;

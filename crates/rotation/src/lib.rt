@@ -48,8 +48,8 @@ pub fn first_bad_sign(signs: &[f32]) -> usize
 
 // The rotation of the input into the output: signs, butterflies, scale.
 pub fn apply(dim: usize, signs: &[f32], input: &[f32], output: &mut [f32]) -> Outcome
-    ensures result_value { says result ≡ done (apply_of dim signs.now input.now (length output.old)) }
-    ensures output_after { output.new ≡ after (apply_of dim signs.now input.now (length output.old)) output.old }
+    ensures said { says result ≡ done (apply_of dim signs.now input.now (length output.old)) }
+    ensures left { output.new ≡ after (apply_of dim signs.now input.now (length output.old)) output.old }
 {
     let checked = check(dim, signs, input.len(), output.len());
     if let Outcome::Refused { number, place } = checked {
@@ -62,8 +62,8 @@ pub fn apply(dim: usize, signs: &[f32], input: &[f32], output: &mut [f32]) -> Ou
 
 // The inverse rotation of the input into the output: butterflies, scale, signs.
 pub fn apply_inverse(dim: usize, signs: &[f32], input: &[f32], output: &mut [f32]) -> Outcome
-    ensures result_value { says result ≡ done (apply_inverse_of dim signs.now input.now (length output.old)) }
-    ensures output_after { output.new ≡ after (apply_inverse_of dim signs.now input.now (length output.old)) output.old }
+    ensures said { says result ≡ done (apply_inverse_of dim signs.now input.now (length output.old)) }
+    ensures left { output.new ≡ after (apply_inverse_of dim signs.now input.now (length output.old)) output.old }
 {
     let checked = check(dim, signs, input.len(), output.len());
     if let Outcome::Refused { number, place } = checked {
@@ -76,8 +76,8 @@ pub fn apply_inverse(dim: usize, signs: &[f32], input: &[f32], output: &mut [f32
 
 // The inverse rotation of the values, in place.
 pub fn apply_inverse_within(dim: usize, signs: &[f32], values: &mut [f32]) -> Outcome
-    ensures result_value { says result ≡ done (apply_inverse_of dim signs.now values.old (length values.old)) }
-    ensures values_after { values.new ≡ after (apply_inverse_of dim signs.now values.old (length values.old)) values.old }
+    ensures said { says result ≡ done (apply_inverse_of dim signs.now values.old (length values.old)) }
+    ensures left { values.new ≡ after (apply_inverse_of dim signs.now values.old (length values.old)) values.old }
 {
     let checked = check(dim, signs, values.len(), values.len());
     if let Outcome::Refused { number, place } = checked {

@@ -28,8 +28,8 @@ pub fn outside_stored(dim: usize) -> bool
 
 // The rotation of the input into the output: for each row of the matrix, the sum of its entries times the input's.
 pub fn apply(dim: usize, matrix: &[f32], input: &[f32], output: &mut [f32]) -> Outcome
-    ensures result_value { says result ≡ done (stored_apply_of dim matrix.now input.now (length output.old)) }
-    ensures output_after { output.new ≡ after (stored_apply_of dim matrix.now input.now (length output.old)) output.old }
+    ensures said { says result ≡ done (stored_apply_of dim matrix.now input.now (length output.old)) }
+    ensures left { output.new ≡ after (stored_apply_of dim matrix.now input.now (length output.old)) output.old }
 {
     if apply_at_once(dim, matrix, input, output) {
         return Outcome::Done;
@@ -39,8 +39,8 @@ pub fn apply(dim: usize, matrix: &[f32], input: &[f32], output: &mut [f32]) -> O
 
 // The inverse rotation of the input into the output: for each column of the matrix, the sum of its entries times the input's.
 pub fn apply_inverse(dim: usize, matrix: &[f32], input: &[f32], output: &mut [f32]) -> Outcome
-    ensures result_value { says result ≡ done (stored_apply_inverse_of dim matrix.now input.now (length output.old)) }
-    ensures output_after { output.new ≡ after (stored_apply_inverse_of dim matrix.now input.now (length output.old)) output.old }
+    ensures said { says result ≡ done (stored_apply_inverse_of dim matrix.now input.now (length output.old)) }
+    ensures left { output.new ≡ after (stored_apply_inverse_of dim matrix.now input.now (length output.old)) output.old }
 {
     if inverse_at_once(dim, matrix, input, output) {
         return Outcome::Done;
@@ -71,8 +71,8 @@ fn inverse_at_once(dim: usize, matrix: &[f32], input: &[f32], output: &mut [f32]
 
 // The rotation, check by check.
 fn apply_checked(dim: usize, matrix: &[f32], input: &[f32], output: &mut [f32]) -> Outcome
-    ensures result_value { says result ≡ done (stored_apply_of dim matrix.now input.now (length output.old)) }
-    ensures output_after { output.new ≡ after (stored_apply_of dim matrix.now input.now (length output.old)) output.old }
+    ensures said { says result ≡ done (stored_apply_of dim matrix.now input.now (length output.old)) }
+    ensures left { output.new ≡ after (stored_apply_of dim matrix.now input.now (length output.old)) output.old }
 {
     let checked = check(dim, matrix, input.len(), output.len());
     if let Outcome::Refused { number, place } = checked {
@@ -84,8 +84,8 @@ fn apply_checked(dim: usize, matrix: &[f32], input: &[f32], output: &mut [f32]) 
 
 // The inverse rotation, check by check.
 fn inverse_checked(dim: usize, matrix: &[f32], input: &[f32], output: &mut [f32]) -> Outcome
-    ensures result_value { says result ≡ done (stored_apply_inverse_of dim matrix.now input.now (length output.old)) }
-    ensures output_after { output.new ≡ after (stored_apply_inverse_of dim matrix.now input.now (length output.old)) output.old }
+    ensures said { says result ≡ done (stored_apply_inverse_of dim matrix.now input.now (length output.old)) }
+    ensures left { output.new ≡ after (stored_apply_inverse_of dim matrix.now input.now (length output.old)) output.old }
 {
     let checked = check(dim, matrix, input.len(), output.len());
     if let Outcome::Refused { number, place } = checked {

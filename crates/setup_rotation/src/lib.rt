@@ -15,8 +15,8 @@ use setup::{RotationKind, Setup};
 
 // The rotation of the input into the output.
 pub fn rotate(setup: Setup, entries: &[f32], input: &[f32], output: &mut [f32]) -> Outcome
-    ensures result_value { says result ≡ done (rotate_of setup entries.now input.now (length output.old)) }
-    ensures output_after { output.new ≡ after (rotate_of setup entries.now input.now (length output.old)) output.old }
+    ensures said { says result ≡ done (rotate_of setup entries.now input.now (length output.old)) }
+    ensures left { output.new ≡ after (rotate_of setup entries.now input.now (length output.old)) output.old }
 {
     let kind = setup.kind;
     match kind {
@@ -27,8 +27,8 @@ pub fn rotate(setup: Setup, entries: &[f32], input: &[f32], output: &mut [f32]) 
 
 // The inverse rotation of the input into the output.
 pub fn rotate_back(setup: Setup, entries: &[f32], input: &[f32], output: &mut [f32]) -> Outcome
-    ensures result_value { says result ≡ done (rotate_back_of setup entries.now input.now (length output.old)) }
-    ensures output_after { output.new ≡ after (rotate_back_of setup entries.now input.now (length output.old)) output.old }
+    ensures said { says result ≡ done (rotate_back_of setup entries.now input.now (length output.old)) }
+    ensures left { output.new ≡ after (rotate_back_of setup entries.now input.now (length output.old)) output.old }
 {
     let kind = setup.kind;
     match kind {
@@ -39,8 +39,8 @@ pub fn rotate_back(setup: Setup, entries: &[f32], input: &[f32], output: &mut [f
 
 // The inverse rotation of the values, in place.
 pub fn rotate_back_within(setup: Setup, entries: &[f32], values: &mut [f32]) -> Outcome
-    ensures result_value { says result ≡ done (rotate_back_of setup entries.now values.old (length values.old)) }
-    ensures values_after { values.new ≡ after (rotate_back_of setup entries.now values.old (length values.old)) values.old }
+    ensures said { says result ≡ done (rotate_back_of setup entries.now values.old (length values.old)) }
+    ensures left { values.new ≡ after (rotate_back_of setup entries.now values.old (length values.old)) values.old }
 {
     let kind = setup.kind;
     match kind {
@@ -51,8 +51,8 @@ pub fn rotate_back_within(setup: Setup, entries: &[f32], values: &mut [f32]) -> 
 
 // The inverse of a stored rotation, in place: summed into room of its own, and copied back.
 fn stored_within(dim: usize, matrix: &[f32], values: &mut [f32]) -> Outcome
-    ensures result_value { says result ≡ done (stored_apply_inverse_of dim matrix.now values.old (length values.old)) }
-    ensures values_after { values.new ≡ after (stored_apply_inverse_of dim matrix.now values.old (length values.old)) values.old }
+    ensures said { says result ≡ done (stored_apply_inverse_of dim matrix.now values.old (length values.old)) }
+    ensures left { values.new ≡ after (stored_apply_inverse_of dim matrix.now values.old (length values.old)) values.old }
 {
     let room = room_for(values.len());
     let mut sums = zeros();

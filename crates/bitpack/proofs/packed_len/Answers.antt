@@ -9,12 +9,12 @@ use Rattle.bitpack.proofs.packed_len.Goals as goal
 
 pub returns-then-bits-lt1 : goal.returns-then-bits-lt1
 unfolding packed_len_of
-returns-then-bits-lt1 c = ⊎_elim (λ w. simp (lt-ltb _ _ w.true)) (λ w. simp (le-ltb _ _ w.0.false, w.1.true)) c.then-bits-lt1.branch
+returns-then-bits-lt1 c = ⊎_elim (λ w. simp (lt-ltb c.args.bits 1 w)) (λ w. simp (le-ltb c.args.bits 1 w.0, lt-ltb 16 c.args.bits w.1)) c.then-bits-lt1.either
 
 pub returns-then-width-count : goal.returns-then-width-count
 unfolding packed_len_of
 returns-then-width-count c = let a = c.args in
-    simp (le-ltb _ _ c.if-bits-lt1.false, c.if-bits-gt16.false, lt-ltb _ _ (product-exceeds a.count a.bits c.if-bits-lt1.false c.if-width-count.true))
+    simp (le-ltb _ _ c.if-bits-lt1.false, le-ltb _ _ c.if-bits-gt16.false, lt-ltb _ _ (product-exceeds a.count a.bits c.if-bits-lt1.false c.if-width-count.true))
 
 pub overflow_mul-total : goal.overflow_mul-total
 overflow_mul-total c = let a = c.args in
@@ -27,4 +27,4 @@ overflow_add-result-2 c = let a = c.args in
 pub returns : goal.returns
 unfolding packed_len_of
 returns c = let a = c.args in
-    simp (le-ltb _ _ c.if-bits-lt1.false, c.if-bits-gt16.false, le-ltb _ _ (product-fits a.count a.bits c.if-bits-lt1.false c.if-width-count.false), rounded-up)
+    simp (le-ltb _ _ c.if-bits-lt1.false, le-ltb _ _ c.if-bits-gt16.false, le-ltb _ _ (product-fits a.count a.bits c.if-bits-lt1.false c.if-width-count.false), rounded-up)

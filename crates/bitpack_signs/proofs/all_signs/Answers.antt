@@ -9,6 +9,7 @@ use lib.ListN.{length}
 use Rattle.bitpack.specs.Signs.{bad_sketch_sign}
 use Rattle.error.proofs.Sweep.{swept-start, swept-pass, swept-spot, swept-end, Swept}
 use Rattle.bitpack_signs.proofs.Signs.{signed-at}
+use Rattle.bitpack_signs.proofs.all_signs.Goals.{else-stray-ne0, then-stray-ne0}
 use Rattle.bitpack_signs.proofs.all_signs.Goals as goal
 
 pub loop-i-init : goal.loop-i-init
@@ -39,10 +40,7 @@ pub loop-i-preserved : goal.loop-i-preserved
 loop-i-preserved c = let a = c.args in
     let s = c.loop-i in
     let judged = c.stray.ensures ∙ ap (λ (z : ℤ). cond (bad_sketch_sign z) 1 0) (signed-at a.signs.now s.i c.stray-arg-1.given) in
-    ⊎_elim
-    (λ w. rw w.1 (swept-spot bad_sketch_sign a.signs.now s.i s.ok (pos 0) (omega arith) (stray-one _ (rw judged at w.0.true)) s.invariant))
-    (λ w. rw w.1 (swept-pass bad_sketch_sign a.signs.now s.i s.ok (pos 0) (omega arith) (stray-none _ (sym judged ∙ w.0.false)) s.invariant))
-    c.if-stray-ne0.branch
+    elim c.if-stray-ne0.branch [ then-stray-ne0 w ↦ rw w.ok-is (swept-spot bad_sketch_sign a.signs.now s.i s.ok (pos 0) (omega arith) (stray-one _ (rw judged at w.if-stray-ne0.true)) s.invariant) | else-stray-ne0 w ↦ rw w.ok-is (swept-pass bad_sketch_sign a.signs.now s.i s.ok (pos 0) (omega arith) (stray-none _ (sym judged ∙ w.if-stray-ne0.false)) s.invariant) ]
 
 pub returns : goal.returns
 returns c = swept-end bad_sketch_sign _ _ _ (omega arith) c.loop-i.invariant

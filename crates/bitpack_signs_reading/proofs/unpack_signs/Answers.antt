@@ -4,16 +4,17 @@ use Rattle.error.specs.Outcomes.{says}
 use Rattle.error.proofs.Answers.{both-refused, both-value}
 use Rattle.bitpack_signs_reading.proofs.SignAnswers.{unpack_signs-padded, unpack-signs-no-room, unpack-signs-value, unpack-signs-enough}
 use borrow.Author.Rules.{rules}
+use Rattle.error.proofs.Clauses.{said_left}
 use Rattle.bitpack_signs_reading.proofs.unpack_signs.Goals as goal
 
 pub returns-in-Refused : goal.returns-in-Refused
-returns-in-Refused c = both-refused _ _ (unpack_signs-padded _ _ _ (sym c.validate_padding_zero.ensures ∙ ap says c.in-Refused.is))
+returns-in-Refused c = said_left (both-refused _ _ (unpack_signs-padded _ _ _ (sym c.validate_padding_zero.ensures ∙ ap says c.in-Refused.is)))
 
 pub returns-then-out-count : goal.returns-then-out-count
-returns-then-out-count c = both-refused _ _ (unpack-signs-no-room _ _ _ (sym c.validate_padding_zero.ensures ∙ ap says c.in_default.is) c.if-out-count.true)
+returns-then-out-count c = said_left (both-refused _ _ (unpack-signs-no-room _ _ _ (sym c.validate_padding_zero.ensures ∙ ap says c.in_default.is) c.if-out-count.true))
 
 pub unpack_sign_bytes-requires : goal.unpack_sign_bytes-requires
 unpack_sign_bytes-requires c = unpack-signs-enough _ _ _ (sym c.validate_padding_zero.ensures ∙ ap says c.in_default.is) c.if-out-count.false
 
 pub returns : goal.returns
-returns c = both-value _ _ _ (unpack-signs-value _ _ _ (sym c.validate_padding_zero.ensures ∙ ap says c.in_default.is) c.if-out-count.false) c.unpack_sign_bytes.ensures
+returns c = said_left (both-value _ _ _ (unpack-signs-value _ _ _ (sym c.validate_padding_zero.ensures ∙ ap says c.in_default.is) c.if-out-count.false) c.unpack_sign_bytes.ensures)

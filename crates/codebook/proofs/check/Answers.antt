@@ -7,17 +7,14 @@ use Rattle.codebook.proofs.check.Goals as goal
 
 pub returns-then-bits-lt1 : goal.returns-then-bits-lt1
 unfolding check_of
-returns-then-bits-lt1 c = ⊎_elim (λ w. simp (lt-ltb _ _ w.true)) (λ w. simp (le-ltb _ _ w.0.false, w.1.true)) c.then-bits-lt1.branch
+returns-then-bits-lt1 c = ⊎_elim (λ w. simp (lt-ltb _ _ w)) (λ w. simp (le-ltb _ _ w.0, w.1)) c.then-bits-lt1.either
 
 pub returns-then-not-is_finite : goal.returns-then-not-is_finite
 unfolding check_of
 returns-then-not-is_finite c = simp (le-ltb _ _ c.if-bits-lt1.false, c.if-bits-gt16.false, ← c.is_finite.ensures)
-    (⊎_elim
-    (λ w. simp w.true)
-    (⊎_elim
-    (λ w. simp (w.0.false, ← w.1.ensures, w.2.true))
-    (λ w. simp (w.0.false, ← w.1.ensures, w.2.false, w.3.true)))
-    c.then-not-is_finite.branch)
+    (⊎_elim (λ w. simp w) (λ w. ⊎_elim
+    (λ w. simp (w.0, ← w.1.ensures, w.2.true))
+    (λ w. simp (w.0, ← w.1.ensures, w.2.false, w.3.true))) c.then-not-is_finite.either)
 
 pub returns : goal.returns
 unfolding check_of

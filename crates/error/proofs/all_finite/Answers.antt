@@ -10,6 +10,7 @@ use lib.Ieee.{nan}
 use Rattle.error.specs.Checks.{bad_value}
 use Rattle.error.proofs.Sweep.{swept-start, swept-pass, swept-spot, swept-end, Swept}
 use Rattle.error.proofs.Finite.{finite-passes, not-finite-offends}
+use Rattle.error.proofs.all_finite.Goals.{else-not-is_finite, then-not-is_finite}
 use Rattle.error.proofs.all_finite.Goals as goal
 
 pub loop-i-init : goal.loop-i-init
@@ -31,10 +32,7 @@ pub loop-i-smaller : goal.loop-i-smaller
 loop-i-smaller c = omega arith
 
 pub loop-i-preserved : goal.loop-i-preserved
-loop-i-preserved c = ⊎_elim
-    (λ w. rw w.1 (swept-spot bad_value _ _ _ nan (omega arith) (not-finite-offends _ (sym c.is_finite.ensures ∙ not-true _ w.0.true)) c.loop-i.invariant))
-    (λ w. rw w.1 (swept-pass bad_value _ _ _ nan (omega arith) (finite-passes _ (sym c.is_finite.ensures ∙ not-false _ w.0.false)) c.loop-i.invariant))
-    c.if-not-is_finite.branch
+loop-i-preserved c = elim c.if-not-is_finite.branch [ then-not-is_finite w ↦ rw w.ok-is (swept-spot bad_value _ _ _ nan (omega arith) (not-finite-offends _ (sym c.is_finite.ensures ∙ w.if-not-is_finite.true)) c.loop-i.invariant) | else-not-is_finite w ↦ rw w.ok-is (swept-pass bad_value _ _ _ nan (omega arith) (finite-passes _ (sym c.is_finite.ensures ∙ w.if-not-is_finite.false)) c.loop-i.invariant) ]
 
 pub returns : goal.returns
 returns c = swept-end bad_value _ _ _ (omega arith) c.loop-i.invariant

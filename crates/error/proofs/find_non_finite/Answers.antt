@@ -25,7 +25,7 @@ pub is_finite-requires : goal.is_finite-requires
 is_finite-requires c = tt
 
 pub returns-then-not-is_finite : goal.returns-then-not-is_finite
-returns-then-not-is_finite c = sym (place_here bad_value _ _ nan (omega arith) (not-finite-offends _ (sym c.is_finite.ensures ∙ not-true _ c.if-not-is_finite.true)) c.loop-i.invariant.1)
+returns-then-not-is_finite c = sym (place_here bad_value _ _ nan (omega arith) (not-finite-offends _ (sym c.is_finite.ensures ∙ c.if-not-is_finite.true)) c.loop-i.invariant.1)
 
 pub overflow_add-i : goal.overflow_add-i
 overflow_add-i c = omega arith
@@ -34,7 +34,7 @@ pub loop-i-smaller : goal.loop-i-smaller
 loop-i-smaller c = omega arith
 
 pub loop-i-preserved : goal.loop-i-preserved
-loop-i-preserved c = (omega arith, place-skip bad_value _ _ nan (omega arith) (finite-passes _ (sym c.is_finite.ensures ∙ not-false _ c.if-not-is_finite.false)) c.loop-i.invariant.1)
+loop-i-preserved c = (omega arith, place-skip bad_value _ _ nan (omega arith) (finite-passes _ (sym c.is_finite.ensures ∙ c.if-not-is_finite.false)) c.loop-i.invariant.1)
 
 pub returns : goal.returns
 returns c = sym (place_end bad_value _ _ (omega arith) c.loop-i.invariant.1)

@@ -2,12 +2,12 @@
 use Rattle.std.proofs.Common.{◌≡◌, Bool, true, false, cond, sym, ap, ◌∙◌, ⊎_elim}
 use lib.Ieee.{Float, lt}
 use Rattle.float.specs.Rounding.{clamped}
-use Rattle.float.proofs.clamp.Goals.{Joined-x-min}
+use Rattle.float.proofs.clamp.Goals.{Joined-x-min, else-x-min, then-x-min}
 use Rattle.float.proofs.clamp.Goals as goal
 
 -- where the first test's arms meet
 raised : (c : goal.Joined-x-min) → let a = c.args in c.if-x-min.y ≡ cond (lt a.x a.min) a.min a.x
-raised c = ⊎_elim (λ w. simp w.0.true w.1) (λ w. simp w.0.false w.1) c.if-x-min.branch
+raised c = elim c.if-x-min.branch [ then-x-min w ↦ simp w.if-x-min.true w.y-is | else-x-min w ↦ simp w.if-x-min.false w.y-is ]
 
 clamped-by : (lo hi x y : Float) (b : Bool) → y ≡ cond (lt x lo) lo x → lt hi y ≡ b → cond b hi y ≡ clamped lo hi x
 unfolding clamped

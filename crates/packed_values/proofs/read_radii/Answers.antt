@@ -4,14 +4,15 @@ use Rattle.error.proofs.Answers.{both-refused, both-withdrawn}
 use Rattle.packed.specs.Reading.{says_reading}
 use Rattle.packed_values.proofs.Values.{both-as, radii_at-read, radii_refused, radii-withdrawn}
 use borrow.Author.Rules.{rules}
+use Rattle.error.proofs.Clauses.{said_left}
 use Rattle.packed_values.proofs.read_radii.Goals as goal
 
 pub returns-in-Read : goal.returns-in-Read
-returns-in-Read c = let a = c.args in
-    both-as a.out.now (radii_at-read a.bytes.now _ (sym c.read_record.ensures ∙ ap says_reading c.in-Read.is)) (c.as_filled.ensures ∙ c.radii_at.ensures.said, c.radii_at.ensures.left)
+returns-in-Read c = said_left (let a = c.args in
+    both-as a.out.now (radii_at-read a.bytes.now _ (sym c.read_record.ensures ∙ ap says_reading c.in-Read.is)) (c.as_filled.ensures ∙ c.radii_at.ensures.said, c.radii_at.ensures.left))
 
 pub returns-in-Refused : goal.returns-in-Refused
-returns-in-Refused c = both-refused _ _ (radii_refused c.args.bytes.now _ (sym c.read_record.ensures ∙ ap says_reading c.in-Refused.is))
+returns-in-Refused c = said_left (both-refused _ _ (radii_refused c.args.bytes.now _ (sym c.read_record.ensures ∙ ap says_reading c.in-Refused.is)))
 
 pub returns-in-Withdrawn : goal.returns-in-Withdrawn
-returns-in-Withdrawn c = both-withdrawn _ _ (radii-withdrawn c.args.bytes.now _ (sym c.read_record.ensures ∙ ap says_reading c.in-Withdrawn.is))
+returns-in-Withdrawn c = said_left (both-withdrawn _ _ (radii-withdrawn c.args.bytes.now _ (sym c.read_record.ensures ∙ ap says_reading c.in-Withdrawn.is)))

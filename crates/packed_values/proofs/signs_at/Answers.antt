@@ -8,14 +8,15 @@ use Rattle.bitpack.specs.Signs.{unpack_signs_of}
 use Rattle.packed_values.specs.AtHeader.{signs_at_of}
 use Rattle.packed_values.proofs.Values.{places-refused, places-passed, both-as}
 use borrow.Author.Rules.{rules}
+use Rattle.error.proofs.Clauses.{said_left}
 use Rattle.packed_values.proofs.signs_at.Goals as goal
 
 pub returns-then-outside_places : goal.returns-then-outside_places
 unfolding signs_at_of
-returns-then-outside_places c = let a = c.args in both-refused _ _ (places-refused a.bytes.now a.header.signs_start a.header.end _ (sym c.outside_places.ensures ∙ c.if-outside_places.true))
+returns-then-outside_places c = said_left (let a = c.args in both-refused _ _ (places-refused a.bytes.now a.header.signs_start a.header.end _ (sym c.outside_places.ensures ∙ c.if-outside_places.true)))
 
 pub returns : goal.returns
 unfolding signs_at_of
-returns c = let a = c.args in
+returns c = said_left (let a = c.args in
     let cut = ap (λ (l : List ℕ). unpack_signs_of l a.header.projections (length a.out.now)) c.cut-payload.ensures.held in
-    both-as a.out.now (cut ∙ sym (places-passed a.bytes.now a.header.signs_start a.header.end _ (sym c.outside_places.ensures ∙ c.if-outside_places.false))) c.unpack_signs.ensures
+    both-as a.out.now (cut ∙ sym (places-passed a.bytes.now a.header.signs_start a.header.end _ (sym c.outside_places.ensures ∙ c.if-outside_places.false))) c.unpack_signs.ensures)

@@ -18,6 +18,7 @@ use Rattle.packed_writing.specs.Writing.{header_bytes, record_of, value_checks}
 use Rattle.lists.proofs.Stores.{lent_back, front-again, store_both}
 use Rattle.packed_writing.proofs.Written.{Sized, fields-sized, fields-needed, write-values, write-no-room, write-value}
 use borrow.Author.Rules.{rules}
+use Rattle.error.proofs.Clauses.{said_left}
 use Rattle.packed_writing.proofs.write_sized.Goals.{After-header_length-head, In_default, Start}
 use Rattle.packed_writing.proofs.write_sized.Goals as goal
 
@@ -45,10 +46,10 @@ pub check_values-checked-requires : goal.check_values-checked-requires
 check_values-checked-requires c = (sized (goal.at.check_values-checked-requires c).Start).known
 
 pub returns-in-Refused : goal.returns-in-Refused
-returns-in-Refused c = both-refused _ _ (write-values c.args.code c.args.radii.now c.args.indices.now c.args.signs.now (length c.args.out.now) c.requires.0 (sym c.check_values-checked.ensures ∙ ap says c.in-Refused.is))
+returns-in-Refused c = said_left (both-refused _ _ (write-values c.args.code c.args.radii.now c.args.indices.now c.args.signs.now (length c.args.out.now) c.requires.0 (sym c.check_values-checked.ensures ∙ ap says c.in-Refused.is)))
 
 pub returns-then-out-need : goal.returns-then-out-need
-returns-then-out-need c = both-refused _ _ (write-no-room c.args.code c.args.radii.now c.args.indices.now c.args.signs.now (length c.args.out.now) c.requires.0 (values (goal.at.returns-then-out-need c).In_default) c.requires.1 c.if-out-need.true)
+returns-then-out-need c = said_left (both-refused _ _ (write-no-room c.args.code c.args.radii.now c.args.indices.now c.args.signs.now (length c.args.out.now) c.requires.0 (values (goal.at.returns-then-out-need c).In_default) c.requires.1 c.if-out-need.true))
 
 pub slice_bounds-put_payloads-count : goal.slice_bounds-put_payloads-count
 slice_bounds-put_payloads-count c = let e = out-long (goal.at.slice_bounds-put_payloads-count c).After-header_length-head in omega (arith, e)
@@ -79,10 +80,10 @@ put_header-requires c = front-again c.args.out.now _ c.header_length-head.result
 
 pub returns : goal.returns
 unfolding record_of
-returns c = let a = c.args in
+returns c = said_left (let a = c.args in
     let payload : List ℕ = c.put_payloads-range.new.out in
     both-value _ _ _ (write-value a.code a.radii.now a.indices.now a.signs.now (length a.out.now) c.requires.0 (values (goal.at.returns c).In_default) (c.if-out-need.false ∙ c.requires.1))
     (store_both a.out.now c.put_header.new.out payload c.header_length-head.result (let e = out-long (goal.at.returns c).After-header_length-head in omega (arith, e))
     ∙ ap (λ (l : List ℕ). l ++ payload) c.put_header.ensures
     ∙ ap (λ (r : Range). header_bytes a.code r ++ payload) c.put_payloads-range.ensures.is
-    ∙ ap (λ (l : List ℕ). header_bytes a.code (range_for a.code.profile a.radii.now) ++ l) c.put_payloads-range.ensures.left)
+    ∙ ap (λ (l : List ℕ). header_bytes a.code (range_for a.code.profile a.radii.now) ++ l) c.put_payloads-range.ensures.left))

@@ -10,7 +10,7 @@ use Rattle.polar.proofs.dequantize_angle.Goals as goal
 
 pub returns-then-bits-lt1 : goal.returns-then-bits-lt1
 unfolding dequantize_angle_of
-returns-then-bits-lt1 c = ⊎_elim (λ w. simp (lt-ltb _ _ w.true)) (λ w. simp (le-ltb _ _ w.0.false, w.1.true)) c.then-bits-lt1.branch
+returns-then-bits-lt1 c = ⊎_elim (λ w. simp (lt-ltb _ _ w)) (λ w. simp (le-ltb _ _ w.0, w.1)) c.then-bits-lt1.either
 
 -- past the check of the bits
 narrow : (c : goal.Else-bits-gt16) → c.args.bits ≤ 16

@@ -52,7 +52,7 @@ slice_bounds-all_good-end c = let k = c.args.count in
     part-enough k c.no_radii-block.result (room (goal.at.slice_bounds-all_good-end c).After-no_radii-block) c.restore.new.out (post_of 0 (k - 0) c.no_radii-block.result) c.restore.auto.out
 
 pub returns-then-not-all_good : goal.returns-then-not-all_good
-returns-then-not-all_good c = added_none c.args.directions.now c.args.rotated.now c.args.profile c.args.range c.args.radii.now c.args.indices.now c.args.bits c.args.at c.args.count (block-is (goal.at.returns-then-not-all_good c).After-restore) c.args.sum (sym c.all_good.ensures ∙ not-true _ c.if-not-all_good.true)
+returns-then-not-all_good c = added_none c.args.directions.now c.args.rotated.now c.args.profile c.args.range c.args.radii.now c.args.indices.now c.args.bits c.args.at c.args.count (block-is (goal.at.returns-then-not-all_good c).After-restore) c.args.sum (sym c.all_good.ensures ∙ c.if-not-all_good.true)
 
 pub slice_bounds-block_sum-end : goal.slice_bounds-block_sum-end
 slice_bounds-block_sum-end c = let k = c.args.count in
@@ -62,4 +62,4 @@ pub block_sum-requires : goal.block_sum-requires
 block_sum-requires c = block-lent _ c.requires (part-again c.args.count c.no_radii-block.result (room (goal.at.block_sum-requires c).After-no_radii-block) c.restore.new.out (post_of 0 (c.args.count - 0) c.no_radii-block.result) c.restore.auto.out)
 
 pub returns : goal.returns
-returns c = added-sum c.args.directions.now c.args.rotated.now c.args.profile c.args.range c.args.radii.now c.args.indices.now c.args.bits c.args.at c.args.count (block-is (goal.at.returns c).After-restore) c.args.sum _ (sym c.all_good.ensures ∙ not-false _ c.if-not-all_good.false) c.block_sum.ensures
+returns c = added-sum c.args.directions.now c.args.rotated.now c.args.profile c.args.range c.args.radii.now c.args.indices.now c.args.bits c.args.at c.args.count (block-is (goal.at.returns c).After-restore) c.args.sum _ (sym c.all_good.ensures ∙ c.if-not-all_good.false) c.block_sum.ensures

@@ -7,6 +7,7 @@ use lib.ListN.{length}
 use lib.Ieee.{nan, nan_bits}
 use Rattle.error.proofs.Sweep.{swept-start, swept-pass, swept-spot, swept-end, Swept}
 use Rattle.polar_blocks.specs.Inner.{not_below_infinity}
+use Rattle.polar_blocks.proofs.all_below_infinity.Goals.{else-not-values-i, then-not-values-i}
 use Rattle.polar_blocks.proofs.all_below_infinity.Goals as goal
 
 pub loop-i-init : goal.loop-i-init
@@ -29,10 +30,7 @@ pub loop-i-smaller : goal.loop-i-smaller
 loop-i-smaller c = omega arith
 
 pub loop-i-preserved : goal.loop-i-preserved
-loop-i-preserved c = ⊎_elim
-    (λ w. rw w.1 (swept-spot not_below_infinity _ _ _ nan (omega arith) w.0.true c.loop-i.invariant))
-    (λ w. rw w.1 (swept-pass not_below_infinity _ _ _ nan (omega arith) w.0.false c.loop-i.invariant))
-    c.if-not-values-i.branch
+loop-i-preserved c = elim c.if-not-values-i.branch [ then-not-values-i w ↦ rw w.ok-is (swept-spot not_below_infinity _ _ _ nan (omega arith) w.if-not-values-i.true c.loop-i.invariant) | else-not-values-i w ↦ rw w.ok-is (swept-pass not_below_infinity _ _ _ nan (omega arith) w.if-not-values-i.false c.loop-i.invariant) ]
 
 pub returns : goal.returns
 returns c = swept-end not_below_infinity _ _ _ (omega arith) c.loop-i.invariant

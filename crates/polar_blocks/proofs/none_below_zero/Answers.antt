@@ -7,6 +7,7 @@ use lib.ListN.{length}
 use lib.Ieee.{nan, of_bits}
 use Rattle.error.proofs.Sweep.{swept-start, swept-pass, swept-spot, swept-end, Swept}
 use Rattle.polar_blocks.specs.Inner.{below_zero}
+use Rattle.polar_blocks.proofs.none_below_zero.Goals.{else-values-i, then-values-i}
 use Rattle.polar_blocks.proofs.none_below_zero.Goals as goal
 
 pub loop-i-init : goal.loop-i-init
@@ -26,10 +27,7 @@ loop-i-smaller c = omega arith
 
 pub loop-i-preserved : goal.loop-i-preserved
 unfolding of_bits
-loop-i-preserved c = ⊎_elim
-    (λ w. rw w.1 (swept-spot below_zero _ _ _ nan (omega arith) w.0.true c.loop-i.invariant))
-    (λ w. rw w.1 (swept-pass below_zero _ _ _ nan (omega arith) w.0.false c.loop-i.invariant))
-    c.if-values-i.branch
+loop-i-preserved c = elim c.if-values-i.branch [ then-values-i w ↦ rw w.ok-is (swept-spot below_zero _ _ _ nan (omega arith) w.if-values-i.true c.loop-i.invariant) | else-values-i w ↦ rw w.ok-is (swept-pass below_zero _ _ _ nan (omega arith) w.if-values-i.false c.loop-i.invariant) ]
 
 pub returns : goal.returns
 returns c = swept-end below_zero _ _ _ (omega arith) c.loop-i.invariant

@@ -18,7 +18,7 @@ use Rattle.polar_blocks.proofs.payload_pairs.Goals as goal
 
 -- the payloads fit, and the output has two floats for each pair
 fitting : (c : goal.Else-not-fits_payload) → fits_payload c.args.profile c.args.radii.now c.args.indices.now c.args.bits (length c.args.out.now / 2) ≡ true
-fitting c = sym c.fits_payload.ensures ∙ not-false _ c.if-not-fits_payload.false
+fitting c = sym c.fits_payload.ensures ∙ c.if-not-fits_payload.false
 
 double : (c : goal.Else-not-fits_payload) → length c.args.out.now ≡ 2 * (length c.args.out.now / 2)
 double c = omega (arith, c.if-count-ne0.false)
@@ -27,7 +27,7 @@ pub returns-then-count-ne0 : goal.returns-then-count-ne0
 returns-then-count-ne0 c = pairs-left c.args.directions.now c.args.profile c.args.range c.args.radii.now c.args.indices.now c.args.bits c.args.out.now (rw (ne_eqb _ 0 c.if-count-ne0.true))
 
 pub returns-then-not-fits_payload : goal.returns-then-not-fits_payload
-returns-then-not-fits_payload c = pairs-left c.args.directions.now c.args.profile c.args.range c.args.radii.now c.args.indices.now c.args.bits c.args.out.now (rw (eq-eqb _ 0 c.if-count-ne0.false) (sym c.fits_payload.ensures ∙ not-true _ c.if-not-fits_payload.true))
+returns-then-not-fits_payload c = pairs-left c.args.directions.now c.args.profile c.args.range c.args.radii.now c.args.indices.now c.args.bits c.args.out.now (rw (eq-eqb _ 0 c.if-count-ne0.false) (sym c.fits_payload.ensures ∙ c.if-not-fits_payload.true))
 
 pub spread-requires : goal.spread-requires
 spread-requires c = let count = length c.args.out.now in

@@ -14,7 +14,7 @@ use Rattle.polar_blocks.proofs.payload_sum.Goals as goal
 
 -- the payloads fit
 fitting : (c : goal.Else-not-fits_payload) → fits_payload c.args.profile c.args.radii.now c.args.indices.now c.args.bits c.args.pairs ≡ true
-fitting c = sym c.fits_payload.ensures ∙ not-false _ c.if-not-fits_payload.false
+fitting c = sym c.fits_payload.ensures ∙ c.if-not-fits_payload.false
 
 -- so that an index has few bits
 bits-few : (c : goal.Else-not-fits_payload) → c.args.bits < 64

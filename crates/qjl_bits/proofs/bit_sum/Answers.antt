@@ -6,13 +6,13 @@ use borrow.Author.Tests.{ltb-true, ltb-false}
 use lib.ListN.{length}
 use lib.Ieee.{of_bits}
 use Rattle.qjl_bits.proofs.Bits.{BytesAdded, bytes-start, bytes-turn, bytes-last, bytes-none}
-use Rattle.qjl_bits.proofs.bit_sum.Goals.{Then-k-packed-2}
+use Rattle.qjl_bits.proofs.bit_sum.Goals.{Then-k-packed-2, else-loop-k-test, then-loop-k-test}
 use Rattle.qjl_bits.proofs.bit_sum.Goals as goal
 
 -- where a byte is left, the loop was left for the values
 all : (c : goal.Then-k-packed-2) → length c.args.projected.now / 8 ≤ c.loop-k.k
 all c =
-    ⊎_elim (λ w. omega (arith, ltb-false c.loop-k.k (length c.args.packed.now) w.1.false, c.if-k-packed-2.true)) (λ w. w.false) c.loop-k-test.branch
+    elim c.loop-k-test.branch [ then-loop-k-test w ↦ omega (arith, ltb-false c.loop-k.k (length c.args.packed.now) w.1.false, c.if-k-packed-2.true) | else-loop-k-test w ↦ w.false ]
 
 pub loop-k-init : goal.loop-k-init
 unfolding of_bits

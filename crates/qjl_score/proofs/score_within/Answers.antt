@@ -17,5 +17,5 @@ returns c = let a = c.args in
     let m = length a.values.now in
     let values = projected a.dim m a.matrix.now a.query.now in
     c.signed_score.ensures
-    ∙ ap (λ (vs : List Float). signed_score (length vs) vs a.sketch.now a.norm) (c.project.ensures.out_after ∙ after-value _ a.values.now (project-ready a.dim a.matrix.now a.query.now m refl c.requires.0))
+    ∙ ap (λ (vs : List Float). signed_score (length vs) vs a.sketch.now a.norm) (c.project.ensures.left ∙ after-value _ a.values.now (project-ready a.dim a.matrix.now a.query.now m refl c.requires.0))
     ∙ ap (λ (k : ℕ). signed_score k values a.sketch.now a.norm) (length-projected a.dim m a.matrix.now a.query.now)

@@ -12,7 +12,7 @@ use Rattle.qjl_sketch.proofs.signs_within.Goals as goal
 pub returns : goal.returns
 returns c = let a = c.args in
     signs_same
-    (c.project.ensures.out_after
+    (c.project.ensures.left
     ∙ after-value _ a.values.now (project-ready a.dim a.matrix.now a.vector.now (length a.values.now) c.requires.1 c.requires.0)
     ∙ ap (λ (k : ℕ). projected a.dim k a.matrix.now a.vector.now) c.requires.1)
     c.judged_signs_into.ensures

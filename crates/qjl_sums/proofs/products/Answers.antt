@@ -119,4 +119,4 @@ loop-i-preserved c = let l = c.loop-i in
 pub returns : goal.returns
 returns c = let l = c.loop-i in
     let all : l.i ≡ 16 = omega (arith, l.invariant.0, c.loop-i-test.false) in
-    record { interleaved = rw all at l.invariant.1.0; interleaved_2 = rw all at l.invariant.1.1 }
+    record { second = rw all at l.invariant.1.0; third = rw all at l.invariant.1.1 }

@@ -10,7 +10,7 @@ use borrow.Author.Rules.{rules, scaled_Fits}
 use borrow.Author.Tests.{not-false}
 use Rattle.float.specs.Constants.{pos_zero}
 use Rattle.radius.proofs.Passes.{Flagged, flagged-start, flagged-next, flagged-end}
-use Rattle.radius.proofs.all_good.Goals.{Joined-not-radius, Joined-radius}
+use Rattle.radius.proofs.all_good.Goals.{Joined-not-radius, Joined-radius, else-not-radius, else-radius, then-not-radius, then-radius}
 use Rattle.radius.proofs.all_good.Goals as goal
 
 pub loop-at-init : goal.loop-at-init
@@ -31,11 +31,11 @@ loop-at-smaller c = omega arith
 -- a flag that stands after its test stood before it, and the test passed
 stands-above : (c : goal.Joined-radius) → c.if-radius.above ≡ true → (c.loop-at.above ≡ true) × (lt (get_or c.args.radii.now c.loop-at.at nan) pos_zero ≡ false)
 unfolding of_bits
-stands-above c e = ⊎_elim (λ w. absurd (false≢true (sym w.1 ∙ e))) (λ w. (sym w.1 ∙ e, w.0.false)) c.if-radius.branch
+stands-above c e = elim c.if-radius.branch [ then-radius w ↦ absurd (false≢true (sym w.above-is ∙ e)) | else-radius w ↦ (sym w.above-is ∙ e, w.if-radius.false) ]
 
 stands-below : (c : goal.Joined-not-radius) → c.if-not-radius.below ≡ true → (c.loop-at.below ≡ true) × (lt (get_or c.args.radii.now c.loop-at.at nan) (inf false) ≡ true)
 unfolding of_bits
-stands-below c e = ⊎_elim (λ w. absurd (false≢true (sym w.1 ∙ e))) (λ w. (sym w.1 ∙ e, not-false _ w.0.false)) c.if-not-radius.branch
+stands-below c e = elim c.if-not-radius.branch [ then-not-radius w ↦ absurd (false≢true (sym w.below-is ∙ e)) | else-not-radius w ↦ (sym w.below-is ∙ e, w.if-not-radius.false) ]
 
 pub loop-at-preserved : goal.loop-at-preserved
 loop-at-preserved c = flagged-next (λ r. r) _ _ _ _ _ _ c.loop-at-test.true (stands-above (goal.at.loop-at-preserved c).Joined-radius) (stands-below (goal.at.loop-at-preserved c).Joined-not-radius) c.loop-at.invariant

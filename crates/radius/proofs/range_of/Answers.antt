@@ -9,7 +9,7 @@ use lib.Ieee.{nan, lt, of_bits}
 use borrow.Author.Rules.{scaled_Fits}
 use Rattle.radius.specs.Radii.{range_of}
 use Rattle.radius.proofs.Radii.{range_onward, range_none, range-start, range-step, range_end}
-use Rattle.radius.proofs.range_of.Goals.{After-shared_slice_known-2-1, Joined-max-radius, Joined-radius-min}
+use Rattle.radius.proofs.range_of.Goals.{After-shared_slice_known-2-1, Joined-max-radius, Joined-radius-min, else-max-radius, else-radius-min, then-max-radius, then-radius-min}
 use Rattle.radius.proofs.range_of.Goals as goal
 
 pub returns-then-radii-eq0 : goal.returns-then-radii-eq0
@@ -43,10 +43,10 @@ loop-i-smaller c = omega arith
 
 -- where the arms of each test meet
 lowered : (c : goal.Joined-radius-min) → let r = get_or c.args.radii.now c.loop-i.i nan in c.if-radius-min.min ≡ cond (lt r c.loop-i.min) r c.loop-i.min
-lowered c = ⊎_elim (λ w. simp w.0.true w.1) (λ w. simp w.0.false w.1) c.if-radius-min.branch
+lowered c = elim c.if-radius-min.branch [ then-radius-min w ↦ simp w.if-radius-min.true w.min-is | else-radius-min w ↦ simp w.if-radius-min.false w.min-is ]
 
 raised : (c : goal.Joined-max-radius) → let r = get_or c.args.radii.now c.loop-i.i nan in c.if-max-radius.max ≡ cond (lt c.loop-i.max r) r c.loop-i.max
-raised c = ⊎_elim (λ w. simp w.0.true w.1) (λ w. simp w.0.false w.1) c.if-max-radius.branch
+raised c = elim c.if-max-radius.branch [ then-max-radius w ↦ simp w.if-max-radius.true w.max-is | else-max-radius w ↦ simp w.if-max-radius.false w.max-is ]
 
 pub loop-i-preserved : goal.loop-i-preserved
 loop-i-preserved c = let s = c.loop-i in

@@ -7,6 +7,7 @@ use lib.Ieee.{nan, of_bits}
 use borrow.Author.Rules.{scaled_Fits}
 use Rattle.error.proofs.Sweep.{Swept, swept-start, swept-pass, swept-spot, swept-end}
 use Rattle.radius_range.specs.Inner.{not_positive}
+use Rattle.radius_range.proofs.all_positive.Goals.{else-not-radii-i, then-not-radii-i}
 use Rattle.radius_range.proofs.all_positive.Goals as goal
 
 pub loop-i-init : goal.loop-i-init
@@ -26,10 +27,7 @@ loop-i-smaller c = omega arith
 
 pub loop-i-preserved : goal.loop-i-preserved
 unfolding of_bits
-loop-i-preserved c = ⊎_elim
-    (λ w. rw w.1 (swept-spot not_positive c.args.radii.now c.loop-i.i c.loop-i.ok nan c.loop-i-test.true w.0.true c.loop-i.invariant))
-    (λ w. rw w.1 (swept-pass not_positive c.args.radii.now c.loop-i.i c.loop-i.ok nan c.loop-i-test.true w.0.false c.loop-i.invariant))
-    c.if-not-radii-i.branch
+loop-i-preserved c = elim c.if-not-radii-i.branch [ then-not-radii-i w ↦ rw w.ok-is (swept-spot not_positive c.args.radii.now c.loop-i.i c.loop-i.ok nan c.loop-i-test.true w.if-not-radii-i.true c.loop-i.invariant) | else-not-radii-i w ↦ rw w.ok-is (swept-pass not_positive c.args.radii.now c.loop-i.i c.loop-i.ok nan c.loop-i-test.true w.if-not-radii-i.false c.loop-i.invariant) ]
 
 pub returns : goal.returns
 returns c = swept-end not_positive _ _ _ c.loop-i-test.false c.loop-i.invariant

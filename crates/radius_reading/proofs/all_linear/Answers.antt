@@ -12,6 +12,7 @@ use Rattle.radius.specs.Linear.{linear_radius}
 use Rattle.radius.specs.Radii.{bad_radius}
 use Rattle.radius_reading.proofs.Scan.{Passing, passing-start, passing-next, passing-end}
 use Rattle.radius_reading.proofs.Tests.{radius-passes}
+use Rattle.radius_reading.proofs.all_linear.Goals.{else-not-radius, else-radius, then-not-radius, then-radius}
 use Rattle.radius_reading.proofs.all_linear.Goals as goal
 
 pub loop-i-init : goal.loop-i-init
@@ -40,9 +41,9 @@ loop-i-preserved c = let here = c.loop-i in
     let read = c.get_radius-radius.ensures ∙ ap (linear_radius _) (sym (run-two {A = ℕ} payload here.at 0 (omega (arith, here.invariant.start, c.requires)))) in
     let radius = c.get_radius-radius.result in
     let above : c.if-radius.above ≡ true → (here.above ≡ true) × (lt radius pos_zero ≡ false) =
-    ⊎_elim (λ w. λ t. absurd (false≢true (sym w.1 ∙ t))) (λ w. λ t. (sym w.1 ∙ t, w.0.false)) c.if-radius.branch in
+    elim c.if-radius.branch [ then-radius w ↦ λ t. absurd (false≢true (sym w.above-is ∙ t)) | else-radius w ↦ λ t. (sym w.above-is ∙ t, w.if-radius.false) ] in
     let finite : c.if-not-radius.finite ≡ true → (here.finite ≡ true) × (not (lt radius (of_bits binary32 0x7F80_0000)) ≡ false) =
-    ⊎_elim (λ w. λ t. absurd (false≢true (sym w.1 ∙ t))) (λ w. λ t. (sym w.1 ∙ t, w.0.false)) c.if-not-radius.branch in
+    elim c.if-not-radius.branch [ then-not-radius w ↦ λ t. absurd (false≢true (sym w.finite-is ∙ t)) | else-not-radius w ↦ λ t. (sym w.finite-is ∙ t, w.if-not-radius.false) ] in
     passing-next bad_radius (linear_radius _) 2 payload _ radius here.i here.at (here.above && here.finite) (c.if-radius.above && c.if-not-radius.finite) (omega arith) here.invariant read
     (λ t.
     let both = and-true c.if-radius.above c.if-not-radius.finite t in

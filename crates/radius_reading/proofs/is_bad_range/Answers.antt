@@ -4,12 +4,12 @@ use mathlib.Core.Bool.{not, ◌||◌}
 use lib.Ieee.Scale.{finite}
 use mathlib.Core.Logic.{⊎_elim}
 use borrow.Author.Rules.{rules}
-use Rattle.radius_reading.proofs.is_bad_range.Goals.{Joined-not-is_finite}
+use Rattle.radius_reading.proofs.is_bad_range.Goals.{Joined-not-is_finite, else-not-is_finite, then-not-is_finite}
 use Rattle.radius_reading.proofs.is_bad_range.Goals as goal
 
 -- where the first two tests meet
 unbounded : (c : goal.Joined-not-is_finite) → let range = c.args.range in c.if-not-is_finite.if2 ≡ not (finite range.min) || not (finite range.max)
-unbounded c = ⊎_elim (λ w. w.1 ∙ simp (← c.is_finite.ensures, w.0.true)) (λ w. w.2 ∙ simp (← c.is_finite.ensures, w.0.false, ← w.1.ensures)) c.if-not-is_finite.branch
+unbounded c = elim c.if-not-is_finite.branch [ then-not-is_finite w ↦ w.if2-is ∙ simp (← c.is_finite.ensures, w.if-not-is_finite.true) | else-not-is_finite w ↦ w.2 ∙ simp (← c.is_finite.ensures, w.if-not-is_finite.false, ← w.1.ensures) ]
 
 pub returns-then-not-is_finite-2 : goal.returns-then-not-is_finite-2
 returns-then-not-is_finite-2 c = c.if-not-is_finite-2.true ∙ simp (sym (unbounded (goal.at.returns-then-not-is_finite-2 c).Joined-not-is_finite) ∙ c.if-not-is_finite-2.true)

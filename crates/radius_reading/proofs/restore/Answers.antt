@@ -11,6 +11,7 @@ use Rattle.radius.specs.Codec.{width_of, radii_for}
 use Rattle.radius_reading.specs.Inner.{profile_checks}
 use Rattle.radius_reading.proofs.Checks.{fit-known, fit_length, fit-restore, unfit-restore}
 use borrow.Author.Rules.{rules}
+use Rattle.error.proofs.Clauses.{said_left}
 use Rattle.radius_reading.proofs.restore.Goals.{In_default}
 use Rattle.radius_reading.proofs.restore.Goals as goal
 
@@ -19,17 +20,17 @@ fit : (c : goal.In_default) → let a = c.args in first (profile_checks a.profil
 fit c = sym c.check_profile-fit.ensures ∙ ap says c.in_default.is
 
 pub returns-in-Refused : goal.returns-in-Refused
-returns-in-Refused c = both-refused _ _ (unfit-restore _ _ _ _ (sym c.check_profile-fit.ensures ∙ ap says c.in-Refused.is) _)
+returns-in-Refused c = said_left (both-refused _ _ (unfit-restore _ _ _ _ (sym c.check_profile-fit.ensures ∙ ap says c.in-Refused.is) _))
 
 pub returns-then-out-count : goal.returns-then-out-count
-returns-then-out-count c = let a = c.args in
-    both-refused _ _ (fit-restore _ _ _ (fit (goal.at.returns-then-out-count c).In_default) _ _ ∙ rw (ne_eqb (length a.out.now) a.count (λ e. omega arith)))
+returns-then-out-count c = said_left (let a = c.args in
+    both-refused _ _ (fit-restore _ _ _ (fit (goal.at.returns-then-out-count c).In_default) _ _ ∙ rw (ne_eqb (length a.out.now) a.count (λ e. omega arith))))
 
 pub read_payload-requires : goal.read_payload-requires
 read_payload-requires c = let a = c.args in
     (fit-known a.profile a.count a.payload.now (fit (goal.at.read_payload-requires c).In_default), fit_length a.profile a.count a.payload.now (fit (goal.at.read_payload-requires c).In_default) ∙ ap (λ (n : ℕ). width_of a.profile * n) (sym c.if-out-count.false))
 
 pub returns : goal.returns
-returns c = let a = c.args in
+returns c = said_left (let a = c.args in
     both-value _ _ _ (fit-restore _ _ _ (fit (goal.at.returns c).In_default) _ _ ∙ rw (eq-eqb _ _ c.if-out-count.false))
-    (c.read_payload.ensures ∙ ap (λ (n : ℕ). radii_for a.profile n a.range a.payload.now) c.if-out-count.false)
+    (c.read_payload.ensures ∙ ap (λ (n : ℕ). radii_for a.profile n a.range a.payload.now) c.if-out-count.false))

@@ -14,7 +14,7 @@ use Rattle.radius.specs.Linear.{quantize_radius_of, radius_of}
 use Rattle.radius.specs.Radii.{bad_radius}
 use Rattle.radius.specs.declared.Range.{Range}
 use Rattle.radius.proofs.Passes.{Flagged, flagged-start, flagged-next, flagged-end}
-use Rattle.radius_writing.proofs.all_kept.Goals.{After-radius_of-kept, Joined-kept, Joined-not-kept}
+use Rattle.radius_writing.proofs.all_kept.Goals.{After-radius_of-kept, Joined-kept, Joined-not-kept, else-kept, else-not-kept, then-kept, then-not-kept}
 use Rattle.radius_writing.proofs.all_kept.Goals as goal
 
 -- what a radius is read back as, from a least radius and a span
@@ -43,11 +43,11 @@ judged c = c.radius_of-kept.ensures ∙ ap (radius_of _) c.quantize_radius-numbe
 -- a flag that stands after its test stood before it, and the test passed
 stands-above : (c : goal.Joined-kept) → c.if-kept.above ≡ true → (c.loop-i.above ≡ true) × (lt (kept_of c.args.range c.args.range.min c.span_of-span.result (get_or c.args.radii.now c.loop-i.i nan)) pos_zero ≡ false)
 unfolding of_bits
-stands-above c e = ⊎_elim (λ w. absurd (false≢true (sym w.1 ∙ e))) (λ w. (sym w.1 ∙ e, ap (λ (x : Float). lt x pos_zero) (sym (judged c)) ∙ w.0.false)) c.if-kept.branch
+stands-above c e = elim c.if-kept.branch [ then-kept w ↦ absurd (false≢true (sym w.above-is ∙ e)) | else-kept w ↦ (sym w.above-is ∙ e, ap (λ (x : Float). lt x pos_zero) (sym (judged c)) ∙ w.if-kept.false) ]
 
 stands-below : (c : goal.Joined-not-kept) → c.if-not-kept.below ≡ true → (c.loop-i.below ≡ true) × (lt (kept_of c.args.range c.args.range.min c.span_of-span.result (get_or c.args.radii.now c.loop-i.i nan)) (inf false) ≡ true)
 unfolding of_bits
-stands-below c e = ⊎_elim (λ w. absurd (false≢true (sym w.1 ∙ e))) (λ w. (sym w.1 ∙ e, ap (λ (x : Float). lt x (inf false)) (sym (judged c)) ∙ not-false _ w.0.false)) c.if-not-kept.branch
+stands-below c e = elim c.if-not-kept.branch [ then-not-kept w ↦ absurd (false≢true (sym w.below-is ∙ e)) | else-not-kept w ↦ (sym w.below-is ∙ e, ap (λ (x : Float). lt x (inf false)) (sym (judged c)) ∙ w.if-not-kept.false) ]
 
 pub loop-i-preserved : goal.loop-i-preserved
 loop-i-preserved c = flagged-next (kept_of _ _ _) _ _ _ _ _ _ c.loop-i-test.true (stands-above (goal.at.loop-i-preserved c).Joined-kept) (stands-below (goal.at.loop-i-preserved c).Joined-not-kept) c.loop-i.invariant

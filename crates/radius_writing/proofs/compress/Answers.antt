@@ -6,11 +6,12 @@ use Rattle.error.specs.Outcomes.{says}
 use Rattle.radius.specs.Codec.{compress_checks}
 use Rattle.radius_writing.proofs.Checks.{compress-refused, compress-room, compress-value}
 use borrow.Author.Rules.{rules}
+use Rattle.error.proofs.Clauses.{said_left}
 use Rattle.radius_writing.proofs.compress.Goals.{In_default}
 use Rattle.radius_writing.proofs.compress.Goals as goal
 
 pub returns-in-Refused : goal.returns-in-Refused
-returns-in-Refused c = compress-refused _ _ _ _ (sym c.check_compress-checked.ensures ∙ ap says c.in-Refused.is)
+returns-in-Refused c = said_left (compress-refused _ _ _ _ (sym c.check_compress-checked.ensures ∙ ap says c.in-Refused.is))
 
 -- no check offends
 passed : (c : goal.In_default) → let a = c.args in first (compress_checks a.radii.now a.profile (length a.out.now)) accepted ≡ accepted
@@ -20,4 +21,4 @@ pub write_payload-range-requires : goal.write_payload-range-requires
 write_payload-range-requires c = let a = c.args in compress-room a.radii.now a.profile (length a.out.now) (passed (goal.at.write_payload-range-requires c).In_default)
 
 pub returns : goal.returns
-returns c = compress-value _ _ _ _ (passed (goal.at.returns c).In_default) _ _ c.write_payload-range.ensures.range c.write_payload-range.ensures.bytes
+returns c = said_left (compress-value _ _ _ _ (passed (goal.at.returns c).In_default) _ _ c.write_payload-range.ensures.range c.write_payload-range.ensures.bytes)

@@ -10,6 +10,7 @@ use Rattle.rotation.specs.Checks.{rotation_checks}
 use Rattle.rotation.specs.Rotation.{hadamard_of, rotated}
 use Rattle.rotation.proofs.Accepted.{Rotatable, rotatable}
 use Rattle.rotation.proofs.Applied.{applied-refused, applied-value}
+use Rattle.error.proofs.Clauses.{said_left}
 use Rattle.rotation.proofs.apply.Goals.{In_default}
 use Rattle.rotation.proofs.apply.Goals as goal
 
@@ -21,7 +22,7 @@ fit : (c : goal.In_default) → Rotatable c.args.dim c.args.signs.now (length c.
 fit c = rotatable _ _ _ _ (passed c)
 
 pub returns-in-Refused : goal.returns-in-Refused
-returns-in-Refused c = both-refused _ _ (applied-refused _ _ _ _ (sym c.check-checked.ensures ∙ ap says c.in-Refused.is))
+returns-in-Refused c = said_left (both-refused _ _ (applied-refused _ _ _ _ (sym c.check-checked.ensures ∙ ap says c.in-Refused.is)))
 
 pub flip_into-requires : goal.flip_into-requires
 flip_into-requires c = let f = fit (goal.at.flip_into-requires c).In_default in
@@ -33,4 +34,4 @@ hadamard-requires c = let f = fit (goal.at.hadamard-requires c).In_default in
 
 pub returns : goal.returns
 unfolding rotated
-returns c = both-value _ _ _ (applied-value _ _ _ _ (passed (goal.at.returns c).In_default)) (c.hadamard.ensures ∙ ap (hadamard_of c.args.dim) c.flip_into.ensures)
+returns c = said_left (both-value _ _ _ (applied-value _ _ _ _ (passed (goal.at.returns c).In_default)) (c.hadamard.ensures ∙ ap (hadamard_of c.args.dim) c.flip_into.ensures))

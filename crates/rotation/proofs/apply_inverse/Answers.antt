@@ -11,6 +11,7 @@ use Rattle.rotation.specs.Checks.{rotation_checks}
 use Rattle.rotation.specs.Rotation.{unrotated}
 use Rattle.rotation.proofs.Accepted.{Rotatable, rotatable}
 use Rattle.rotation.proofs.Applied.{inverse-refused, inverse-value}
+use Rattle.error.proofs.Clauses.{said_left}
 use Rattle.rotation.proofs.apply_inverse.Goals.{In_default}
 use Rattle.rotation.proofs.apply_inverse.Goals as goal
 
@@ -22,7 +23,7 @@ fit : (c : goal.In_default) → Rotatable c.args.dim c.args.signs.now (length c.
 fit c = rotatable _ _ _ _ (passed c)
 
 pub returns-in-Refused : goal.returns-in-Refused
-returns-in-Refused c = both-refused _ _ (inverse-refused _ _ _ _ (sym c.check-checked.ensures ∙ ap says c.in-Refused.is))
+returns-in-Refused c = said_left (both-refused _ _ (inverse-refused _ _ _ _ (sym c.check-checked.ensures ∙ ap says c.in-Refused.is)))
 
 pub turn_back-requires : goal.turn_back-requires
 turn_back-requires c = let f = fit (goal.at.turn_back-requires c).In_default in
@@ -30,7 +31,7 @@ turn_back-requires c = let f = fit (goal.at.turn_back-requires c).In_default in
     (record { bit = f.power.bit; small = f.power.small; whole = long }, f.signs_long ∙ sym long)
 
 pub returns : goal.returns
-returns c = let a = c.args in
+returns c = said_left (let a = c.args in
     let f = fit (goal.at.returns c).In_default in
     let copied = c.copy_into.ensures ∙ copy_into-same a.input.now a.output.now (f.input_long ∙ sym f.output_long) in
-    both-value _ _ _ (inverse-value _ _ _ _ (passed (goal.at.returns c).In_default)) (c.turn_back.ensures ∙ ap (unrotated a.dim a.signs.now) copied)
+    both-value _ _ _ (inverse-value _ _ _ _ (passed (goal.at.returns c).In_default)) (c.turn_back.ensures ∙ ap (unrotated a.dim a.signs.now) copied))

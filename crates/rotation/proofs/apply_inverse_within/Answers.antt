@@ -9,6 +9,7 @@ use Rattle.error.proofs.Answers.{both-refused, both-value}
 use Rattle.rotation.specs.Checks.{rotation_checks}
 use Rattle.rotation.proofs.Accepted.{Rotatable, rotatable}
 use Rattle.rotation.proofs.Applied.{inverse-refused, inverse-value}
+use Rattle.error.proofs.Clauses.{said_left}
 use Rattle.rotation.proofs.apply_inverse_within.Goals.{In_default}
 use Rattle.rotation.proofs.apply_inverse_within.Goals as goal
 
@@ -20,11 +21,11 @@ fit : (c : goal.In_default) → Rotatable c.args.dim c.args.signs.now (length c.
 fit c = rotatable _ _ _ _ (passed c)
 
 pub returns-in-Refused : goal.returns-in-Refused
-returns-in-Refused c = both-refused _ _ (inverse-refused _ _ _ _ (sym c.check-checked.ensures ∙ ap says c.in-Refused.is))
+returns-in-Refused c = said_left (both-refused _ _ (inverse-refused _ _ _ _ (sym c.check-checked.ensures ∙ ap says c.in-Refused.is)))
 
 pub turn_back-requires : goal.turn_back-requires
 turn_back-requires c = let f = fit (goal.at.turn_back-requires c).In_default in
     (record { bit = f.power.bit; small = f.power.small; whole = f.output_long }, f.signs_long ∙ sym f.output_long)
 
 pub returns : goal.returns
-returns c = both-value _ _ _ (inverse-value _ _ _ _ (passed (goal.at.returns c).In_default)) c.turn_back.ensures
+returns c = said_left (both-value _ _ _ (inverse-value _ _ _ _ (passed (goal.at.returns c).In_default)) c.turn_back.ensures)

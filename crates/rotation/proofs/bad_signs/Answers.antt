@@ -10,6 +10,7 @@ use lib.Ieee.{nan}
 use Rattle.error.specs.Answer.{place}
 use Rattle.error.proofs.Places.{place-start, place-skip, place_end}
 use Rattle.rotation.specs.Checks.{bad_sign}
+use Rattle.rotation.proofs.bad_signs.Goals.{else-is_bad_sign, then-is_bad_sign}
 use Rattle.rotation.proofs.bad_signs.Goals as goal
 
 pub loop-i-init : goal.loop-i-init
@@ -35,10 +36,7 @@ loop-i-smaller c = omega arith
 
 pub loop-i-preserved : goal.loop-i-preserved
 loop-i-preserved c = let inv = c.loop-i.invariant in
-    ⊎_elim
-    (λ w. (omega arith, (omega (arith, w.1, inv.1.0), λ e. absurd (omega (arith, w.1, e)))))
-    (λ w. (omega arith, (omega (arith, w.1, inv.1.0), λ e. place-skip bad_sign _ _ nan (omega arith) (sym c.is_bad_sign.ensures ∙ w.0.false) (inv.1.1 (sym w.1 ∙ e)))))
-    c.if-is_bad_sign.branch
+    elim c.if-is_bad_sign.branch [ then-is_bad_sign w ↦ (omega arith, (omega (arith, w.bad-is, inv.1.0), λ e. absurd (omega (arith, w.bad-is, e)))) | else-is_bad_sign w ↦ (omega arith, (omega (arith, w.bad-is, inv.1.0), λ e. place-skip bad_sign _ _ nan (omega arith) (sym c.is_bad_sign.ensures ∙ w.if-is_bad_sign.false) (inv.1.1 (sym w.bad-is ∙ e)))) ]
 
 pub returns : goal.returns
 returns c = λ e. let whole = place_end bad_sign _ _ (omega arith) (c.loop-i.invariant.1.1 e) in omega (arith, whole)

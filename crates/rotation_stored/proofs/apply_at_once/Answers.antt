@@ -14,10 +14,10 @@ pub returns-then-not-is_shaped : goal.returns-then-not-is_shaped
 returns-then-not-is_shaped c = at_once-left _ _ _ refl
 
 pub judge_rows-requires : goal.judge_rows-requires
-judge_rows-requires c = let s = c.is_shaped.ensures (not-false _ c.if-not-is_shaped.false) in
+judge_rows-requires c = let s = c.is_shaped.ensures (c.if-not-is_shaped.false) in
     subst (λ (n : ℕ). Shaped n (length c.args.matrix.now) (length c.args.input.now) (length c.args.output.now)) (sym s.input_long) s
 
 pub returns : goal.returns
 returns c = let a = c.args in
-    let s = c.is_shaped.ensures (not-false _ c.if-not-is_shaped.false) in
+    let s = c.is_shaped.ensures (c.if-not-is_shaped.false) in
     rotated-at_once a.dim a.matrix.now a.input.now (length a.output.now) s (judged-same (ap (λ (n : ℕ). stored_rotated n a.matrix.now a.input.now) s.input_long) c.judge_rows.ensures)

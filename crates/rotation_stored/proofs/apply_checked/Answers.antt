@@ -10,6 +10,7 @@ use Rattle.error.proofs.Answers.{both-refused, both-value}
 use Rattle.rotation_stored.specs.Checks.{stored_checks}
 use Rattle.rotation_stored.specs.Stored.{stored_rotated}
 use Rattle.rotation_stored.proofs.Accepted.{Storable, storable, stored_refused, stored-value}
+use Rattle.error.proofs.Clauses.{said_left}
 use Rattle.rotation_stored.proofs.apply_checked.Goals.{In_default}
 use Rattle.rotation_stored.proofs.apply_checked.Goals as goal
 
@@ -21,7 +22,7 @@ fit : (c : goal.In_default) → Storable c.args.dim c.args.matrix.now (length c.
 fit c = storable _ _ _ _ (passed c)
 
 pub returns-in-Refused : goal.returns-in-Refused
-returns-in-Refused c = both-refused _ _ (stored_refused _ _ _ _ (sym c.check-checked.ensures ∙ ap says c.in-Refused.is))
+returns-in-Refused c = said_left (both-refused _ _ (stored_refused _ _ _ _ (sym c.check-checked.ensures ∙ ap says c.in-Refused.is)))
 
 pub sum_rows-requires : goal.sum_rows-requires
 sum_rows-requires c = let f = fit (goal.at.sum_rows-requires c).In_default in
@@ -29,5 +30,5 @@ sum_rows-requires c = let f = fit (goal.at.sum_rows-requires c).In_default in
     (f.matrix_long ∙ ap (λ (n : ℕ). n * n) e, f.output_long ∙ e)
 
 pub returns : goal.returns
-returns c = let a = c.args in
-    both-value _ _ _ (stored-value _ _ _ _ (passed (goal.at.returns c).In_default)) (c.sum_rows.ensures ∙ ap (λ (n : ℕ). stored_rotated n a.matrix.now a.input.now) (fit (goal.at.returns c).In_default).input_long)
+returns c = said_left (let a = c.args in
+    both-value _ _ _ (stored-value _ _ _ _ (passed (goal.at.returns c).In_default)) (c.sum_rows.ensures ∙ ap (λ (n : ℕ). stored_rotated n a.matrix.now a.input.now) (fit (goal.at.returns c).In_default).input_long))

@@ -10,4 +10,4 @@ pub returns-then-not-all_finite : goal.returns-then-not-all_finite
 returns-then-not-all_finite c = judged-left _ _
 
 pub returns : goal.returns
-returns c = judged-made _ _ _ (not-true _ (sym c.all_finite.ensures ∙ not-false _ c.if-not-all_finite.false)) (c.copy_into.ensures ∙ copy_into-same c.args.values.now c.args.output.now (sym c.requires))
+returns c = judged-made _ _ _ (not-true _ (sym c.all_finite.ensures ∙ c.if-not-all_finite.false)) (c.copy_into.ensures ∙ copy_into-same c.args.values.now c.args.output.now (sym c.requires))

@@ -8,6 +8,7 @@ use Rattle.error.specs.Outcomes.{says}
 use Rattle.error.proofs.Answers.{both-refused}
 use Rattle.rotation_stored.specs.Checks.{stored_checks}
 use Rattle.rotation_stored.proofs.Accepted.{stored-inverse-refused, stored-inverse-projects}
+use Rattle.error.proofs.Clauses.{said_left}
 use Rattle.rotation_stored.proofs.inverse_checked.Goals.{In_default}
 use Rattle.rotation_stored.proofs.inverse_checked.Goals as goal
 
@@ -16,10 +17,10 @@ passed : (c : goal.In_default) → first (stored_checks c.args.dim c.args.matrix
 passed c = sym c.check-checked.ensures ∙ ap says c.in_default.is
 
 pub returns-in-Refused : goal.returns-in-Refused
-returns-in-Refused c = both-refused _ _ (stored-inverse-refused _ _ _ _ (sym c.check-checked.ensures ∙ ap says c.in-Refused.is))
+returns-in-Refused c = said_left (both-refused _ _ (stored-inverse-refused _ _ _ _ (sym c.check-checked.ensures ∙ ap says c.in-Refused.is)))
 
 pub returns : goal.returns
-returns c = let called = c.project.ensures in
+returns c = said_left (let called = c.project.ensures in
     let a = c.args in
     let same = stored-inverse-projects a.dim a.matrix.now a.input.now (length a.output.now) (passed (goal.at.returns c).In_default) in
-    rw same at called
+    rw same at called)

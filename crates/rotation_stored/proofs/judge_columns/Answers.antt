@@ -34,4 +34,4 @@ pub returns : goal.returns
 unfolding stored_unrotated
 returns c = let n = c.args.dim in
     let xs = c.zeros-sums.result in
-    judged-same (project-part n n c.args.matrix.now c.args.input.now xs c.project.new.out (post_of 0 (n - 0) xs) (fits (goal.at.returns c).After-zeros-sums) c.project.auto.out (record { query_long = c.requires.input_long; matrix_long = c.requires.matrix_long }) c.project.ensures.out_after) c.hand_over.ensures
+    judged-same (project-part n n c.args.matrix.now c.args.input.now xs c.project.new.out (post_of 0 (n - 0) xs) (fits (goal.at.returns c).After-zeros-sums) c.project.auto.out (record { query_long = c.requires.input_long; matrix_long = c.requires.matrix_long }) c.project.ensures.left) c.hand_over.ensures

@@ -5,18 +5,13 @@ use mathlib.Core.Logic.{⊎_elim}
 use native.Mathlib.Omega.{arith}
 use lib.Ieee.{Float, lt, of_bits}
 use Rattle.rounding_u16.proofs.Bounds.{most, below_zero_lem, above_most, between-small}
+use Rattle.rounding_u16.proofs.bounded.Goals.{else-x, then-x}
 use Rattle.rounding_u16.proofs.bounded.Goals as goal
 
 pub returns-then-low : goal.returns-then-low
 unfolding of_bits
-returns-then-low c = ⊎_elim
-    (λ w. rw w.1 (between-small _ w.0.true (ap (λ (x : Float). lt x most) (sym w.1) ∙ c.if-low.true), refl))
-    (λ w. rw w.1 (omega arith, below_zero_lem _ w.0.false))
-    c.if-x.branch
+returns-then-low c = elim c.if-x.branch [ then-x w ↦ rw w.low-is (between-small _ w.if-x.true (ap (λ (x : Float). lt x most) (sym w.low-is) ∙ c.if-low.true), refl) | else-x w ↦ rw w.low-is (omega arith, below_zero_lem _ w.if-x.false) ]
 
 pub returns-else-low : goal.returns-else-low
 unfolding of_bits lt
-returns-else-low c = ⊎_elim
-    (λ w. (omega arith, above_most _ w.0.true (ap (λ (x : Float). lt x most) (sym w.1) ∙ c.if-low.false)))
-    (λ w. absurd (true≢false (ap (λ (x : Float). lt x most) (sym w.1) ∙ c.if-low.false)))
-    c.if-x.branch
+returns-else-low c = elim c.if-x.branch [ then-x w ↦ (omega arith, above_most _ w.if-x.true (ap (λ (x : Float). lt x most) (sym w.low-is) ∙ c.if-low.false)) | else-x w ↦ absurd (true≢false (ap (λ (x : Float). lt x most) (sym w.low-is) ∙ c.if-low.false)) ]

@@ -10,27 +10,28 @@ use Rattle.float.proofs.Levels.{levels-in_float}
 use Rattle.float.specs.Rounding.{round_unsigned}
 use Rattle.float.proofs.Round.{round_unsigned-lt}
 use Rattle.rounding_u16.proofs.Whole.{large, half, whole_of, whole-small, left_is, round-down, round_up}
-use Rattle.rounding_u16.proofs.nearest.Goals.{Else-z-n, Start}
+use Rattle.rounding_u16.specs.Inner.{Small}
+use Rattle.rounding_u16.proofs.nearest.Goals.{Else-z-n}
 use Rattle.rounding_u16.proofs.nearest.Goals as goal
 
 -- the whole number that is left, as a float and as an integer
-left : (c : goal.Start) → sub binary32 (add binary32 c.args.z large) large ≡ of_int binary32 (pos (whole_of c.args.z))
-left c = left_is c.args.z c.requires
+left : (z : Float) → Small z → sub binary32 (add binary32 z large) large ≡ of_int binary32 (pos (whole_of z))
+left z h = left_is z h
 
-whole : (c : goal.Start) → let n = of_int binary32 (pos (whole_of c.args.z)) in T (in_unsigned binary32 16 n) × (to_unsigned 16 n ≡ whole_of c.args.z)
-whole c = let small = whole-small c.args.z c.requires in unsigned_back binary32 16 (whole_of c.args.z) (levels-in_float (whole_of c.args.z) (omega (arith, small))) small
+whole : (z : Float) → Small z → let n = of_int binary32 (pos (whole_of z)) in T (in_unsigned binary32 16 n) × (to_unsigned 16 n ≡ whole_of z)
+whole z h = let small = whole-small z h in unsigned_back binary32 16 (whole_of z) (levels-in_float (whole_of z) (omega (arith, small))) small
 
-cast : (c : goal.Start) → to_unsigned 16 (sub binary32 (add binary32 c.args.z large) large) ≡ whole_of c.args.z
-cast c = ap (to_unsigned 16) (left c) ∙ (whole c).1
+cast : (z : Float) → Small z → to_unsigned 16 (sub binary32 (add binary32 z large) large) ≡ whole_of z
+cast z h = ap (to_unsigned 16) (left z h) ∙ (whole z h).1
 
 pub float_to_int-whole : goal.float_to_int-whole
 unfolding of_bits
-float_to_int-whole c = rw (left (goal.at.float_to_int-whole c).Start) (whole (goal.at.float_to_int-whole c).Start).0
+float_to_int-whole c = rw (left c.args.z c.requires) (whole c.args.z c.requires).0
 
 -- past the test
 up : (c : goal.Else-z-n) → to_unsigned 16 (sub binary32 (add binary32 c.args.z large) large) + 1 ≡ round_unsigned 16 c.args.z
 unfolding of_bits
-up c = ap (λ (n : ℕ). n + 1) (cast c) ∙ round_up c.args.z c.requires (ap (λ (n : Float). lt c.args.z (add binary32 n half)) (sym (left c)) ∙ c.if-z-n.false)
+up c = ap (λ (n : ℕ). n + 1) (cast c.args.z c.requires) ∙ round_up c.args.z c.requires (ap (λ (n : Float). lt c.args.z (add binary32 n half)) (sym (left c.args.z c.requires)) ∙ c.if-z-n.false)
 
 pub overflow_add-result : goal.overflow_add-result
 unfolding of_bits
@@ -38,7 +39,7 @@ overflow_add-result c = record { fits = rw (up (goal.at.overflow_add-result c).E
 
 pub returns-then-z-n : goal.returns-then-z-n
 unfolding of_bits
-returns-then-z-n c = cast (goal.at.returns-then-z-n c).Start ∙ round-down c.args.z c.requires (ap (λ (n : Float). lt c.args.z (add binary32 n half)) (sym (left (goal.at.returns-then-z-n c).Start)) ∙ c.if-z-n.true)
+returns-then-z-n c = cast c.args.z c.requires ∙ round-down c.args.z c.requires (ap (λ (n : Float). lt c.args.z (add binary32 n half)) (sym (left c.args.z c.requires)) ∙ c.if-z-n.true)
 
 pub returns-else-z-n : goal.returns-else-z-n
 unfolding of_bits

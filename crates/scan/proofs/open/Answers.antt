@@ -9,7 +9,7 @@ use Rattle.scan.proofs.open.Goals as goal
 
 pub returns-then-length-eq0 : goal.returns-then-length-eq0
 returns-then-length-eq0 c = let k = c.args.length in
-    let r = open-refused k (⊎_elim (λ w. open_none k w.true) (λ w. open-many k w.0.false w.1.true) c.then-length-eq0.branch) c.empty-scan.ensures in
+    let r = open-refused k (⊎_elim (λ w. open_none k w) (λ w. open-many k w.0 w.1) c.then-length-eq0.either) c.empty-scan.ensures in
     record { said = r.0; left = r.1; led = empty-led 1 (omega arith) (omega arith) c.empty-scan.ensures }
 
 pub returns : goal.returns

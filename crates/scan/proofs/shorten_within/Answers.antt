@@ -14,7 +14,7 @@ use Rattle.scan.proofs.shorten_within.Goals as goal
 pub returns-then-length-eq0 : goal.returns-then-length-eq0
 returns-then-length-eq0 c = let tally = c.args.tally in
     let n = c.args.length in
-    let r = shorten-refused tally n (⊎_elim (λ w. refused_none tally n w.true) (λ w. refused-above tally n w.0.false w.2.true) c.then-length-eq0.branch) in
+    let r = shorten-refused tally n (⊎_elim (λ w. refused_none tally n w) (λ w. refused-above tally n w.0 w.2.true) c.then-length-eq0.either) in
     record { said = r.0; left = r.1; led = (λ k earlier numbers scores led. subst (λ (t : Tally). Led k (asked n ∷ earlier) (scan_of t numbers scores)) (sym r.1) (shortened-led k earlier (scan_of tally numbers scores) n led)); alike = as-opened }
 
 pub returns : goal.returns

@@ -9,13 +9,13 @@ use Rattle.scan_entering.proofs.find_place.Goals as goal
 pub returns-then-not-scores-i : goal.returns-then-not-scores-i
 returns-then-not-scores-i c = let a = c.args in
     let l = c.loop-i in
-    let here = up-stopped a.score a.scores.now l.i c.loop-i-test.true (not-true _ c.if-not-scores-i.true) in
+    let here = up-stopped a.score a.scores.now l.i c.loop-i-test.true (c.if-not-scores-i.true) in
     record { at = sym (l.invariant.1 ∙ here.0); within = omega (arith, l.invariant.0); compared = omega (arith, l.invariant.2, here.1) }
 
 pub loop-i-preserved : goal.loop-i-preserved
 loop-i-preserved c = let a = c.args in
     let l = c.loop-i in
-    let passed = up-passed a.score a.scores.now l.i c.loop-i-test.true (not-false _ c.if-not-scores-i.false) in
+    let passed = up-passed a.score a.scores.now l.i c.loop-i-test.true (c.if-not-scores-i.false) in
     (omega (arith, l.invariant.0, c.loop-i-test.true), l.invariant.1 ∙ passed.0, omega (arith, l.invariant.2, passed.1))
 
 pub returns : goal.returns

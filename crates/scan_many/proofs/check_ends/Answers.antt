@@ -20,7 +20,7 @@ pub returns-then-end-start : goal.returns-then-end-start
 returns-then-end-start c = let a = c.args in
     let l = c.loop-i in
     let e = get_or a.ends.now l.i 0 in
-    let bad : bad_end a.long l.start e ≡ true = ⊎_elim (λ w. simp (lt-ltb _ _ w.true)) (λ w. simp (le-ltb _ _ w.0.false, w.1.true)) c.then-end-start.branch in
+    let bad : bad_end a.long l.start e ≡ true = ⊎_elim (λ w. simp (lt-ltb _ _ w)) (λ w. simp (le-ltb _ _ w.0, w.1)) c.then-end-start.either in
     sym (ap (λ (k : Check). first (k ∷ []) accepted) (l.invariant.1 ∙ ends-bad a.long l.start a.ends.now l.i c.loop-i-test.true bad))
 
 pub loop-i-preserved : goal.loop-i-preserved

@@ -11,9 +11,9 @@ use Rattle.setup_rotation.proofs.rotate_back.Goals as goal
 pub returns-in-FastHadamard : goal.returns-in-FastHadamard
 returns-in-FastHadamard c = let a = c.args in
     let e = rotate_back-at a.setup a.entries.now a.input.now (length a.output.now) c.in-FastHadamard.is in
-    record { result_value = c.apply_inverse.ensures.result_value ∙ ap done e; output_after = c.apply_inverse.ensures.output_after ∙ ap (λ (x : Answer (List Float)). after x a.output.now) e }
+    record { said = c.apply_inverse.ensures.said ∙ ap done e; left = c.apply_inverse.ensures.left ∙ ap (λ (x : Answer (List Float)). after x a.output.now) e }
 
 pub returns-in-Stored : goal.returns-in-Stored
 returns-in-Stored c = let a = c.args in
     let e = rotate_back-at a.setup a.entries.now a.input.now (length a.output.now) c.in-Stored.is in
-    record { result_value = c.apply_inverse-in-Stored.ensures.result_value ∙ ap done e; output_after = c.apply_inverse-in-Stored.ensures.output_after ∙ ap (λ (x : Answer (List Float)). after x a.output.now) e }
+    record { said = c.apply_inverse-in-Stored.ensures.said ∙ ap done e; left = c.apply_inverse-in-Stored.ensures.left ∙ ap (λ (x : Answer (List Float)). after x a.output.now) e }

@@ -11,9 +11,9 @@ use Rattle.setup_rotation.proofs.rotate_back_within.Goals as goal
 pub returns-in-FastHadamard : goal.returns-in-FastHadamard
 returns-in-FastHadamard c = let a = c.args in
     let e = rotate_back-at a.setup a.entries.now a.values.now (length a.values.now) c.in-FastHadamard.is in
-    record { result_value = c.apply_inverse_within.ensures.result_value ∙ ap done e; values_after = c.apply_inverse_within.ensures.values_after ∙ ap (λ (x : Answer (List Float)). after x a.values.now) e }
+    record { said = c.apply_inverse_within.ensures.said ∙ ap done e; left = c.apply_inverse_within.ensures.left ∙ ap (λ (x : Answer (List Float)). after x a.values.now) e }
 
 pub returns-in-Stored : goal.returns-in-Stored
 returns-in-Stored c = let a = c.args in
     let e = rotate_back-at a.setup a.entries.now a.values.now (length a.values.now) c.in-Stored.is in
-    record { result_value = c.stored_within.ensures.result_value ∙ ap done e; values_after = c.stored_within.ensures.values_after ∙ ap (λ (x : Answer (List Float)). after x a.values.now) e }
+    record { said = c.stored_within.ensures.said ∙ ap done e; left = c.stored_within.ensures.left ∙ ap (λ (x : Answer (List Float)). after x a.values.now) e }

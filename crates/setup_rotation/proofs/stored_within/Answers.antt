@@ -14,6 +14,7 @@ use Rattle.error.proofs.Answers.{after-value, both-refused, both-value}
 use Rattle.rotation_stored.specs.Stored.{stored_apply_inverse_of}
 use Rattle.rotation_stored.proofs.Accepted.{storable}
 use Rattle.setup_rotation.proofs.Within.{within-refused, within-passed, within-summed, within-value}
+use Rattle.error.proofs.Clauses.{said_left}
 use Rattle.setup_rotation.proofs.stored_within.Goals.{After-zeros-sums}
 use Rattle.setup_rotation.proofs.stored_within.Goals as goal
 
@@ -26,7 +27,7 @@ whole : (c : goal.After-zeros-sums) → length c.args.values.now ≤ 512 → len
 whole c few = part-long _ _ (fits c) ∙ c.room_for-room.ensures.whole few
 
 pub returns-in-Refused : goal.returns-in-Refused
-returns-in-Refused c = both-refused _ _ (within-refused _ _ _ _ (whole (goal.at.returns-in-Refused c).After-zeros-sums) (sym (ap says c.in-Refused.is) ∙ c.apply_inverse-outcome.ensures.result_value))
+returns-in-Refused c = said_left (both-refused _ _ (within-refused _ _ _ _ (whole (goal.at.returns-in-Refused c).After-zeros-sums) (sym (ap says c.in-Refused.is) ∙ c.apply_inverse-outcome.ensures.said)))
 
 pub slice_bounds-copy_into-end : goal.slice_bounds-copy_into-end
 slice_bounds-copy_into-end c = let n = c.room_for-room.result in
@@ -34,14 +35,14 @@ slice_bounds-copy_into-end c = let n = c.room_for-room.result in
     part-enough n xs (fits (goal.at.slice_bounds-copy_into-end c).After-zeros-sums) c.apply_inverse-outcome.new.output (post_of 0 (n - 0) xs) c.apply_inverse-outcome.auto.output
 
 pub returns : goal.returns
-returns c = let a = c.args in
+returns c = said_left (let a = c.args in
     let n = c.room_for-room.result in
     let xs = c.zeros-sums.result in
     let ys = c.apply_inverse-outcome.new.output in
     let zs = post_of 0 (n - 0) xs in
     let kept = c.apply_inverse-outcome.auto.output in
-    let e : accepted ≡ done (stored_apply_inverse_of a.dim a.matrix.now a.values.now (length (take (n - 0) xs))) = sym (ap says c.in_default.is) ∙ c.apply_inverse-outcome.ensures.result_value in
+    let e : accepted ≡ done (stored_apply_inverse_of a.dim a.matrix.now a.values.now (length (take (n - 0) xs))) = sym (ap says c.in_default.is) ∙ c.apply_inverse-outcome.ensures.said in
     let fit = storable a.dim a.matrix.now _ _ (within-passed _ _ _ _ (whole (goal.at.returns c).After-zeros-sums) e) in
     let long = part-again n xs (fits (goal.at.returns c).After-zeros-sums) ys zs kept ∙ sym (part-long n xs (fits (goal.at.returns c).After-zeros-sums)) ∙ fit.output_long ∙ sym fit.input_long in
     both-value _ _ _ (within-value _ _ _ _ (whole (goal.at.returns c).After-zeros-sums) e)
-    (c.copy_into.ensures ∙ copy_into-same (take (n - 0) (ys ++ zs)) a.values.now long ∙ part-read n xs (fits (goal.at.returns c).After-zeros-sums) ys zs kept ∙ c.apply_inverse-outcome.ensures.output_after ∙ after-value _ _ (within-summed _ _ _ _ (whole (goal.at.returns c).After-zeros-sums) e))
+    (c.copy_into.ensures ∙ copy_into-same (take (n - 0) (ys ++ zs)) a.values.now long ∙ part-read n xs (fits (goal.at.returns c).After-zeros-sums) ys zs kept ∙ c.apply_inverse-outcome.ensures.left ∙ after-value _ _ (within-summed _ _ _ _ (whole (goal.at.returns c).After-zeros-sums) e)))

@@ -8,6 +8,7 @@ use lib.ListN.{length}
 use lib.Ieee.{nan}
 use Rattle.setup_tables.specs.Checks.{bad_direction}
 use Rattle.error.proofs.Sweep.{swept-start, swept-pass, swept-spot, swept-end, Swept}
+use Rattle.setup_tables.proofs.all_directions.Goals.{else-is_bad_direction, then-is_bad_direction}
 use Rattle.setup_tables.proofs.all_directions.Goals as goal
 
 pub loop-i-init : goal.loop-i-init
@@ -29,10 +30,7 @@ pub loop-i-smaller : goal.loop-i-smaller
 loop-i-smaller c = omega arith
 
 pub loop-i-preserved : goal.loop-i-preserved
-loop-i-preserved c = ⊎_elim
-    (λ w. rw w.1 (swept-spot bad_direction _ _ _ nan (omega arith) (sym c.is_bad_direction.ensures ∙ w.0.true) c.loop-i.invariant))
-    (λ w. rw w.1 (swept-pass bad_direction _ _ _ nan (omega arith) (sym c.is_bad_direction.ensures ∙ w.0.false) c.loop-i.invariant))
-    c.if-is_bad_direction.branch
+loop-i-preserved c = elim c.if-is_bad_direction.branch [ then-is_bad_direction w ↦ rw w.ok-is (swept-spot bad_direction _ _ _ nan (omega arith) (sym c.is_bad_direction.ensures ∙ w.if-is_bad_direction.true) c.loop-i.invariant) | else-is_bad_direction w ↦ rw w.ok-is (swept-pass bad_direction _ _ _ nan (omega arith) (sym c.is_bad_direction.ensures ∙ w.if-is_bad_direction.false) c.loop-i.invariant) ]
 
 pub returns : goal.returns
 returns c = swept-end bad_direction _ _ _ (omega arith) c.loop-i.invariant

@@ -50,7 +50,7 @@ pub loop-column-preserved : goal.loop-column-preserved
 loop-column-preserved c = (
   c.loop-column.invariant.0,
   omega arith,
-  column-next bad_value _ _ _ _ (place-skip bad_value _ _ nan (index_below (goal.at.loop-column-preserved c).In-loop-column) (finite-passes _ (sym c.is_finite.ensures ∙ not-false _ c.if-not-is_finite.false)) c.loop-column.invariant.2),
+  column-next bad_value _ _ _ _ (place-skip bad_value _ _ nan (index_below (goal.at.loop-column-preserved c).In-loop-column) (finite-passes _ (sym c.is_finite.ensures ∙ c.if-not-is_finite.false)) c.loop-column.invariant.2),
 )
 
 pub overflow_add-row : goal.overflow_add-row
@@ -67,4 +67,4 @@ returns-after-rows c = let full = rows-full c.args.rows _ c.rows.row _ c.require
     c.rows.invariant.0 ∙ sym full ∙ sym (place_end bad_value _ _ (omega (arith, full)) c.rows.invariant.2)
 
 pub returns-then-not-is_finite : goal.returns-then-not-is_finite
-returns-then-not-is_finite c = sym (place_here bad_value _ _ nan (index_below (goal.at.returns-then-not-is_finite c).In-loop-column) (not-finite-offends _ (sym c.is_finite.ensures ∙ not-true _ c.if-not-is_finite.true)) c.loop-column.invariant.2)
+returns-then-not-is_finite c = sym (place_here bad_value _ _ nan (index_below (goal.at.returns-then-not-is_finite c).In-loop-column) (not-finite-offends _ (sym c.is_finite.ensures ∙ c.if-not-is_finite.true)) c.loop-column.invariant.2)

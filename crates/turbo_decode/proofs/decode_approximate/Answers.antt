@@ -13,6 +13,7 @@ use Rattle.turbo_opening.specs.Opening.{open_record_of}
 use Rattle.turbo_opening.specs.Inner.{opened_of}
 use Rattle.turbo_opening.proofs.Answers.{open-usable}
 use Rattle.turbo_decode.proofs.Answers.{decode-setup, decode-withdrawn, decode-closed, decode-room, decode-value, decode-ready}
+use Rattle.error.proofs.Clauses.{said_left}
 use Rattle.turbo_decode.proofs.decode_approximate.Goals.{In-Read, In_default}
 use Rattle.turbo_decode.proofs.decode_approximate.Goals as goal
 
@@ -32,25 +33,25 @@ opened c =
     sym (usable c) ∙ sym c.open_record.ensures ∙ ap says_reading c.in-Read.is
 
 pub returns-in-Refused : goal.returns-in-Refused
-returns-in-Refused c = let a = c.args in
-    both-refused _ a.out.now (decode-setup a.setup (lent a.rotation.now a.directions.now a.matrix.now) a.bytes.now (length a.out.now) (sym c.check_setup-checked.ensures ∙ ap says c.in-Refused.is))
+returns-in-Refused c = said_left (let a = c.args in
+    both-refused _ a.out.now (decode-setup a.setup (lent a.rotation.now a.directions.now a.matrix.now) a.bytes.now (length a.out.now) (sym c.check_setup-checked.ensures ∙ ap says c.in-Refused.is)))
 
 pub returns-then-out-dim : goal.returns-then-out-dim
-returns-then-out-dim c = let a = c.args in
-    both-refused _ a.out.now (decode-room a.setup (lent a.rotation.now a.directions.now a.matrix.now) a.bytes.now (length a.out.now) (passed (goal.at.returns-then-out-dim c).In_default) (opened (goal.at.returns-then-out-dim c).In-Read) c.if-out-dim.true)
+returns-then-out-dim c = said_left (let a = c.args in
+    both-refused _ a.out.now (decode-room a.setup (lent a.rotation.now a.directions.now a.matrix.now) a.bytes.now (length a.out.now) (passed (goal.at.returns-then-out-dim c).In_default) (opened (goal.at.returns-then-out-dim c).In-Read) c.if-out-dim.true))
 
 pub decode-requires : goal.decode-requires
 decode-requires c = let a = c.args in
     decode-ready a.setup (lent a.rotation.now a.directions.now a.matrix.now) a.bytes.now (length a.out.now) (passed (goal.at.decode-requires c).In_default) (opened (goal.at.decode-requires c).In-Read) c.if-out-dim.false
 
 pub returns-else-out-dim : goal.returns-else-out-dim
-returns-else-out-dim c = let a = c.args in
-    both-value _ a.out.now _ (decode-value a.setup (lent a.rotation.now a.directions.now a.matrix.now) a.bytes.now (length a.out.now) (passed (goal.at.returns-else-out-dim c).In_default) (opened (goal.at.returns-else-out-dim c).In-Read) c.if-out-dim.false) c.decode.ensures
+returns-else-out-dim c = said_left (let a = c.args in
+    both-value _ a.out.now _ (decode-value a.setup (lent a.rotation.now a.directions.now a.matrix.now) a.bytes.now (length a.out.now) (passed (goal.at.returns-else-out-dim c).In_default) (opened (goal.at.returns-else-out-dim c).In-Read) c.if-out-dim.false) c.decode.ensures)
 
 pub returns-in-Refused-open_record : goal.returns-in-Refused-open_record
-returns-in-Refused-open_record c = let a = c.args in
-    both-refused _ a.out.now (decode-closed a.setup (lent a.rotation.now a.directions.now a.matrix.now) a.bytes.now (length a.out.now) (passed (goal.at.returns-in-Refused-open_record c).In_default) (sym (usable (goal.at.returns-in-Refused-open_record c).In_default) ∙ sym c.open_record.ensures ∙ ap says_reading c.in-Refused-open_record.is))
+returns-in-Refused-open_record c = said_left (let a = c.args in
+    both-refused _ a.out.now (decode-closed a.setup (lent a.rotation.now a.directions.now a.matrix.now) a.bytes.now (length a.out.now) (passed (goal.at.returns-in-Refused-open_record c).In_default) (sym (usable (goal.at.returns-in-Refused-open_record c).In_default) ∙ sym c.open_record.ensures ∙ ap says_reading c.in-Refused-open_record.is)))
 
 pub returns-in-Withdrawn : goal.returns-in-Withdrawn
-returns-in-Withdrawn c = let a = c.args in
-    both-withdrawn _ a.out.now (decode-withdrawn a.setup (lent a.rotation.now a.directions.now a.matrix.now) a.bytes.now (length a.out.now) (passed (goal.at.returns-in-Withdrawn c).In_default) (sym (usable (goal.at.returns-in-Withdrawn c).In_default) ∙ sym c.open_record.ensures ∙ ap says_reading c.in-Withdrawn.is))
+returns-in-Withdrawn c = said_left (let a = c.args in
+    both-withdrawn _ a.out.now (decode-withdrawn a.setup (lent a.rotation.now a.directions.now a.matrix.now) a.bytes.now (length a.out.now) (passed (goal.at.returns-in-Withdrawn c).In_default) (sym (usable (goal.at.returns-in-Withdrawn c).In_default) ∙ sym c.open_record.ensures ∙ ap says_reading c.in-Withdrawn.is)))

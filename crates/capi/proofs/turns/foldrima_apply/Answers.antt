@@ -4,4 +4,4 @@ use borrow.Author.Rules.{rules}
 use Rattle.capi.proofs.turns.foldrima_apply.Goals as goal
 
 pub returns : goal.returns
-returns c = record { answer = told-as c.tell.ensures c.apply.ensures.result_value; left = c.apply.ensures.output_after }
+returns c = record { answer = told-as c.tell.ensures c.apply.ensures.said; left = c.apply.ensures.left }

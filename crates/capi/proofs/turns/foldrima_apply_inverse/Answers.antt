@@ -4,4 +4,4 @@ use borrow.Author.Rules.{rules}
 use Rattle.capi.proofs.turns.foldrima_apply_inverse.Goals as goal
 
 pub returns : goal.returns
-returns c = record { answer = told-as c.tell.ensures c.apply_inverse.ensures.result_value; left = c.apply_inverse.ensures.output_after }
+returns c = record { answer = told-as c.tell.ensures c.apply_inverse.ensures.said; left = c.apply_inverse.ensures.left }

@@ -11,5 +11,5 @@ use Rattle.capi.proofs.turns.foldrima_sketch.Goals as goal
 
 pub returns : goal.returns
 returns c = let a = c.args in
-    let e = c.sketch.ensures.result_value ∙ ap (λ (s : Setup). done (sketch_of s (lent a.rotation.now a.directions.now a.matrix.now) a.vector.now (length a.out.now))) c.setup-scalars.ensures in
-    record { answer = told-as c.tell.ensures e; left = c.sketch.ensures.out_after ∙ ap (λ (s : Setup). after (sketch_of s (lent a.rotation.now a.directions.now a.matrix.now) a.vector.now (length a.out.now)) a.out.now) c.setup-scalars.ensures }
+    let e = c.sketch.ensures.said ∙ ap (λ (s : Setup). done (sketch_of s (lent a.rotation.now a.directions.now a.matrix.now) a.vector.now (length a.out.now))) c.setup-scalars.ensures in
+    record { answer = told-as c.tell.ensures e; left = c.sketch.ensures.left ∙ ap (λ (s : Setup). after (sketch_of s (lent a.rotation.now a.directions.now a.matrix.now) a.vector.now (length a.out.now)) a.out.now) c.setup-scalars.ensures }
