@@ -15,7 +15,7 @@ use borrow.Author.Tests.{eq-eqb, ne_eqb}
 use Rattle.bitpack.specs.Signs.{is_plus, is_minus, bit_of_sign, sign_of_bit}
 
 pub signed_back : (z : ℤ) → mag z < 2 ^ 7 → to_z w8 (of_z w8 z) ≡ z
-signed_back z h = to_z-of_z (record { sfits = h })
+signed_back z h = to_z-of_z {w = w8} (record { sfits = h })
 
 -- an element of a list of signs, as it is read
 pub signed-at : (signs : List ℤ) (i : ℕ) → mag (get_or signs i (pos 0)) < 2 ^ 7 → to_z w8 (of_z w8 (get_or signs i (pos 0))) ≡ get_or signs i (pos 0)

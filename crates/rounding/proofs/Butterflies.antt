@@ -75,4 +75,4 @@ pub close-stages : {s k : ℕ} {rs bs : List ℕ} {vs : List Float} {xs : List D
     → AllClose s (k + n) (stages ◌+◌ ◌+◌ 0 n h rs) (stages ◌+◌ ◌+◌ 0 n h bs) (stages (add binary32) (sub binary32) pos_zero n h vs) (stages ◌⊞◌ ◌⊟◌ nought n h xs)
 unfolding stages
 close-stages zero h K all = all-close-weaken (omega arith) all
-close-stages (suc n) h K all = all-close-weaken (omega arith) (close-stages n (h + h) (omega arith) (close-stage h (omega arith) all))
+close-stages {k = k} (suc n) h K all = all-close-weaken (omega arith) (close-stages {k = k + 1} n (h + h) (omega arith) (close-stage h (omega arith) all))

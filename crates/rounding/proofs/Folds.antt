@@ -26,7 +26,7 @@ close-running {j} {r} {a} J L h none = close-same (omega arith) (close-weaken (o
 close-running {j} {r} {a} J L h (next g all) =
     close-same (omega arith)
     (close-weaken (omega arith) (omega arith) (omega arith)
-    (close-running (omega arith) (omega arith) (close-add (omega arith) h (close-weaken J (le_refl _) (le_refl _) g)) all))
+    (close-running {j = j + 1} (omega arith) (omega arith) (close-add (omega arith) h (close-weaken J (le_refl _) (le_refl _) g)) all))
 
 -- from +0.0
 pub close-total : {s k : ℕ} {rs bs : List ℕ} {vs : List Float} {xs : List Diff} → k + length vs ≤ 2 ^ 23 → AllClose s k rs bs vs xs
