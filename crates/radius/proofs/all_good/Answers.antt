@@ -22,6 +22,10 @@ offset_bounds-radii-at c = scaled_Fits _ _ 4 c.loop-at-test.true c.well_formed.0
 pub bounds-radii-at : goal.bounds-radii-at
 bounds-radii-at c = omega arith
 
+pub float_from_bits-t-9 : goal.float_from_bits-t-9
+unfolding nan_bits
+float_from_bits-t-9 c = tt
+
 pub overflow_add-at : goal.overflow_add-at
 overflow_add-at c = omega arith
 

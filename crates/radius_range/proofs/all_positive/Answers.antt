@@ -1,5 +1,7 @@
 -- `radius_range::all_positive` meets its contract, by the laws of `Sweep`. Assumes nothing.
 use Prim.Native.Nat.{◌-◌}
+use mathlib.Core.Path.{ap}
+use mathlib.Core.Bool.{not}
 use mathlib.Core.Logic.{⊎_elim}
 use native.Mathlib.Omega.{arith}
 use lib.ListN.{length}
@@ -27,7 +29,7 @@ loop-i-smaller c = omega arith
 
 pub loop-i-preserved : goal.loop-i-preserved
 unfolding of_bits
-loop-i-preserved c = elim c.if-not-radii-i.branch [ then-not-radii-i w ↦ rw w.ok-is (swept-spot not_positive c.args.radii.now c.loop-i.i c.loop-i.ok nan c.loop-i-test.true w.if-not-radii-i.true c.loop-i.invariant) | else-not-radii-i w ↦ rw w.ok-is (swept-pass not_positive c.args.radii.now c.loop-i.i c.loop-i.ok nan c.loop-i-test.true w.if-not-radii-i.false c.loop-i.invariant) ]
+loop-i-preserved c = elim c.if-not-radii-i.branch [ then-not-radii-i w ↦ rw w.ok-is (swept-spot not_positive c.args.radii.now c.loop-i.i c.loop-i.ok nan c.loop-i-test.true (ap not w.if-not-radii-i.true) c.loop-i.invariant) | else-not-radii-i w ↦ rw w.ok-is (swept-pass not_positive c.args.radii.now c.loop-i.i c.loop-i.ok nan c.loop-i-test.true (ap not w.if-not-radii-i.false) c.loop-i.invariant) ]
 
 pub returns : goal.returns
 returns c = swept-end not_positive _ _ _ c.loop-i-test.false c.loop-i.invariant

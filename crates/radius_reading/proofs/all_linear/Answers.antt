@@ -42,14 +42,14 @@ loop-i-preserved c = let here = c.loop-i in
     let radius = c.get_radius-radius.result in
     let above : c.if-radius.above ≡ true → (here.above ≡ true) × (lt radius pos_zero ≡ false) =
     elim c.if-radius.branch [ then-radius w ↦ λ t. absurd (false≢true (sym w.above-is ∙ t)) | else-radius w ↦ λ t. (sym w.above-is ∙ t, w.if-radius.false) ] in
-    let finite : c.if-not-radius.finite ≡ true → (here.finite ≡ true) × (not (lt radius (of_bits binary32 0x7F80_0000)) ≡ false) =
+    let finite : c.if-not-radius.finite ≡ true → (here.finite ≡ true) × (lt radius (of_bits binary32 0x7F80_0000) ≡ true) =
     elim c.if-not-radius.branch [ then-not-radius w ↦ λ t. absurd (false≢true (sym w.finite-is ∙ t)) | else-not-radius w ↦ λ t. (sym w.finite-is ∙ t, w.if-not-radius.false) ] in
     passing-next bad_radius (linear_radius _) 2 payload _ radius here.i here.at (here.above && here.finite) (c.if-radius.above && c.if-not-radius.finite) (omega arith) here.invariant read
     (λ t.
     let both = and-true c.if-radius.above c.if-not-radius.finite t in
     let a = above both.0 in
     let b = finite both.1 in
-    (rw (a.0, b.0) refl, radius-passes radius a.1 b.1))
+    (rw (a.0, b.0) refl, radius-passes radius a.1 (ap not b.1)))
 
 pub returns-then-above : goal.returns-then-above
 returns-then-above c = λ e. passing-end bad_radius (linear_radius _) 2 _ _ _ _ _ c.loop-i-test.false c.loop-i.invariant (rw c.if-above.true e)

@@ -34,8 +34,8 @@ loop-i-preserved c = let here = c.loop-i in
     let payload = c.args.payload.now in
     let same : c.get_word.result ≡ number 256 (take 4 (drop here.at payload)) =
     c.get_word.ensures ∙ ap (number 256) (sym (run-four {A = ℕ} payload here.at 0 (omega (arith, here.invariant.start, c.requires)))) in
-    passing-next bad_radius of_le_bytes 4 payload _ _ here.i here.at here.ok c.if-get_word-ge2139095040.type_inv (omega arith) here.invariant refl
-    (elim c.if-get_word-ge2139095040.branch [ then-get_word-ge2139095040 w ↦ λ t. absurd (false≢true (sym w.type_inv-is ∙ t)) | else-get_word-ge2139095040 w ↦ λ t. (sym w.type_inv-is ∙ t, pattern-passes (take 4 (drop here.at payload)) (omega (arith, same, w.if-get_word-ge2139095040.false))) ])
+    passing-next bad_radius of_le_bytes 4 payload _ _ here.i here.at here.ok c.if-get_word-ge2139095040.ok (omega arith) here.invariant refl
+    (elim c.if-get_word-ge2139095040.branch [ then-get_word-ge2139095040 w ↦ λ t. absurd (false≢true (sym w.ok-is ∙ t)) | else-get_word-ge2139095040 w ↦ λ t. (sym w.ok-is ∙ t, pattern-passes (take 4 (drop here.at payload)) (omega (arith, same, w.if-get_word-ge2139095040.false))) ])
 
 pub returns : goal.returns
 returns c = λ e. passing-end bad_radius of_le_bytes 4 _ _ _ _ _ c.loop-i-test.false c.loop-i.invariant e

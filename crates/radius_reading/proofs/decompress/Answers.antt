@@ -13,4 +13,4 @@ returns-in-Refused c = said_left (both-refused _ _ (content-refused _ _ _ _ _ (s
 
 pub returns : goal.returns
 returns c = said_left (let a = c.args in
-    rw (content-restore a.profile a.count a.range a.payload.now (length a.out.now) (sym c.check_content-checked.ensures ∙ ap says c.in_default.is)) c.restore.ensures)
+    rw (content-restore a.profile a.count a.range a.payload.now (length a.out.now) (sym c.check_content-checked.ensures ∙ ap says c.in_default.is)) (c.restore.ensures.said, c.restore.ensures.left))

@@ -15,11 +15,8 @@ use Rattle.radius.specs.Radii.{bad_radius}
 use Rattle.radius.specs.declared.Range.{Range}
 use Rattle.radius.proofs.Passes.{Flagged, flagged-start, flagged-next, flagged-end}
 use Rattle.radius_writing.proofs.all_kept.Goals.{After-radius_of-kept, Joined-kept, Joined-not-kept, else-kept, else-not-kept, then-kept, then-not-kept}
+use Rattle.radius_writing.proofs.all_kept.Invariants.{kept_of}
 use Rattle.radius_writing.proofs.all_kept.Goals as goal
-
--- what a radius is read back as, from a least radius and a span
-abbrev kept_of : Range → Float → Float → Float → Float
-kept_of range min span r = radius_of range (quantize_radius_of min span r)
 
 pub loop-i-init : goal.loop-i-init
 loop-i-init c = flagged-start (kept_of _ _ _) _
@@ -29,6 +26,10 @@ offset_bounds-radii-i c = scaled_Fits _ _ 4 c.loop-i-test.true c.well_formed.0.1
 
 pub bounds-radii-i : goal.bounds-radii-i
 bounds-radii-i c = omega arith
+
+pub float_from_bits-t-13 : goal.float_from_bits-t-13
+unfolding nan_bits
+float_from_bits-t-13 c = tt
 
 pub overflow_add-i : goal.overflow_add-i
 overflow_add-i c = omega arith
@@ -40,17 +41,17 @@ loop-i-smaller c = omega arith
 judged : (c : goal.After-radius_of-kept) → c.radius_of-kept.result ≡ kept_of c.args.range c.args.range.min c.span_of-span.result (get_or c.args.radii.now c.loop-i.i nan)
 judged c = c.radius_of-kept.ensures ∙ ap (radius_of _) c.quantize_radius-number.ensures
 
--- a flag that stands after its test stood before it, and the test passed
-stands-above : (c : goal.Joined-kept) → c.if-kept.above ≡ true → (c.loop-i.above ≡ true) × (lt (kept_of c.args.range c.args.range.min c.span_of-span.result (get_or c.args.radii.now c.loop-i.i nan)) pos_zero ≡ false)
+-- a flag that stands after its test stood before it, and the test passed: `same` says that it was of the radius at hand
+stands-above : (c : goal.Joined-kept) → c.radius_of-kept.result ≡ kept_of c.args.range c.args.range.min c.span_of-span.result (get_or c.args.radii.now c.loop-i.i nan) → c.if-kept.above ≡ true → (c.loop-i.above ≡ true) × (lt (kept_of c.args.range c.args.range.min c.span_of-span.result (get_or c.args.radii.now c.loop-i.i nan)) pos_zero ≡ false)
 unfolding of_bits
-stands-above c e = elim c.if-kept.branch [ then-kept w ↦ absurd (false≢true (sym w.above-is ∙ e)) | else-kept w ↦ (sym w.above-is ∙ e, ap (λ (x : Float). lt x pos_zero) (sym (judged c)) ∙ w.if-kept.false) ]
+stands-above c same e = elim c.if-kept.branch [ then-kept w ↦ absurd (false≢true (sym w.above-is ∙ e)) | else-kept w ↦ (sym w.above-is ∙ e, ap (λ (x : Float). lt x pos_zero) (sym same) ∙ w.if-kept.false) ]
 
-stands-below : (c : goal.Joined-not-kept) → c.if-not-kept.below ≡ true → (c.loop-i.below ≡ true) × (lt (kept_of c.args.range c.args.range.min c.span_of-span.result (get_or c.args.radii.now c.loop-i.i nan)) (inf false) ≡ true)
+stands-below : (c : goal.Joined-not-kept) → c.radius_of-kept.result ≡ kept_of c.args.range c.args.range.min c.span_of-span.result (get_or c.args.radii.now c.loop-i.i nan) → c.if-not-kept.below ≡ true → (c.loop-i.below ≡ true) × (lt (kept_of c.args.range c.args.range.min c.span_of-span.result (get_or c.args.radii.now c.loop-i.i nan)) (inf false) ≡ true)
 unfolding of_bits
-stands-below c e = elim c.if-not-kept.branch [ then-not-kept w ↦ absurd (false≢true (sym w.below-is ∙ e)) | else-not-kept w ↦ (sym w.below-is ∙ e, ap (λ (x : Float). lt x (inf false)) (sym (judged c)) ∙ w.if-not-kept.false) ]
+stands-below c same e = elim c.if-not-kept.branch [ then-not-kept w ↦ absurd (false≢true (sym w.below-is ∙ e)) | else-not-kept w ↦ (sym w.below-is ∙ e, ap (λ (x : Float). lt x (inf false)) (sym same) ∙ w.if-not-kept.false) ]
 
 pub loop-i-preserved : goal.loop-i-preserved
-loop-i-preserved c = flagged-next (kept_of _ _ _) _ _ _ _ _ _ c.loop-i-test.true (stands-above (goal.at.loop-i-preserved c).Joined-kept) (stands-below (goal.at.loop-i-preserved c).Joined-not-kept) c.loop-i.invariant
+loop-i-preserved c = flagged-next (kept_of _ _ _) _ _ _ _ _ _ c.loop-i-test.true (stands-above (goal.at.loop-i-preserved c).Joined-kept (judged (goal.at.loop-i-preserved c).After-radius_of-kept)) (stands-below (goal.at.loop-i-preserved c).Joined-not-kept (judged (goal.at.loop-i-preserved c).After-radius_of-kept)) c.loop-i.invariant
 
 pub returns-then-above : goal.returns-then-above
 returns-then-above c = λ e.

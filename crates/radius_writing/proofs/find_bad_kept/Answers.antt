@@ -13,11 +13,8 @@ use Rattle.radius.specs.Radii.{bad_radius}
 use Rattle.radius.specs.declared.Range.{Range}
 use Rattle.radius_writing.specs.Inner.{bad_kept}
 use Rattle.radius_writing.proofs.find_bad_kept.Goals.{After-is_bad_radius, After-span_of-span}
+use Rattle.radius_writing.proofs.find_bad_kept.Invariants.{kept}
 use Rattle.radius_writing.proofs.find_bad_kept.Goals as goal
-
--- whether the number of a radius, from a least radius and a span, reads as no radius within a range
-abbrev kept : Range → Float → Float → Float → Bool
-kept range min span r = bad_radius (radius_of range (quantize_radius_of min span r))
 
 pub loop-i-init : goal.loop-i-init
 loop-i-init c = (omega arith, place-start _ _)

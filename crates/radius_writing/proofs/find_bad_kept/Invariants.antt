@@ -14,6 +14,10 @@ use Rattle.radius.specs.declared.Range.{Range}
 use Rattle.radius_writing.specs.Inner.{bad_kept}
 use Rattle.radius_writing.proofs.find_bad_kept.Given as goal
 
+-- whether the number of a radius, from a least radius and a span, reads as no radius within a range
+abbrev pub kept : Range → Float → Float → Float → Bool
+kept range min span r = bad_radius (radius_of range (quantize_radius_of min span r))
+
 abbrev pub invariant-loop-i : goal.invariant-loop-i
 invariant-loop-i l = (l.i ≤ length l.radii) × (place (kept l.range l.min l.span) l.radii ≡ l.i + place (kept l.range l.min l.span) (drop l.i l.radii))
 

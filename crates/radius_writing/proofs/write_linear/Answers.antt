@@ -10,11 +10,8 @@ use Rattle.digits.proofs.Laws.{length_digits}
 use Rattle.radius.specs.Linear.{quantize_radius_of, linear_bytes}
 use Rattle.lists.proofs.Loops.{Written, written_start, written_next, written-end, place-within}
 use native.Mathlib.Omega.{arith}
+use Rattle.radius_writing.proofs.write_linear.Invariants.{pair}
 use Rattle.radius_writing.proofs.write_linear.Goals as goal
-
--- the two bytes of a radius, from a least radius and a span
-abbrev pair : Float → Float → Float → List ℕ
-pair min span r = digits 256 2 (quantize_radius_of min span r)
 
 pub loop-i-init : goal.loop-i-init
 loop-i-init c = written_start (pair _ _) 2 _ _ c.requires

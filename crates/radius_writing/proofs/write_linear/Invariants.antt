@@ -12,6 +12,10 @@ use Rattle.lists.proofs.Loops.{Written, written_start, written_next, written-end
 use native.Mathlib.Omega.{arith}
 use Rattle.radius_writing.proofs.write_linear.Given as goal
 
+-- the two bytes of a radius, from a least radius and a span
+abbrev pub pair : Float → Float → Float → List ℕ
+pair min span r = digits 256 2 (quantize_radius_of min span r)
+
 abbrev pub invariant-loop-i : goal.invariant-loop-i
 invariant-loop-i l = Written (pair l.min l.span) 2 l.radii l.out l.i l.at
 

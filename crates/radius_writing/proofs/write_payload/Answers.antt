@@ -23,11 +23,11 @@ write_linear-requires c = rw c.in-BlockLinearU16.is at c.requires
 
 pub returns-in-F32 : goal.returns-in-F32
 unfolding of_bits
-returns-in-F32 c = rw c.in-F32.is (refl, c.write_floats.ensures)
+returns-in-F32 c = rw c.in-F32.is (record { range = refl; bytes = c.write_floats.ensures })
 
 pub returns-in-BlockLinearU16 : goal.returns-in-BlockLinearU16
-returns-in-BlockLinearU16 c = rw c.in-BlockLinearU16.is (c.range_of-range.ensures, c.write_linear.ensures ∙ ap (λ (range : Range). flat_map (linear_bytes range) c.args.radii.now) c.range_of-range.ensures)
+returns-in-BlockLinearU16 c = rw c.in-BlockLinearU16.is (record { range = c.range_of-range.ensures; bytes = c.write_linear.ensures ∙ ap (λ (range : Range). flat_map (linear_bytes range) c.args.radii.now) c.range_of-range.ensures })
 
 pub returns-in-BlockLogU8 : goal.returns-in-BlockLogU8
 unfolding of_bits
-returns-in-BlockLogU8 c = rw c.in-BlockLogU8.is (refl, none _ _ (rw c.in-BlockLogU8.is at c.requires))
+returns-in-BlockLogU8 c = rw c.in-BlockLogU8.is (record { range = refl; bytes = none _ _ (rw c.in-BlockLogU8.is at c.requires) })
