@@ -51,7 +51,7 @@ from-split i n count h = let e : n - i ≡ count + (n - (i + count)) = omega ari
 running-append : (acc : Float) (f : ℕ → Float) (xs ys : List ℕ) → running acc (map f (xs ++ ys)) ≡ running (running acc (map f xs)) (map f ys)
 unfolding running
 running-append acc f [] ys = refl
-running-append acc f (x ∷ xs) ys = running-append _ f xs ys
+running-append acc f (x ∷ xs) ys = running-append (add binary32 acc (f x)) f xs ys
 
 -- four turns of a loop over terms at once
 pub total-four : (f : ℕ → Float) (n i : ℕ) (acc a b c d : Float) {whole : Float} → i + 4 ≤ n → a ≡ f i → b ≡ f (i + 1) → c ≡ f (i + 2) → d ≡ f (i + 3) → whole ≡ running acc (map f (from i (n - i)))

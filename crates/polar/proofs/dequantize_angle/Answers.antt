@@ -10,11 +10,11 @@ use Rattle.polar.proofs.dequantize_angle.Goals as goal
 
 pub returns-then-bits-lt1 : goal.returns-then-bits-lt1
 unfolding dequantize_angle_of
-returns-then-bits-lt1 c = ⊎_elim (λ w. simp (lt-ltb _ _ w)) (λ w. simp (le-ltb _ _ w.0, w.1)) c.then-bits-lt1.either
+returns-then-bits-lt1 c = ⊎_elim (λ w. simp (lt-ltb c.args.bits 1 w)) (λ w. simp (le-ltb c.args.bits 1 w.0, lt-ltb 16 c.args.bits w.1)) c.then-bits-lt1.either
 
 -- past the check of the bits
 narrow : (c : goal.Else-bits-gt16) → c.args.bits ≤ 16
-narrow c = ltb-false 16 c.args.bits c.if-bits-gt16.false
+narrow c = c.if-bits-gt16.false
 
 pub overflow_shl-levels : goal.overflow_shl-levels
 overflow_shl-levels c = omega (arith, narrow (goal.at.overflow_shl-levels c).Else-bits-gt16)
@@ -23,7 +23,7 @@ pub returns-then-levels-index : goal.returns-then-levels-index
 unfolding dequantize_angle_of
 returns-then-levels-index c = simp (
   le-ltb _ _ c.if-bits-lt1.false,
-  c.if-bits-gt16.false,
+  le-ltb _ _ c.if-bits-gt16.false,
   ← levels-shifted c.args.bits (narrow (goal.at.returns-then-levels-index c).Else-bits-gt16),
   le-leb _ _ c.if-levels-index.true,
 )
@@ -40,6 +40,6 @@ returns c = let bits = c.args.bits in
     simp (
       shifted,
       le-ltb _ _ c.if-bits-lt1.false,
-      c.if-bits-gt16.false,
+      le-ltb _ _ c.if-bits-gt16.false,
       lt-leb _ _ (rw shifted at c.if-levels-index.false),
     )

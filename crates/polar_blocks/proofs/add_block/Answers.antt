@@ -1,19 +1,24 @@
 -- `polar_blocks::add_block` meets its contract: what was restored is judged, and its terms are added. Assumes nothing.
 use borrow.Author.Rules.{rules}
-use Prim.Native.Nat.{◌+◌, ◌-◌, ◌*◌, ◌≤◌}
+use Prim.Native.Nat.{ℕ, ◌+◌, ◌-◌, ◌*◌, ◌≤◌}
 use mathlib.Core.Path.{◌≡◌, sym, ◌∙◌}
-use mathlib.Core.List.{◌++◌}
+use mathlib.Core.Bool.{false}
+use mathlib.Core.List.{List, ◌++◌}
 use native.Mathlib.Nat.{mul-add}
 use native.Mathlib.Omega.{arith}
 use borrow.Rule.Slice.PartMut.{post_of}
-use lib.ListN.{length, take}
+use lib.ListN.{length, take, drop}
+use lib.Ieee.{Float}
+use Rattle.error.specs.Answer.{after}
 use Rattle.lists.proofs.Parts.{part-long, part-read, part-again, part-enough}
-use Rattle.radius.specs.Codec.{width_of}
+use Rattle.radius.specs.Codec.{bad_profile, width_of, restore_of}
+use Rattle.radius.specs.declared.Range.{Range}
+use Rattle.radius.specs.declared.RadiusCodecProfileV1.{RadiusCodecProfileV1}
 use Rattle.polar_blocks.specs.Inner.{part_radii}
 use Rattle.polar_blocks.proofs.Radii.{part-restored}
 use borrow.Author.Tests.{not-true, not-false}
 use Rattle.polar_blocks.proofs.Blocks.{added-sum, added_none, block-lent}
-use Rattle.polar_blocks.proofs.add_block.Goals.{After-no_radii-block, After-restore, After-width_of-width}
+use Rattle.polar_blocks.proofs.add_block.Goals.{After-no_radii-block, After-width_of-width}
 use Rattle.polar_blocks.proofs.add_block.Goals as goal
 
 -- the width, as it is read
@@ -29,11 +34,12 @@ room : (c : goal.After-no_radii-block) → c.args.count ≤ length c.no_radii-bl
 room c = omega (arith, c.requires.small, c.no_radii-block.type_inv)
 
 -- what the part of the array holds that is read
-block-is : (c : goal.After-restore) → take (c.args.count - 0) (c.restore.new.out ++ post_of 0 (c.args.count - 0) c.no_radii-block.result) ≡ part_radii c.args.profile c.args.range c.args.radii.now c.args.at c.args.count
-block-is c =
-    part-read c.args.count c.no_radii-block.result (room c) c.restore.new.out (post_of 0 (c.args.count - 0) c.no_radii-block.result) c.restore.auto.out
-    ∙ c.restore.ensures.left
-    ∙ part-restored c.args.profile c.args.range c.args.radii.now c.args.at c.args.count _ _ _ c.requires.known (width c) c.requires.sized (part-long c.args.count c.no_radii-block.result (room c))
+block-is : (profile : RadiusCodecProfileV1) (range : Range) (radii : List ℕ) (at count width : ℕ) (held new rest : List Float) → bad_profile profile ≡ false → width ≡ width_of profile → width_of profile * (at + count) ≤ length radii
+    → count ≤ length held → length new ≡ length (take (count - 0) held)
+    → new ≡ after (restore_of profile count range (take (width * at + width * count - width * at) (drop (width * at) radii)) (length (take (count - 0) held))) (take (count - 0) held)
+    → take (count - 0) (new ++ rest) ≡ part_radii profile range radii at count
+block-is profile range radii at count width held new rest known e sized enough l left =
+    part-read count held enough new rest l ∙ left ∙ part-restored profile range radii at count width _ _ known e sized (part-long count held enough)
 
 pub overflow_mul-start : goal.overflow_mul-start
 overflow_mul-start c = omega (arith, ends (goal.at.overflow_mul-start c).After-width_of-width)
@@ -52,7 +58,7 @@ slice_bounds-all_good-end c = let k = c.args.count in
     part-enough k c.no_radii-block.result (room (goal.at.slice_bounds-all_good-end c).After-no_radii-block) c.restore.new.out (post_of 0 (k - 0) c.no_radii-block.result) c.restore.auto.out
 
 pub returns-then-not-all_good : goal.returns-then-not-all_good
-returns-then-not-all_good c = added_none c.args.directions.now c.args.rotated.now c.args.profile c.args.range c.args.radii.now c.args.indices.now c.args.bits c.args.at c.args.count (block-is (goal.at.returns-then-not-all_good c).After-restore) c.args.sum (sym c.all_good.ensures ∙ c.if-not-all_good.true)
+returns-then-not-all_good c = added_none c.args.directions.now c.args.rotated.now c.args.profile c.args.range c.args.radii.now c.args.indices.now c.args.bits c.args.at c.args.count (block-is c.args.profile c.args.range c.args.radii.now c.args.at c.args.count c.width_of-width.result c.no_radii-block.result c.restore.new.out (post_of 0 (c.args.count - 0) c.no_radii-block.result) c.requires.known c.width_of-width.ensures c.requires.sized (room (goal.at.returns-then-not-all_good c).After-no_radii-block) c.restore.auto.out c.restore.ensures.left) c.args.sum (sym c.all_good.ensures ∙ c.if-not-all_good.true)
 
 pub slice_bounds-block_sum-end : goal.slice_bounds-block_sum-end
 slice_bounds-block_sum-end c = let k = c.args.count in
@@ -62,4 +68,4 @@ pub block_sum-requires : goal.block_sum-requires
 block_sum-requires c = block-lent _ c.requires (part-again c.args.count c.no_radii-block.result (room (goal.at.block_sum-requires c).After-no_radii-block) c.restore.new.out (post_of 0 (c.args.count - 0) c.no_radii-block.result) c.restore.auto.out)
 
 pub returns : goal.returns
-returns c = added-sum c.args.directions.now c.args.rotated.now c.args.profile c.args.range c.args.radii.now c.args.indices.now c.args.bits c.args.at c.args.count (block-is (goal.at.returns c).After-restore) c.args.sum _ (sym c.all_good.ensures ∙ c.if-not-all_good.false) c.block_sum.ensures
+returns c = added-sum c.args.directions.now c.args.rotated.now c.args.profile c.args.range c.args.radii.now c.args.indices.now c.args.bits c.args.at c.args.count (block-is c.args.profile c.args.range c.args.radii.now c.args.at c.args.count c.width_of-width.result c.no_radii-block.result c.restore.new.out (post_of 0 (c.args.count - 0) c.no_radii-block.result) c.requires.known c.width_of-width.ensures c.requires.sized (room (goal.at.returns c).After-no_radii-block) c.restore.auto.out c.restore.ensures.left) c.args.sum _ (sym c.all_good.ensures ∙ c.if-not-all_good.false) c.block_sum.ensures

@@ -1,6 +1,7 @@
 -- `polar_blocks::all_below_infinity` meets its contract, by the laws of `Sweep`: a value offends where it is not below infinity. Assumes nothing.
 use Prim.Native.Nat.{◌-◌}
-use mathlib.Core.Logic.{⊎_elim}
+use mathlib.Core.Path.{ap}
+use mathlib.Core.Bool.{not}
 use native.Mathlib.Omega.{arith}
 use borrow.Author.Rules.{scaled_Fits}
 use lib.ListN.{length}
@@ -30,7 +31,7 @@ pub loop-i-smaller : goal.loop-i-smaller
 loop-i-smaller c = omega arith
 
 pub loop-i-preserved : goal.loop-i-preserved
-loop-i-preserved c = elim c.if-not-values-i.branch [ then-not-values-i w ↦ rw w.ok-is (swept-spot not_below_infinity _ _ _ nan (omega arith) w.if-not-values-i.true c.loop-i.invariant) | else-not-values-i w ↦ rw w.ok-is (swept-pass not_below_infinity _ _ _ nan (omega arith) w.if-not-values-i.false c.loop-i.invariant) ]
+loop-i-preserved c = elim c.if-not-values-i.branch [ then-not-values-i w ↦ rw w.ok-is (swept-spot not_below_infinity _ _ _ nan (omega arith) (ap not w.if-not-values-i.true) c.loop-i.invariant) | else-not-values-i w ↦ rw w.ok-is (swept-pass not_below_infinity _ _ _ nan (omega arith) (ap not w.if-not-values-i.false) c.loop-i.invariant) ]
 
 pub returns : goal.returns
 returns c = swept-end not_below_infinity _ _ _ (omega arith) c.loop-i.invariant

@@ -22,7 +22,7 @@ bits-few c = let narrow = (fits_told _ _ _ _ _ (fitting c)).narrow in omega (ari
 
 pub returns-then-not-fits_payload : goal.returns-then-not-fits_payload
 unfolding payload_sum_of
-returns-then-not-fits_payload c = rw (← c.fits_payload.ensures, not-true c.fits_payload.result c.if-not-fits_payload.true)
+returns-then-not-fits_payload c = rw (← c.fits_payload.ensures, c.if-not-fits_payload.true)
 
 pub returns-then-rotated-pairs : goal.returns-then-rotated-pairs
 unfolding payload_sum_of

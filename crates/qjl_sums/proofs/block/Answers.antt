@@ -42,7 +42,7 @@ loop-i-preserved c = let l = c.loop-i in
     let upper = c.products.ensures in
     let lower = c.products-2.ensures in (
       omega arith,
-      (four-placed _ _ _ _ l.i _ _ _ _ small inside upper.0 upper.1 c.plus-first.ensures l.invariant.1.0, four-placed _ _ _ _ l.i _ _ _ _ small inside lower.0 lower.1 c.plus-second.ensures l.invariant.1.1),
+      (four-placed _ _ _ _ l.i _ _ _ _ small inside upper.second upper.third c.plus-first.ensures l.invariant.1.0, four-placed _ _ _ _ l.i _ _ _ _ small inside lower.second lower.third c.plus-second.ensures l.invariant.1.1),
     )
 
 pub returns : goal.returns

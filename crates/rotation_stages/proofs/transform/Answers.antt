@@ -1,17 +1,18 @@
 -- `rotation_stages::transform` is every stage, in place, where there are two to the count values: the first two in a pass of their own, and then the others.
 -- Assumes nothing.
-use Prim.Native.Nat.{◌^◌, ◌-◌}
+use Prim.Native.Nat.{ℕ, ◌^◌, ◌-◌, ◌*◌, ◌≤◌}
 use mathlib.Core.Path.{◌≡◌, sym, ◌∙◌}
+use mathlib.Core.List.{List}
 use native.Mathlib.Omega.{arith}
 use borrow.Author.Rules.{rules}
 use lib.ListN.{length}
-use lib.Ieee.{binary32, add, sub}
+use lib.Ieee.{Float, binary32, add, sub}
 use Rattle.float.specs.Constants.{pos_zero}
-use Rattle.rounding.specs.Butterfly.{stages}
+use Rattle.rounding.specs.Butterfly.{stage, stages}
 use Rattle.rotation_stages.specs.Inner.{Steps}
 use Rattle.rotation_stages.proofs.Ordered.{Running, running-start, running-twice, steps-fours}
 use Rattle.rotation_stages.proofs.Transformed.{shifted, too_many, transformed-all, transformed-none}
-use Rattle.rotation_stages.proofs.transform.Goals.{After-doubles, Else-values-count}
+use Rattle.rotation_stages.proofs.transform.Goals.{Else-values-count}
 use Rattle.rotation_stages.proofs.transform.Goals as goal
 
 -- there are two to the count values
@@ -22,8 +23,8 @@ start : (c : goal.Else-values-count) → Steps 1 c.args.count (length c.args.val
 start c = record { above = omega arith; whole = omega (arith, whole c) }
 
 -- after the first two stages
-running : (c : goal.After-doubles) → Running 4 (c.args.count - 2) (stages (add binary32) (sub binary32) pos_zero c.args.count 1 c.args.values.now) c.doubles.new.values
-running c = running-twice 1 _ _ _ _ (running-start 1 _ _ (start c)) (omega arith) c.doubles.ensures
+running : (count : ℕ) (xs ys : List Float) → Steps 1 count (length xs) → 2 ≤ count → ys ≡ stage (add binary32) (sub binary32) pos_zero (2 * 1) (stage (add binary32) (sub binary32) pos_zero 1 xs) → Running 4 (count - 2) (stages (add binary32) (sub binary32) pos_zero count 1 xs) ys
+running count xs ys steps l e = running-twice 1 count _ xs ys (running-start 1 count xs steps) l e
 
 pub returns-then-count-gt63 : goal.returns-then-count-gt63
 returns-then-count-gt63 c = sym (transformed-none _ _ (too_many _ _ c.if-count-gt63.true c.well_formed.0.0))
@@ -41,7 +42,7 @@ pub doubles-requires : goal.doubles-requires
 doubles-requires c = steps-fours 1 _ _ (start (goal.at.doubles-requires c).Else-values-count) (omega arith)
 
 pub finish-requires-2 : goal.finish-requires-2
-finish-requires-2 c = (running (goal.at.finish-requires-2 c).After-doubles).steps
+finish-requires-2 c = (running _ _ _ (start (goal.at.finish-requires-2 c).Else-values-count) (omega arith) c.doubles.ensures).steps
 
 pub returns : goal.returns
-returns c = c.finish-2.ensures ∙ sym (running (goal.at.returns c).After-doubles).same ∙ sym (transformed-all _ _ (whole (goal.at.returns c).Else-values-count))
+returns c = c.finish-2.ensures ∙ sym (running _ _ _ (start (goal.at.returns c).Else-values-count) (omega arith) c.doubles.ensures).same ∙ sym (transformed-all _ _ (whole (goal.at.returns c).Else-values-count))
