@@ -2,8 +2,8 @@
  * Packs three indices, writes a record, scores it, is refused once, meets a withdrawn position, scores a record with a norm, and one of a board of six
  * under a stored rotation.
  *
- *     rt staticlib capi
- *     cc -I include host/c/example.c target/staticlib/libcapi.a -o example && ./example
+ *     rt lib capi
+ *     cc -I include host/c/example.c crates/capi/out/libcapi.a -o example && ./example
  */
 #include <stdio.h>
 

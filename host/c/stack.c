@@ -3,7 +3,7 @@
  * each runs in a thread whose stack was painted before. They run on good inputs, and on inputs that are refused late or whose sums are not finite, since
  * a call that sums first goes another way there; and all of that at a dimension of 256 too. The most of all is printed, with where it was met.
  *
- *     cc -O2 -I include host/c/stack.c target/staticlib/libcapi.a -lpthread -lm -o stack && ./stack
+ *     cc -O2 -I include host/c/stack.c crates/capi/out/libcapi.a -lpthread -lm -o stack && ./stack
  *
  * Ends with 1 where a call takes more than the header names for its kind, or refuses good inputs.
  */

@@ -1,6 +1,6 @@
 -- What a pattern below the infinity's stands for: `significand_of b * 2 ^ shift_of b` units of 2 ^ -149, not negative (`decode`); and every finite f32 that is not
 -- negative has such a pattern (`non_negative-to_bits`), so its units are read off its pattern (`units-toBits`) and are its exact value (`units-value`). Assumes nothing.
-use Rattle.std.proofs.Common.{◌≡◌, ℕ, zero, suc, ◌+◌, ◌-◌, ◌*◌, ◌/◌, ◌%◌, ◌^◌, ◌<◌, ◌≤◌, Bool, true, false, cond, not, T, eqb, ltb, ℤ, sym, refl, ap, ◌∙◌, subst, mod-eq_of_lt, sub-one, arith, ltb→lt, le-ltb, lt-ltb, ne_eqb, le-leb}
+use Rattle.std.proofs.Common.{◌≡◌, ℕ, zero, suc, ◌+◌, ◌-◌, ◌*◌, ◌/◌, ◌%◌, ◌^◌, ◌<◌, ◌≤◌, Bool, true, false, cond, not, T, eqb, ltb, sym, refl, ap, ◌∙◌, subst, mod-eq_of_lt, sub-one, arith, ltb→lt, le-ltb, lt-ltb, ne_eqb, le-leb}
 use native.Mathlib.Decide.{dec_lt}
 use borrow.Author.Tests.{lt-leb}
 use lib.Ieee.{Float, nan, inf, fin, binary32, odd, of_fields, of_bits, to_bits, fits}

@@ -1,6 +1,6 @@
 -- A product with 1 or -1 rounds nothing: it comes out finite, with the exact value. And the factors of a product may change places. Assumes nothing.
 use mathlib.Core.Path.{◌≡◌, refl, sym, ap, ◌∙◌}
-use Prim.Native.Nat.{ℕ, ◌-◌, ◌*◌}
+use Prim.Native.Nat.{ℕ, ◌*◌}
 use native.Mathlib.Nat.{mul-one, mul_comm, mul-pos, zero-lt-suc}
 use mathlib.Core.Bool.{Bool, true, false}
 use lib.IntN.{ℤ}

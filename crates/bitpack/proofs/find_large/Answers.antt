@@ -1,13 +1,11 @@
 -- `bitpack::find_large` meets its contract: the loop keeps that the place is i and the place in the rest. Assumes nothing.
-use Prim.Native.Nat.{◌+◌, ◌-◌, ◌^◌, ◌≤◌}
-use mathlib.Core.Path.{◌≡◌, sym}
+use Prim.Native.Nat.{◌^◌}
+use mathlib.Core.Path.{sym}
 use native.Mathlib.Omega.{arith}
-use lib.ListN.{length, get_or, drop}
+use lib.ListN.{get_or}
 use borrow.Author.Rules.{scaled_Fits}
 use borrow.Author.Tests.{le-leb, lt-leb}
-use Rattle.error.specs.Answer.{place}
 use Rattle.error.proofs.Places.{place-start, place-skip, place_here, place_end}
-use Rattle.error.specs.Checks.{bad_index}
 use Rattle.digits.proofs.Masks.{power-shifted}
 use Rattle.bitpack.proofs.find_large.Goals as goal
 

@@ -1,14 +1,9 @@
 -- `bitpack::find_large` meets its contract: the loop keeps that the place is i and the place in the rest. Assumes nothing.
 use Prim.Native.Nat.{◌+◌, ◌-◌, ◌^◌, ◌≤◌}
-use mathlib.Core.Path.{◌≡◌, sym}
-use native.Mathlib.Omega.{arith}
-use lib.ListN.{length, get_or, drop}
-use borrow.Author.Rules.{scaled_Fits}
-use borrow.Author.Tests.{le-leb, lt-leb}
+use mathlib.Core.Path.{◌≡◌}
+use lib.ListN.{length, drop}
 use Rattle.error.specs.Answer.{place}
-use Rattle.error.proofs.Places.{place-start, place-skip, place_here, place_end}
 use Rattle.error.specs.Checks.{bad_index}
-use Rattle.digits.proofs.Masks.{power-shifted}
 use Rattle.bitpack.proofs.find_large.Given as goal
 
 abbrev pub invariant-loop-i : goal.invariant-loop-i

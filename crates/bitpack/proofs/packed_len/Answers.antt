@@ -1,7 +1,6 @@
 -- `bitpack::packed_len` meets its contract: each return is the first check that offends, or the length. Assumes nothing.
 use mathlib.Core.Logic.{⊎_elim}
 use native.Mathlib.Omega.{arith}
-use borrow.Author.Rules.{rules}
 use borrow.Author.Tests.{lt-ltb, le-ltb}
 use Rattle.bitpack.specs.Packing.{packed_len_of}
 use Rattle.bitpack.proofs.Lengths.{product-fits, product-exceeds, rounded-up}

@@ -3,7 +3,6 @@ use mathlib.Core.Path.{sym, ◌∙◌}
 use native.Mathlib.Omega.{arith}
 use Rattle.bitpack.proofs.Padding.{padding-length, padding-whole, padding-wrong, padding-right}
 use Rattle.bitpack.proofs.Lengths.{rounded-up}
-use borrow.Author.Rules.{rules}
 use Rattle.bitpack.proofs.validate_padding_zero.Goals as goal
 
 pub returns-then-packed-used_bytes : goal.returns-then-packed-used_bytes

@@ -3,7 +3,6 @@ use Prim.Native.Nat.{◌+◌, ◌≤◌}
 use mathlib.Core.Path.{sym, ◌∙◌}
 use native.Mathlib.Omega.{arith}
 use lib.ListN.{length, length-set}
-use borrow.Author.Rules.{rules}
 use Rattle.digits.specs.Digits.{digits}
 use Rattle.lists.proofs.Stores.{store-four}
 use Rattle.digits.proofs.Words.{put_word-room, put_word-none}

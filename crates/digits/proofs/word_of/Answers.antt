@@ -1,6 +1,5 @@
 -- `digits::word_of` meets its contract: Horner's rule. Assumes nothing.
 use native.Mathlib.Omega.{arith}
-use borrow.Author.Rules.{rules}
 use Rattle.digits.specs.Digits.{number}
 use Rattle.digits.proofs.word_of.Goals as goal
 

@@ -1,14 +1,11 @@
 -- `error::all_finite` meets its contract, by the laws of `Sweep`. Assumes nothing.
-use Prim.Native.Nat.{◌-◌}
 use mathlib.Core.Path.{sym, ◌∙◌}
-use mathlib.Core.Logic.{⊎_elim}
 use native.Mathlib.Omega.{arith}
 use borrow.Author.Rules.{scaled_Fits}
-use borrow.Author.Tests.{not-true, not-false}
 use lib.ListN.{length}
 use lib.Ieee.{nan}
 use Rattle.error.specs.Checks.{bad_value}
-use Rattle.error.proofs.Sweep.{swept-start, swept-pass, swept-spot, swept-end, Swept}
+use Rattle.error.proofs.Sweep.{swept-start, swept-pass, swept-spot, swept-end}
 use Rattle.error.proofs.Finite.{finite-passes, not-finite-offends}
 use Rattle.error.proofs.all_finite.Goals.{else-not-is_finite, then-not-is_finite}
 use Rattle.error.proofs.all_finite.Goals as goal

@@ -1,15 +1,8 @@
 -- `error::all_finite` meets its contract, by the laws of `Sweep`. Assumes nothing.
 use Prim.Native.Nat.{◌-◌}
-use mathlib.Core.Path.{sym, ◌∙◌}
-use mathlib.Core.Logic.{⊎_elim}
-use native.Mathlib.Omega.{arith}
-use borrow.Author.Rules.{scaled_Fits}
-use borrow.Author.Tests.{not-true, not-false}
 use lib.ListN.{length}
-use lib.Ieee.{nan}
 use Rattle.error.specs.Checks.{bad_value}
-use Rattle.error.proofs.Sweep.{swept-start, swept-pass, swept-spot, swept-end, Swept}
-use Rattle.error.proofs.Finite.{finite-passes, not-finite-offends}
+use Rattle.error.proofs.Sweep.{Swept}
 use Rattle.error.proofs.all_finite.Given as goal
 
 abbrev pub invariant-loop-i : goal.invariant-loop-i

@@ -1,6 +1,5 @@
 -- `error::as_filled` meets its contract: each case is kept. Assumes nothing.
 use mathlib.Core.Path.{sym, ap}
-use borrow.Author.Rules.{rules}
 use Rattle.error.specs.Outcomes.{says}
 use Rattle.error.proofs.as_filled.Goals as goal
 

@@ -1,15 +1,9 @@
 -- `error::find_non_finite` meets its contract: before i no entry offends. Assumes nothing.
 use Prim.Native.Nat.{◌+◌, ◌≤◌, ◌-◌}
-use mathlib.Core.Path.{◌≡◌, sym, ◌∙◌}
-use native.Mathlib.Omega.{arith}
-use borrow.Author.Rules.{scaled_Fits}
-use borrow.Author.Tests.{not-true, not-false}
+use mathlib.Core.Path.{◌≡◌}
 use lib.ListN.{length, drop}
-use lib.Ieee.{nan}
 use Rattle.error.specs.Answer.{place}
-use Rattle.error.proofs.Places.{place-start, place-skip, place_here, place_end}
 use Rattle.error.specs.Checks.{bad_value}
-use Rattle.error.proofs.Finite.{finite-passes, not-finite-offends}
 use Rattle.error.proofs.find_non_finite.Given as goal
 
 abbrev pub invariant-loop-i : goal.invariant-loop-i

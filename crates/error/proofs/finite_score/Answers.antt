@@ -1,6 +1,5 @@
 -- `error::finite_score` meets its contract: by the two cases of the test. Assumes nothing.
 use mathlib.Core.Path.{sym, ◌∙◌}
-use borrow.Author.Rules.{rules}
 use Rattle.error.proofs.finite_score.Goals as goal
 
 pub returns-then-is_finite : goal.returns-then-is_finite

@@ -2,7 +2,6 @@
 use mathlib.Core.Path.{sym, ◌∙◌}
 use Rattle.error.specs.Checks.{bad_value}
 use Rattle.error.proofs.Sweep.{clear-place}
-use borrow.Author.Rules.{rules}
 use Rattle.error.proofs.first_non_finite.Goals as goal
 
 pub returns-then-all_finite : goal.returns-then-all_finite

@@ -1,12 +1,8 @@
 -- `finite_sums::add_lanes` meets its contract: after i turns, i sums have taken a value each. Assumes nothing.
-use Prim.Native.Nat.{ℕ, ◌+◌, ◌-◌, ◌≤◌}
-use mathlib.Core.Path.{◌≡◌, subst}
-use native.Mathlib.Nat.{add-zero, add_assoc}
-use native.Mathlib.Omega.{arith}
-use borrow.Author.Rules.{rules, scaled_Fits}
-use lib.ListN.{length, length-set}
+use Prim.Native.Nat.{◌+◌, ◌-◌, ◌≤◌}
+use mathlib.Core.Path.{◌≡◌}
+use lib.ListN.{length}
 use Rattle.finite_sums.specs.Inner.{Took}
-use Rattle.finite_sums.proofs.Sums.{took-start, took_more}
 use Rattle.finite_sums.proofs.add_lanes.Given as goal
 
 abbrev pub invariant-loop-i : goal.invariant-loop-i

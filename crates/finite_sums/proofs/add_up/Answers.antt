@@ -1,5 +1,5 @@
 -- `finite_sums::add_up` meets its contract: the sum so far has taken the values up to i. Assumes nothing.
-use Prim.Native.Nat.{ℕ, ◌-◌, ◌≤◌}
+use Prim.Native.Nat.{ℕ}
 use mathlib.Core.Path.{◌≡◌, subst}
 use native.Mathlib.Omega.{arith}
 use borrow.Author.Rules.{scaled_Fits}

@@ -1,11 +1,7 @@
 -- `finite_sums::add_up` meets its contract: the sum so far has taken the values up to i. Assumes nothing.
-use Prim.Native.Nat.{ℕ, ◌-◌, ◌≤◌}
-use mathlib.Core.Path.{◌≡◌, subst}
-use native.Mathlib.Omega.{arith}
-use borrow.Author.Rules.{scaled_Fits}
+use Prim.Native.Nat.{◌-◌, ◌≤◌}
 use lib.ListN.{length}
 use Rattle.finite_sums.specs.Inner.{Ran}
-use Rattle.finite_sums.proofs.Sums.{ran-start, ran-more}
 use Rattle.finite_sums.proofs.add_up.Given as goal
 
 abbrev pub invariant-loop-i : goal.invariant-loop-i

@@ -1,5 +1,4 @@
 -- `finite_sums::first_non_finite` meets its contract: where the sum is finite, so is every value, and the place is past the end. Assumes nothing.
-use borrow.Author.Rules.{rules}
 use Rattle.error.specs.Checks.{bad_value}
 use Rattle.error.proofs.Sweep.{clear-place}
 use Rattle.finite_sums.proofs.first_non_finite.Goals as goal

@@ -1,13 +1,11 @@
 -- `finite_sums::is_sum_finite` meets its contract: the 32 sums have taken the values up to `at`, and the last sum takes them and the values after. Assumes nothing.
-use Prim.Native.Nat.{◌-◌, ◌≤◌}
-use mathlib.Core.Path.{◌≡◌, sym, ◌∙◌, subst}
+use mathlib.Core.Path.{sym, ◌∙◌, subst}
 use native.Mathlib.Omega.{arith}
-use borrow.Author.Rules.{rules}
 use lib.ListN.{length}
 use lib.Seq.{take_all}
 use lib.Ieee.{Float, binary32, of_bits}
 use mathlib.Core.List.{List}
-use Rattle.finite_sums.specs.Inner.{Took, Ran}
+use Rattle.finite_sums.specs.Inner.{Ran}
 use Rattle.finite_sums.proofs.Sums.{took-start, took-then, sum-clear}
 use Rattle.finite_sums.proofs.is_sum_finite.Goals as goal
 

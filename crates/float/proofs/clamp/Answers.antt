@@ -1,5 +1,5 @@
 -- `float::clamp` meets its contract: the two tests in the definition's order. Assumes nothing.
-use Rattle.std.proofs.Common.{◌≡◌, Bool, true, false, cond, sym, ap, ◌∙◌, ⊎_elim}
+use Rattle.std.proofs.Common.{◌≡◌, Bool, true, false, cond, sym, ap, ◌∙◌}
 use lib.Ieee.{Float, lt}
 use Rattle.float.specs.Rounding.{clamped}
 use Rattle.float.proofs.clamp.Goals.{Joined-x-min, else-x-min, then-x-min}

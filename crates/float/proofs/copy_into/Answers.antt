@@ -1,8 +1,7 @@
 -- `float::copy_into` meets its contract: where the lengths are equal, the output is filled with the input's values. Assumes nothing.
-use Rattle.std.proofs.Common.{◌-◌, ◌≤◌, length, get_or, refl, arith, eq-eqb, ne_eqb}
+use Rattle.std.proofs.Common.{length, refl, arith, eq-eqb, ne_eqb}
 use borrow.Author.Rules.{scaled_Fits}
 use lib.Ieee.{nan}
-use Rattle.lists.specs.Inner.{Filled}
 use Rattle.lists.proofs.Loops.{filled-start, filled_more, filled-all}
 use Rattle.float.proofs.copy_into.Goals as goal
 

@@ -1,5 +1,5 @@
 -- `float::from_bits` meets its contract: without its sign's bit a NaN's pattern is a number above the infinity's (`nan_bits_above`). Assumes nothing.
-use Rattle.std.proofs.Common.{◌≡◌, ℕ, ◌%◌, ◌<◌, ◌≤◌, Bool, not, T, sym, ◌∙◌, subst, rules, le-ltb, lt-ltb}
+use Rattle.std.proofs.Common.{◌≡◌, ℕ, ◌%◌, ◌<◌, ◌≤◌, Bool, not, T, sym, ◌∙◌, subst, le-ltb, lt-ltb}
 use lib.Ieee.{nan, binary32, of_bits, nan_bits, div}
 use lib.Ieee.Bits.{nan_bits_above, nan_bits_is}
 use Rattle.float.proofs.Nan.{nan-only}

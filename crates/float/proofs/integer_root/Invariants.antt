@@ -1,8 +1,6 @@
 -- `float::integer_root` meets its contract. The invariant: j digits are still to be found, and r with all of them set stays below 2 ^ 24. Assumes nothing.
-use Rattle.std.proofs.Common.{◌≡◌, ℕ, ◌+◌, ◌-◌, ◌*◌, ◌%◌, ◌^◌, ◌<◌, ◌≤◌, sym, refl, ap, ◌∙◌, lt_of_le_of_lt, mod-eq_of_lt, mul-le-mul, one-mul, arith, lit<, lit≤}
-use lib.Arith.{le-zero}
+use Rattle.std.proofs.Common.{◌≡◌, ◌+◌, ◌^◌, ◌≤◌}
 use Rattle.float.specs.SquareRoot.{root_bits}
-use Rattle.float.proofs.IntegerRoot.{root_bits-take, root_bits-skip, root_bits-none, half-power}
 use Rattle.float.proofs.integer_root.Given as goal
 
 abbrev pub invariant-loop-j : goal.invariant-loop-j

@@ -1,5 +1,5 @@
 -- `float::nearest_root` meets its contract: the root that was found has at most 24 digits, so its square fits. Assumes nothing.
-use Rattle.std.proofs.Common.{ℕ, ◌+◌, ◌*◌, ◌^◌, ◌<◌, sym, subst, le_of_lt, mul-le-mul, arith, rules}
+use Rattle.std.proofs.Common.{ℕ, ◌+◌, ◌*◌, ◌^◌, ◌<◌, sym, subst, le_of_lt, mul-le-mul, arith}
 use Rattle.float.proofs.IntegerRoot.{root_bits-lt, nearest_root-raised, nearest_root-kept}
 use Rattle.float.proofs.nearest_root.Goals.{After-integer_root-q}
 use Rattle.float.proofs.nearest_root.Goals as goal

@@ -1,5 +1,5 @@
 -- `float::put_f32` meets its contract: the bytes are the pattern's. Assumes nothing.
-use Rattle.std.proofs.Common.{ap, ◌∙◌, rules}
+use Rattle.std.proofs.Common.{ap, ◌∙◌}
 use Rattle.digits.specs.Words.{put_word_of}
 use Rattle.float.specs.Bytes.{put_f32_of}
 use Rattle.float.proofs.put_f32.Goals as goal

@@ -1,5 +1,5 @@
 -- `float::root_pattern` meets its contract: the significand has from 1 to 24 binary digits, so all shifts and sums stay small. Assumes nothing.
-use Rattle.std.proofs.Common.{◌≡◌, ℕ, suc, ◌+◌, ◌-◌, ◌*◌, ◌/◌, ◌^◌, ◌<◌, ◌≤◌, sym, ap, ◌∙◌, subst, ap₂, lt_of_lt_of_le, lt_of_le_of_lt, mod-eq_of_lt, arith, lit≤, rules}
+use Rattle.std.proofs.Common.{◌≡◌, ℕ, suc, ◌+◌, ◌-◌, ◌*◌, ◌/◌, ◌^◌, ◌<◌, ◌≤◌, sym, ap, ◌∙◌, subst, ap₂, lt_of_lt_of_le, lt_of_le_of_lt, mod-eq_of_lt, arith, lit≤}
 use lib.Count.{count_leading_zeros, leading_top}
 use Rattle.float.specs.Inner.{significand_of, shift_of}
 use Rattle.float.specs.SquareRoot.{nearest_root, root_pattern}

@@ -1,5 +1,5 @@
 -- `float::shift` meets its contract: a field of 0 counts as 1. Assumes nothing.
-use Rattle.std.proofs.Common.{arith, rules}
+use Rattle.std.proofs.Common.{arith}
 use Rattle.float.specs.Inner.{shift_of}
 use Rattle.float.proofs.shift.Goals as goal
 

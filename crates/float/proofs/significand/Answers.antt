@@ -1,5 +1,5 @@
 -- `float::significand` meets its contract. Assumes nothing.
-use Rattle.std.proofs.Common.{sym, rules}
+use Rattle.std.proofs.Common.{sym}
 use Rattle.float.proofs.Decode.{significand-low, significand-high}
 use Rattle.float.proofs.significand.Goals as goal
 

@@ -1,5 +1,5 @@
 -- `float::sqrt` meets its contract: the cases of `RootCases`, and above zero the pattern that `root_pattern` makes. Assumes nothing.
-use Rattle.std.proofs.Common.{◌≡◌, ℕ, ◌+◌, ◌*◌, ◌^◌, ◌<◌, true, T, sym, ap, ◌∙◌, subst, rules}
+use Rattle.std.proofs.Common.{◌≡◌, ℕ, ◌+◌, ◌*◌, ◌^◌, ◌<◌, true, T, sym, ap, ◌∙◌, subst}
 use lib.Ieee.{Float, binary32, fits, nan_bits, of_bits, div}
 use Rattle.float.specs.Units.{non_negative, mag}
 use Rattle.float.specs.Inner.{significand_of, shift_of}

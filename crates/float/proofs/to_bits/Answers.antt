@@ -1,5 +1,5 @@
 -- `float::to_bits` meets its contract: a NaN has one pattern, and every other float its own. Assumes nothing.
-use Rattle.std.proofs.Common.{◌≡◌, Bool, not, T, sym, refl, ap, ◌∙◌, subst, rules}
+use Rattle.std.proofs.Common.{◌≡◌, Bool, not, T, sym, refl, ap, ◌∙◌, subst}
 use lib.Ieee.{nan, binary32, to_bits}
 use Rattle.float.proofs.Nan.{nan-only}
 use Rattle.float.proofs.to_bits.Goals as goal
