@@ -6,20 +6,15 @@ use borrow.Author.Tests.{ltb-true, ltb-false}
 use lib.ListN.{length}
 use lib.Ieee.{of_bits}
 use Rattle.qjl_bits.proofs.Bits.{BytesAdded, bytes-start, bytes-turn, bytes-last, bytes-none}
-use Rattle.qjl_bits.proofs.bit_sum.Goals.{Then-k-packed-2, else-loop-k-test, then-loop-k-test}
+use Rattle.qjl_bits.proofs.bit_sum.Goals.{then-loop-k-test+else-k-packed, else-loop-k-test}
 use Rattle.qjl_bits.proofs.bit_sum.Goals as goal
-
--- where a byte is left, the loop was left for the values
-all : (c : goal.Then-k-packed-2) → length c.args.projected.now / 8 ≤ c.loop-k.k
-all c =
-    elim c.loop-k-test.branch [ then-loop-k-test w ↦ omega (arith, ltb-false c.loop-k.k (length c.args.packed.now) w.1.false, c.if-k-packed-2.true) | else-loop-k-test w ↦ w.false ]
 
 pub loop-k-init : goal.loop-k-init
 unfolding of_bits
 loop-k-init c = bytes-start c.args.packed.now c.args.projected.now
 
 pub bounds-packed-k : goal.bounds-packed-k
-bounds-packed-k c = ltb-true _ _ c.if-k-packed.true
+bounds-packed-k c = c.if-k-packed.true
 
 pub overflow_mul-k : goal.overflow_mul-k
 overflow_mul-k c = omega arith
@@ -35,7 +30,7 @@ loop-k-smaller c = omega arith
 
 pub loop-k-preserved : goal.loop-k-preserved
 loop-k-preserved c = let a = c.args in
-    bytes-turn a.packed.now a.projected.now c.loop-k.sum c.loop-k.k c.loop-k.invariant _ c.loop-k-test.true (ltb-true _ _ c.if-k-packed.true) c.add_byte-sum.ensures
+    bytes-turn a.packed.now a.projected.now c.loop-k.sum c.loop-k.k c.loop-k.invariant _ c.loop-k-test.true c.if-k-packed.true c.add_byte-sum.ensures
 
 pub bounds-packed-k-then-k-packed-2 : goal.bounds-packed-k-then-k-packed-2
 bounds-packed-k-then-k-packed-2 c = omega arith
@@ -48,7 +43,9 @@ add_rest-requires c = omega arith
 
 pub returns-then-k-packed-2 : goal.returns-then-k-packed-2
 returns-then-k-packed-2 c = let a = c.args in
-    bytes-last a.packed.now a.projected.now c.loop-k.sum c.loop-k.k c.loop-k.invariant _ (all (goal.at.returns-then-k-packed-2 c).Then-k-packed-2) c.if-k-packed-2.true c.add_rest.ensures
+    -- where a byte is left, the loop was left for the values
+    let all : length a.projected.now / 8 ≤ c.loop-k.k = elim c.loop-k-test.branch [ then-loop-k-test+else-k-packed w ↦ omega (arith, w.if-k-packed.false, c.if-k-packed-2.true) | else-loop-k-test w ↦ w.loop-k-test.false ] in
+    bytes-last a.packed.now a.projected.now c.loop-k.sum c.loop-k.k c.loop-k.invariant _ all c.if-k-packed-2.true c.add_rest.ensures
 
 pub overflow_mul-k-2 : goal.overflow_mul-k-2
 overflow_mul-k-2 c = omega arith

@@ -22,10 +22,10 @@ pub bounds-signs-i : goal.bounds-signs-i
 bounds-signs-i c = omega arith
 
 pub offset_bounds-projected-i : goal.offset_bounds-projected-i
-offset_bounds-projected-i c = scaled_Fits _ (length c.args.projected.now) 4 (ltb-true _ _ c.if-i-projected.true) c.well_formed.1.0.1
+offset_bounds-projected-i c = scaled_Fits _ (length c.args.projected.now) 4 c.if-i-projected.true c.well_formed.1.0.1
 
 pub bounds-projected-i : goal.bounds-projected-i
-bounds-projected-i c = ltb-true _ _ c.if-i-projected.true
+bounds-projected-i c = c.if-i-projected.true
 
 pub times-sum-requires : goal.times-sum-requires
 times-sum-requires c = tt
@@ -41,12 +41,12 @@ loop-i-preserved c = let a = c.args in
     let l = c.loop-i in
     let v = c.times-sum.ensures ∙ ap (λ (z : ℤ). mul binary32 (of_int binary32 z) (get_or a.projected.now l.i nan)) (signed-at a.signs.now l.i c.times-arg-1.given) in (
       omega arith,
-      l.invariant.1 ∙ sign-more a.signs.now a.projected.now l.i l.sum c.loop-i-test.true (ltb-true _ _ c.if-i-projected.true)
+      l.invariant.1 ∙ sign-more a.signs.now a.projected.now l.i l.sum c.loop-i-test.true c.if-i-projected.true
           ∙ sym (ap (λ (x : Float). running (add binary32 l.sum x) (products (drop (l.i + 1) (map (of_int binary32) a.signs.now)) (drop (l.i + 1) a.projected.now))) v),
     )
 
 pub returns-else-i-projected : goal.returns-else-i-projected
-returns-else-i-projected c = sym (c.loop-i.invariant.1 ∙ value-end c.args.signs.now c.args.projected.now _ _ (ltb-false _ _ c.if-i-projected.false))
+returns-else-i-projected c = sym (c.loop-i.invariant.1 ∙ value-end c.args.signs.now c.args.projected.now _ _ c.if-i-projected.false)
 
 pub returns-after-loop-i : goal.returns-after-loop-i
 returns-after-loop-i c = sym (c.loop-i.invariant.1 ∙ sign_sum-end c.args.signs.now c.args.projected.now _ _ c.loop-i-test.false)

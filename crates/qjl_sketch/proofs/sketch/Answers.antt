@@ -13,4 +13,4 @@ returns-then-sketch_at_once c = said_left (both-value _ _ _ (c.sketch_at_once.en
 
 pub returns : goal.returns
 returns c = said_left (let a = c.args in
-    sketch-again a.setup (lent a.rotation.now a.directions.now a.matrix.now) a.vector.now _ _ _ _ (c.sketch_at_once.ensures.kept c.if-sketch_at_once.false) c.sketch_checked.ensures)
+    sketch-again a.setup (lent a.rotation.now a.directions.now a.matrix.now) a.vector.now _ _ _ _ (c.sketch_at_once.ensures.kept c.if-sketch_at_once.false) (c.sketch_checked.ensures.said, c.sketch_checked.ensures.left))

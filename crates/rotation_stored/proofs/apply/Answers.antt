@@ -12,4 +12,4 @@ returns-then-apply_at_once c = said_left (both-value _ _ _ (c.apply_at_once.ensu
 
 pub returns : goal.returns
 returns c = said_left (let a = c.args in
-    applied-again (stored_apply_of a.dim a.matrix.now a.input.now) _ _ (c.apply_at_once.ensures.kept c.if-apply_at_once.false) c.apply_checked.ensures)
+    applied-again (stored_apply_of a.dim a.matrix.now a.input.now) _ _ (c.apply_at_once.ensures.kept c.if-apply_at_once.false) (c.apply_checked.ensures.said, c.apply_checked.ensures.left))

@@ -12,4 +12,4 @@ returns-then-inverse_at_once c = said_left (both-value _ _ _ (c.inverse_at_once.
 
 pub returns : goal.returns
 returns c = said_left (let a = c.args in
-    applied-again (stored_apply_inverse_of a.dim a.matrix.now a.input.now) _ _ (c.inverse_at_once.ensures.kept c.if-inverse_at_once.false) c.inverse_checked.ensures)
+    applied-again (stored_apply_inverse_of a.dim a.matrix.now a.input.now) _ _ (c.inverse_at_once.ensures.kept c.if-inverse_at_once.false) (c.inverse_checked.ensures.said, c.inverse_checked.ensures.left))

@@ -20,7 +20,7 @@ pub returns-in-Refused : goal.returns-in-Refused
 returns-in-Refused c = said_left (both-refused _ _ (stored-inverse-refused _ _ _ _ (sym c.check-checked.ensures ∙ ap says c.in-Refused.is)))
 
 pub returns : goal.returns
-returns c = said_left (let called = c.project.ensures in
+returns c = let called = c.project.ensures in
     let a = c.args in
     let same = stored-inverse-projects a.dim a.matrix.now a.input.now (length a.output.now) (passed (goal.at.returns c).In_default) in
-    rw same at called)
+    rw same at called

@@ -30,10 +30,10 @@ rotation_long : (c : goal.Else-rotation-rotation_entries) → eqb (length c.args
 rotation_long c = length_meets _ c.rotation_entries.ensures c.if-rotation-rotation_entries.false
 
 directions-long : (c : goal.Else-directions-direction_entries) → eqb (length c.args.directions.now) (directions_needed c.args.setup) ≡ true
-directions-long c = length_meets _ (entries c) c.if-directions-direction_entries.false
+directions-long c = length_meets _ (c.direction_entries.ensures ∙ ap (λ (n : ℕ). 2 * 2 ^ n) c.polar_bits.ensures) c.if-directions-direction_entries.false
 
 matrix_long : (c : goal.Else-matrix-rows) → eqb (length c.args.matrix.now) (matrix_needed c.args.setup) ≡ true
-matrix_long c = length_meets _ (entry-count c) c.if-matrix-rows.false
+matrix_long c = length_meets _ (ap (λ (n : ℕ). n * c.args.setup.dim) c.counted_projections-rows.ensures) c.if-matrix-rows.false
 
 pub rotation_entries-requires : goal.rotation_entries-requires
 rotation_entries-requires c = (usable_at (goal.at.rotation_entries-requires c).Start).most
