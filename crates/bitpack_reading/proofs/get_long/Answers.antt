@@ -5,7 +5,6 @@ use native.Mathlib.Omega.{arith}
 use lib.ListN.{length, drop}
 use Rattle.digits.specs.Digits.{number}
 use Rattle.digits.proofs.Digits.{number_word}
-use borrow.Author.Rules.{rules}
 use Rattle.bitpack_reading.proofs.get_long.Goals as goal
 
 pub returns : goal.returns

@@ -6,7 +6,6 @@ use lib.Pow.{pow_pos}
 use Rattle.digits.specs.Digits.{digits}
 use Rattle.lists.proofs.Stores.{store-four}
 use Rattle.digits.proofs.Masks.{power-shifted, masked, masked-fits}
-use borrow.Author.Rules.{rules}
 use Rattle.bitpack_reading.proofs.put_four.Goals as goal
 
 pub overflow_sub-low : goal.overflow_sub-low

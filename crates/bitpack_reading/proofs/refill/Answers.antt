@@ -7,7 +7,6 @@ use Rattle.digits.specs.Digits.{number}
 use Rattle.digits.proofs.Digits.{number_word}
 use Rattle.digits.proofs.Windows.{shift_in-exact, shift_in-word}
 use Rattle.bitpack_reading.proofs.Unpacking.{refill-none, refill-word}
-use borrow.Author.Rules.{rules}
 use Rattle.bitpack_reading.proofs.refill.Goals as goal
 
 pub returns-then-width-held : goal.returns-then-width-held

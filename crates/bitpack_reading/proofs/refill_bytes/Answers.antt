@@ -1,10 +1,7 @@
 -- `bitpack_reading::refill_bytes` meets its contract: the loop keeps the same bits in the window and behind it. Assumes nothing.
-use Prim.Native.Nat.{ℕ, ◌+◌, ◌*◌, ◌-◌, ◌^◌}
-use mathlib.Core.Path.{◌≡◌, refl, ap, ◌∙◌}
+use Prim.Native.Nat.{ℕ, ◌+◌}
+use mathlib.Core.Path.{refl, ap, ◌∙◌}
 use native.Mathlib.Omega.{arith}
-use lib.ListN.{drop}
-use Rattle.digits.specs.Digits.{number}
-use Rattle.bitpack_reading.specs.Inner.{Refillable}
 use Rattle.digits.proofs.Digits.{number-drop}
 use Rattle.digits.proofs.Windows.{shift_in-exact, shift_in-word}
 use Rattle.bitpack_reading.proofs.Unpacking.{refill-bound, refill-byte, refill-same}

@@ -1,13 +1,9 @@
 -- `bitpack_reading::refill_bytes` meets its contract: the loop keeps the same bits in the window and behind it. Assumes nothing.
-use Prim.Native.Nat.{ℕ, ◌+◌, ◌*◌, ◌-◌, ◌^◌}
-use mathlib.Core.Path.{◌≡◌, refl, ap, ◌∙◌}
-use native.Mathlib.Omega.{arith}
+use Prim.Native.Nat.{◌+◌, ◌*◌, ◌-◌, ◌^◌}
+use mathlib.Core.Path.{◌≡◌}
 use lib.ListN.{drop}
 use Rattle.digits.specs.Digits.{number}
 use Rattle.bitpack_reading.specs.Inner.{Refillable}
-use Rattle.digits.proofs.Digits.{number-drop}
-use Rattle.digits.proofs.Windows.{shift_in-exact, shift_in-word}
-use Rattle.bitpack_reading.proofs.Unpacking.{refill-bound, refill-byte, refill-same}
 use Rattle.bitpack_reading.proofs.refill_bytes.Given as goal
 
 abbrev pub invariant-loop-held : goal.invariant-loop-held

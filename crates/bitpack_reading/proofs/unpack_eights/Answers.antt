@@ -1,10 +1,9 @@
 -- `bitpack_reading::unpack_eights` meets its contract: the loop keeps `Eights`, and its turn is a law of it. Assumes nothing.
-use Prim.Native.Nat.{◌+◌, ◌-◌, ◌*◌, ◌≤◌}
+use Prim.Native.Nat.{◌+◌, ◌*◌, ◌≤◌}
 use mathlib.Core.Path.{refl}
 use native.Mathlib.Omega.{arith}
 use lib.ListN.{length}
 use Rattle.digits.proofs.Laws.{Below}
-use Rattle.bitpack_reading.specs.Inner.{Eights}
 use Rattle.bitpack_reading.proofs.Eights.{eights-start, eights-read, eights-room, eights-turn}
 use Rattle.bitpack_reading.proofs.unpack_eights.Goals.{In-loop-k}
 use Rattle.bitpack_reading.proofs.unpack_eights.Goals as goal

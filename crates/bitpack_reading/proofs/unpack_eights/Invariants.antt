@@ -1,11 +1,7 @@
 -- `bitpack_reading::unpack_eights` meets its contract: the loop keeps `Eights`, and its turn is a law of it. Assumes nothing.
-use Prim.Native.Nat.{◌+◌, ◌-◌, ◌*◌, ◌≤◌}
-use mathlib.Core.Path.{refl}
-use native.Mathlib.Omega.{arith}
+use Prim.Native.Nat.{◌-◌}
 use lib.ListN.{length}
-use Rattle.digits.proofs.Laws.{Below}
 use Rattle.bitpack_reading.specs.Inner.{Eights}
-use Rattle.bitpack_reading.proofs.Eights.{eights-start, eights-read, eights-room, eights-turn}
 use Rattle.bitpack_reading.proofs.unpack_eights.Given as goal
 
 abbrev pub invariant-loop-k : goal.invariant-loop-k

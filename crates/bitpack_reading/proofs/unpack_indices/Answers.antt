@@ -6,7 +6,6 @@ use Rattle.error.specs.Lengths.{says_length}
 use Rattle.error.proofs.Answers.{both-refused, both-value}
 use Rattle.bitpack.proofs.Answers.{measured}
 use Rattle.bitpack_reading.proofs.Answers.{unpack-no-length, unpack-padded, unpack-no-room, unpack-value, unpackable}
-use borrow.Author.Rules.{rules}
 use Rattle.error.proofs.Clauses.{said_left}
 use Rattle.bitpack_reading.proofs.unpack_indices.Goals as goal
 

@@ -2,7 +2,6 @@
 use mathlib.Core.Path.{refl}
 use native.Mathlib.Omega.{arith}
 use Rattle.bitpack_reading.proofs.Eights.{eights-start, unpackable-as, eights-as}
-use borrow.Author.Rules.{rules}
 use Rattle.bitpack_reading.proofs.unpack_narrow.Goals as goal
 
 pub unpack_eights-requires : goal.unpack_eights-requires
