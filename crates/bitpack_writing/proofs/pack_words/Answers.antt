@@ -1,6 +1,7 @@
 -- `bitpack_writing::pack_words` meets its contract: the loop starts behind the eights and keeps `Packed`, and its two turns are laws of it. Assumes nothing.
-use Prim.Native.Nat.{ℕ, ◌+◌, ◌-◌, ◌^◌, ◌≤◌}
+use Prim.Native.Nat.{ℕ, ◌+◌, ◌-◌, ◌^◌, ◌≤◌, ◌<◌}
 use mathlib.Core.Path.{◌≡◌, sym, ap, ◌∙◌}
+use mathlib.Core.List.{List}
 use native.Mathlib.Omega.{arith}
 use lib.ListN.{length}
 use borrow.Author.Rules.{rules, scaled_Fits}
@@ -10,25 +11,16 @@ use Rattle.bitpack_writing.specs.Inner.{Packable, Gathered}
 use Rattle.digits.proofs.Windows.{shift_in-exact, shift_in-word}
 use Rattle.bitpack_writing.proofs.Packing.{Packed, pack-start, pack-bound, pack-turn, pack-word, pack-within, pack-end}
 use Rattle.bitpack_writing.proofs.Groups.{gathered-within, gathered-rest}
-use Rattle.bitpack_writing.proofs.pack_words.Goals.{After-put_word, After-slice_known-2-1}
 use Rattle.bitpack_writing.proofs.pack_words.Goals as goal
 
--- what stands behind the eights: the same indices to pack, and as much room
-module _ (c : goal.After-slice_known-2-1) where
-  begun : (Packable c.args.indices.now c.args.bits (length c.pack_eights-eights.new.out)) × (Gathered c.args.indices.now c.args.bits (length c.pack_eights-eights.new.out) c.pack_eights-eights.new.out c.pack_eights-eights.result)
-  begun = gathered-rest _ _ _ _ _ c.requires c.pack_eights-eights.ensures
-
-  same-room : length c.pack_eights-eights.new.out ≡ length c.args.out.now
-  same-room = c.pack_eights-eights.ensures.sized
-
 pub overflow_mul-i : goal.overflow_mul-i
-overflow_mul-i c = omega (arith, (begun (goal.at.overflow_mul-i c).After-slice_known-2-1).1.within, c.well_formed)
+overflow_mul-i c = omega (arith, (gathered-rest _ _ _ _ _ c.requires c.pack_eights-eights.ensures).1.within, c.well_formed)
 
 pub overflow_mul-k : goal.overflow_mul-k
-overflow_mul-k c = omega (arith, gathered-within _ _ _ (begun (goal.at.overflow_mul-k c).After-slice_known-2-1).0 _ _ (begun (goal.at.overflow_mul-k c).After-slice_known-2-1).1, same-room (goal.at.overflow_mul-k c).After-slice_known-2-1, c.well_formed)
+overflow_mul-k c = omega (arith, gathered-within _ _ _ (gathered-rest _ _ _ _ _ c.requires c.pack_eights-eights.ensures).0 _ _ (gathered-rest _ _ _ _ _ c.requires c.pack_eights-eights.ensures).1, c.pack_eights-eights.ensures.sized, c.well_formed)
 
 pub loop-i-init : goal.loop-i-init
-loop-i-init c = pack-start _ _ _ (begun (goal.at.loop-i-init c).After-slice_known-2-1).0 _ _ (begun (goal.at.loop-i-init c).After-slice_known-2-1).1
+loop-i-init c = pack-start _ _ _ (gathered-rest _ _ _ _ _ c.requires c.pack_eights-eights.ensures).0 _ _ (gathered-rest _ _ _ _ _ c.requires c.pack_eights-eights.ensures).1
 
 pub offset_bounds-indices-i : goal.offset_bounds-indices-i
 offset_bounds-indices-i c = scaled_Fits _ _ 2 c.loop-i-test.true c.well_formed.0.1
@@ -53,13 +45,11 @@ pub overflow_add-i : goal.overflow_add-i
 overflow_add-i c = omega (arith, c.loop-i-test.true, c.well_formed)
 
 -- there is room for four bytes
-room : (c : goal.After-put_word) → let s = c.loop-i in s.k + 4 ≤ length s.out
-room c =
-    let s = c.loop-i in
-    omega (arith, pack-bound _ _ _ (begun c).0 _ _ _ _ _ s.invariant c.loop-i-test.true c.if-held-ge32.true, s.invariant.sized)
+room-four : (indices : List ℕ) (bits n : ℕ) → Packable indices bits n → (out : List ℕ) (acc held i k : ℕ) → Packed indices bits n out acc held i k → i < length indices → 32 ≤ held + bits → k + 4 ≤ length out
+room-four indices bits n asked out acc held i k inv more h = omega (arith, pack-bound indices bits n asked out acc held i k inv more h, inv.sized)
 
 pub overflow_add-k : goal.overflow_add-k
-overflow_add-k c = omega (arith, room (goal.at.overflow_add-k c).After-put_word, c.loop-i.invariant.sized, same-room (goal.at.overflow_add-k c).After-slice_known-2-1, c.well_formed)
+overflow_add-k c = omega (arith, room-four _ _ _ (gathered-rest _ _ _ _ _ c.requires c.pack_eights-eights.ensures).0 _ _ _ _ _ c.loop-i.invariant c.loop-i-test.true c.if-held-ge32.true, c.loop-i.invariant.sized, c.pack_eights-eights.ensures.sized, c.well_formed)
 
 pub loop-i-smaller-then-held-ge32 : goal.loop-i-smaller-then-held-ge32
 loop-i-smaller-then-held-ge32 c = omega (arith, c.loop-i-test.true)
@@ -68,7 +58,7 @@ pub loop-i-preserved-then-held-ge32 : goal.loop-i-preserved-then-held-ge32
 loop-i-preserved-then-held-ge32 c = let s = c.loop-i in
     let more = c.loop-i-test.true in
     let sum = ap (λ (m : ℕ). s.acc + m) (shift_in-exact s.held c.args.bits _ (c.requires.small s.i more) (omega (arith, s.invariant.small, c.requires.narrow))) in
-    pack-word _ _ _ (begun (goal.at.loop-i-preserved-then-held-ge32 c).After-slice_known-2-1).0 _ _ _ _ _ s.invariant more _ _ sum c.if-held-ge32.true (c.put_word.ensures ∙ put_word-room _ _ _ (room (goal.at.loop-i-preserved-then-held-ge32 c).After-put_word))
+    pack-word _ _ _ (gathered-rest _ _ _ _ _ c.requires c.pack_eights-eights.ensures).0 _ _ _ _ _ s.invariant more _ _ sum c.if-held-ge32.true (c.put_word.ensures ∙ put_word-room _ _ _ (room-four _ _ _ (gathered-rest _ _ _ _ _ c.requires c.pack_eights-eights.ensures).0 _ _ _ _ _ c.loop-i.invariant c.loop-i-test.true c.if-held-ge32.true))
 
 pub loop-i-smaller : goal.loop-i-smaller
 loop-i-smaller c = omega (arith, c.loop-i-test.true)
@@ -77,16 +67,16 @@ pub loop-i-preserved : goal.loop-i-preserved
 loop-i-preserved c = let s = c.loop-i in
     let more = c.loop-i-test.true in
     let sum = ap (λ (m : ℕ). s.acc + m) (shift_in-exact s.held c.args.bits _ (c.requires.small s.i more) (omega (arith, s.invariant.small, c.requires.narrow))) in
-    pack-turn _ _ _ (begun (goal.at.loop-i-preserved c).After-slice_known-2-1).0 _ _ _ _ _ s.invariant more _ sum c.if-held-ge32.false
+    pack-turn _ _ _ (gathered-rest _ _ _ _ _ c.requires c.pack_eights-eights.ensures).0 _ _ _ _ _ s.invariant more _ sum c.if-held-ge32.false
 
 pub put_rest-requires : goal.put_rest-requires
-put_rest-requires c = pack-within _ _ _ (begun (goal.at.put_rest-requires c).After-slice_known-2-1).0 _ _ _ _ _ c.loop-i.invariant
+put_rest-requires c = pack-within _ _ _ (gathered-rest _ _ _ _ _ c.requires c.pack_eights-eights.ensures).0 _ _ _ _ _ c.loop-i.invariant
 
 pub shape_of-out : goal.shape_of-out
-shape_of-out c = c.put_rest.auto.out ∙ c.loop-i.invariant.sized ∙ same-room (goal.at.shape_of-out c).After-slice_known-2-1
+shape_of-out c = c.put_rest.auto.out ∙ c.loop-i.invariant.sized ∙ c.pack_eights-eights.ensures.sized
 
 pub returns : goal.returns
 returns c = let args = c.args in
     c.put_rest.ensures
-    ∙ sym (pack-end _ _ _ (begun (goal.at.returns c).After-slice_known-2-1).0 _ _ _ _ _ c.loop-i.invariant c.loop-i-test.false)
-    ∙ ap (λ (m : ℕ). digits 256 m (number (2 ^ args.bits) args.indices.now)) (same-room (goal.at.returns c).After-slice_known-2-1)
+    ∙ sym (pack-end _ _ _ (gathered-rest _ _ _ _ _ c.requires c.pack_eights-eights.ensures).0 _ _ _ _ _ c.loop-i.invariant c.loop-i-test.false)
+    ∙ ap (λ (m : ℕ). digits 256 m (number (2 ^ args.bits) args.indices.now)) c.pack_eights-eights.ensures.sized

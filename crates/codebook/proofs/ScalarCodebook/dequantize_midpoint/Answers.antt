@@ -11,7 +11,6 @@ use Rattle.codebook.specs.Inner.{check_of}
 use Rattle.error.specs.Checks.{wrong_index}
 use Rattle.codebook.proofs.Checks.{check-refused, check-passed, check-narrow}
 use Rattle.float.proofs.Levels.{levels-most, levels-in_float}
-use Rattle.codebook.proofs.ScalarCodebook.dequantize_midpoint.Goals.{In_default}
 use Rattle.codebook.proofs.ScalarCodebook.dequantize_midpoint.Goals as goal
 
 pub returns-in-Refused : goal.returns-in-Refused
@@ -20,23 +19,19 @@ returns-in-Refused c = let a = c.args in
     sym (check-refused a.self.bits a.self.min a.self.max (first (wrong_index a.self.bits a.index ∷ []) (value (middle_of a.self.bits a.self.min a.self.max a.index)))
     (sym c.check.ensures ∙ ap says c.in-Refused.is))
 
--- past the first two checks
-passed : (c : goal.In_default) → let a = c.args in check_of a.self.bits a.self.min a.self.max ≡ value tt
-passed c = sym c.check.ensures ∙ ap says c.in_default.is
-
 pub level_count-levels-requires : goal.level_count-levels-requires
-level_count-levels-requires c = let a = c.args in check-narrow a.self.bits a.self.min a.self.max (passed (goal.at.level_count-levels-requires c).In_default)
+level_count-levels-requires c = let a = c.args in check-narrow a.self.bits a.self.min a.self.max (sym c.check.ensures ∙ ap says c.in_default.is)
 
 pub returns-then-levels-index : goal.returns-then-levels-index
 unfolding dequantize_midpoint_of
 returns-then-levels-index c = let a = c.args in
-    simp (check-passed a.self.bits a.self.min a.self.max (first (wrong_index a.self.bits a.index ∷ []) (value (middle_of a.self.bits a.self.min a.self.max a.index))) (passed (goal.at.returns-then-levels-index c).In_default), ← c.level_count-levels.ensures, le-leb _ _ c.if-levels-index.true)
+    simp (check-passed a.self.bits a.self.min a.self.max (first (wrong_index a.self.bits a.index ∷ []) (value (middle_of a.self.bits a.self.min a.self.max a.index))) (sym c.check.ensures ∙ ap says c.in_default.is), ← c.level_count-levels.ensures, le-leb _ _ c.if-levels-index.true)
 
 pub int_to_float-width : goal.int_to_float-width
 int_to_float-width c = let a = c.args in
-    levels-in_float c.level_count-levels.result (omega (arith, c.level_count-levels.ensures, levels-most a.self.bits (level-count-requires (goal.at.int_to_float-width c).In_default tt)))
+    levels-in_float c.level_count-levels.result (omega (arith, c.level_count-levels.ensures, levels-most a.self.bits (check-narrow a.self.bits a.self.min a.self.max (sym c.check.ensures ∙ ap says c.in_default.is))))
 
 pub returns : goal.returns
 unfolding dequantize_midpoint_of middle_of
 returns c = let a = c.args in
-    simp (check-passed a.self.bits a.self.min a.self.max (first (wrong_index a.self.bits a.index ∷ []) (value (middle_of a.self.bits a.self.min a.self.max a.index))) (passed (goal.at.returns c).In_default), ← c.level_count-levels.ensures, lt-leb _ _ c.if-levels-index.false)
+    simp (check-passed a.self.bits a.self.min a.self.max (first (wrong_index a.self.bits a.index ∷ []) (value (middle_of a.self.bits a.self.min a.self.max a.index))) (sym c.check.ensures ∙ ap says c.in_default.is), ← c.level_count-levels.ensures, lt-leb _ _ c.if-levels-index.false)
