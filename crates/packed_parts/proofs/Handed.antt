@@ -77,6 +77,10 @@ module _ (bytes : List ℕ) where
   unfolding signs_part_of
   signs-payload = payload (λ p. p.signs) (λ p. p.end) (signs_bytes bytes) (λ header e. (signs-places bytes e, signs-cut bytes e)) refl refl
 
+-- two facts at once are the two clauses of a contract, under their names
+pub held_stands : {A B : Type 0} → A × B → record { held : A; stands : B }
+held_stands p = record { held = p.0; stands = p.1 }
+
 -- the payload by its start and its length
 module _ {bytes : List ℕ} {from to : Places → ℕ} {part : List ℕ} (p : Payload bytes from to part) where
   payload-within : from (locate_of bytes) + length part ≤ length bytes

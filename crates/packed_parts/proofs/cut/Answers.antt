@@ -16,7 +16,7 @@ inside c = sym c.outside_places.ensures ∙ c.if-outside_places.false
 
 -- the places lie in order
 order : (c : goal.Else-outside_places) → let a = c.args in (a.from ≤ a.to) × (a.to ≤ length a.bytes.now)
-order c = let a = c.args in places-order (length a.bytes.now) a.from a.to (inside c)
+order c = let a = c.args in places-order (length a.bytes.now) a.from a.to (sym c.outside_places.ensures ∙ c.if-outside_places.false)
 
 pub returns-then-outside_places : goal.returns-then-outside_places
 returns-then-outside_places c = let a = c.args in

@@ -40,16 +40,23 @@ shape c =
     ∙ ap (λ (n : ℕ). first (shape_checks (mode_of (map_of bytes)) n (bits_of bytes)) accepted) (c.get_u32.ensures ∙ word-run bytes 1 (search rules))
 
 shaped : (c : goal.In_default) → let bytes = c.args.bytes.now in first (shape_checks (mode_of (map_of bytes)) (dim_of bytes) (bits_of bytes)) accepted ≡ accepted
-shaped c = sym (shape c) ∙ ap says c.in_default.is
+shaped c =
+    let bytes = c.args.bytes.now in
+    sym
+    (c.check_shape.ensures
+    ∙ ap (λ (m : TurboMode). first (shape_checks m c.get_u32.result (bits_of bytes)) accepted) c.mode_of.ensures
+    ∙ ap (λ (n : ℕ). first (shape_checks (mode_of (map_of bytes)) n (bits_of bytes)) accepted) (c.get_u32.ensures ∙ word-run bytes 1 (search rules)))
+    ∙ ap says c.in_default.is
 
 -- all checks but the last
-passed : (c : goal.Else-bytes-header_length) → HeaderPassed c.args.bytes.now
-passed c =
+passed : (c : goal.Else-bytes-header_length) →
+    (let bytes = c.args.bytes.now in first (shape_checks (mode_of (map_of bytes)) (dim_of bytes) (bits_of bytes)) accepted ≡ accepted) → HeaderPassed c.args.bytes.now
+passed c held =
     let bytes = c.args.bytes.now in
-    let all = first-all (shape_checks (mode_of (map_of bytes)) (dim_of bytes) (bits_of bytes)) accepted (shaped c) in
+    let all = first-all (shape_checks (mode_of (map_of bytes)) (dim_of bytes) (bits_of bytes)) accepted held in
     record {
-      long = long c;
-      map = known c;
+      long = le-ltb _ _ c.if-bytes-lt6.false;
+      map = sym c.outside_map.ensures ∙ c.if-outside_map.false;
       above = all.0;
       even = all.1.0;
       most = all.1.1.0;
@@ -71,7 +78,7 @@ pub returns-then-bytes-header_length : goal.returns-then-bytes-header_length
 returns-then-bytes-header_length c = sym (header-cut c.args.bytes.now accepted (long (goal.at.returns-then-bytes-header_length c).After-check_shape) (known (goal.at.returns-then-bytes-header_length c).After-check_shape) (shaped (goal.at.returns-then-bytes-header_length c).In_default) (ap (ltb (length c.args.bytes.now)) (sym c.header_length.ensures) ∙ lt-ltb _ _ c.if-bytes-header_length.true))
 
 pub returns-then-outside_projections : goal.returns-then-outside_projections
-returns-then-outside_projections c = ap (refused 8) c.projections_of-projections.ensures ∙ sym (header-wrong _ accepted (passed (goal.at.returns-then-outside_projections c).Else-bytes-header_length) (sym (asked (goal.at.returns-then-outside_projections c).After-outside_projections) ∙ c.if-outside_projections.true))
+returns-then-outside_projections c = ap (refused 8) c.projections_of-projections.ensures ∙ sym (header-wrong _ accepted (passed (goal.at.returns-then-outside_projections c).Else-bytes-header_length (shaped (goal.at.returns-then-outside_projections c).In_default)) (sym (asked (goal.at.returns-then-outside_projections c).After-outside_projections) ∙ c.if-outside_projections.true))
 
 pub returns : goal.returns
-returns c = sym (header-right _ accepted (passed (goal.at.returns c).Else-bytes-header_length) (sym (asked (goal.at.returns c).After-outside_projections) ∙ c.if-outside_projections.false))
+returns c = sym (header-right _ accepted (passed (goal.at.returns c).Else-bytes-header_length (shaped (goal.at.returns c).In_default)) (sym (asked (goal.at.returns c).After-outside_projections) ∙ c.if-outside_projections.false))

@@ -29,7 +29,7 @@ sizes : (c : goal.After-width_of) → let a = c.args in
     Sizes c.header_length-radii.result c.width_of.result c.get_u32-dim.result (get_or a.bytes.now 5 0) c.projections_of-projections.result
 sizes c =
     let u = header-usable c.args.bytes.now accepted c.requires in
-    let d = dim-read c in
+    let d = c.get_u32-dim.ensures ∙ word-run c.args.bytes.now 1 (omega (arith, u.long)) in
     let w = width-most c.profile_of-profile.result in
     let b = bits_most _ u in
     let m = projections-most _ u in

@@ -15,12 +15,9 @@ use Rattle.packed_reading.proofs.norm_of.Goals as goal
 stands : (c : goal.Then-norm_stands) → has_norm (map_of c.args.bytes.now) ≡ true
 stands c = sym c.norm_stands.ensures ∙ c.if-norm_stands.true
 
-one_bit : (c : goal.Then-norm_stands) → norm_bit (map_of c.args.bytes.now) ≡ 1
-one_bit c = eqb-true _ 1 (stands c)
-
 -- in the last four bytes of the header
 last : (c : goal.After-header_length-at) → c.header_length-at.result - 4 ≡ norm_start (map_of c.args.bytes.now)
-last c = let e = c.header_length-at.ensures in omega (arith, e, one_bit c)
+last c = let e = c.header_length-at.ensures in omega (arith, e, eqb-true _ 1 (sym c.norm_stands.ensures ∙ c.if-norm_stands.true))
 
 pub overflow_sub-at : goal.overflow_sub-at
 overflow_sub-at c = let e = c.header_length-at.ensures in omega (arith, e)

@@ -34,7 +34,7 @@ record Sizes (head width pairs bits signs : ℕ) : Type 0 where
 sizes : (c : goal.After-width_of) → let code = c.args.code in Sizes c.header_length-head.result c.width_of.result (code.dim / 2) code.bits c.counted_in-signs.result
 sizes c =
     let code = c.args.code in
-    let z = code-small code (passed c) in
+    let z = code-small code (sym c.check_code.ensures ∙ ap says c.in_default.is) in
     let w = width-most code.profile in
     record {
       head-most = omega (arith, c.header_length-head.ensures);

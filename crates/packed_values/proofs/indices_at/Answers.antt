@@ -19,4 +19,4 @@ pub returns : goal.returns
 unfolding indices_at_of
 returns c = said_left (let a = c.args in
     let cut = ap (λ (l : List ℕ). unpack_indices_of l (a.header.dim / 2) a.header.bits (length a.out.now)) c.cut-payload.ensures.held in
-    both-as a.out.now (cut ∙ sym (places-passed a.bytes.now a.header.indices_start a.header.signs_start _ (sym c.outside_places.ensures ∙ c.if-outside_places.false))) c.unpack_indices.ensures)
+    both-as a.out.now (cut ∙ sym (places-passed a.bytes.now a.header.indices_start a.header.signs_start _ (sym c.outside_places.ensures ∙ c.if-outside_places.false))) (c.unpack_indices.ensures.said, c.unpack_indices.ensures.left))

@@ -19,4 +19,4 @@ pub returns : goal.returns
 unfolding radii_at_of
 returns c = said_left (let a = c.args in
     let cut = ap (λ (l : List ℕ). restore_of a.header.profile (a.header.dim / 2) a.header.range l (length a.out.now)) c.cut-payload.ensures.held in
-    both-as a.out.now (cut ∙ sym (places-passed a.bytes.now a.header.radii_start a.header.indices_start _ (sym c.outside_places.ensures ∙ c.if-outside_places.false))) c.restore.ensures)
+    both-as a.out.now (cut ∙ sym (places-passed a.bytes.now a.header.radii_start a.header.indices_start _ (sym c.outside_places.ensures ∙ c.if-outside_places.false))) (c.restore.ensures.said, c.restore.ensures.left))

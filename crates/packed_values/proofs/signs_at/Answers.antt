@@ -19,4 +19,4 @@ pub returns : goal.returns
 unfolding signs_at_of
 returns c = said_left (let a = c.args in
     let cut = ap (λ (l : List ℕ). unpack_signs_of l a.header.projections (length a.out.now)) c.cut-payload.ensures.held in
-    both-as a.out.now (cut ∙ sym (places-passed a.bytes.now a.header.signs_start a.header.end _ (sym c.outside_places.ensures ∙ c.if-outside_places.false))) c.unpack_signs.ensures)
+    both-as a.out.now (cut ∙ sym (places-passed a.bytes.now a.header.signs_start a.header.end _ (sym c.outside_places.ensures ∙ c.if-outside_places.false))) (c.unpack_signs.ensures.said, c.unpack_signs.ensures.left))

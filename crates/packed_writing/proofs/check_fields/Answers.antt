@@ -23,15 +23,15 @@ unfolding record_size_of
 passed c = sym c.record_size-size.ensures ∙ ap says_length c.in_default.is
 
 -- what is left are the lengths
-lengths-left : (c : goal.After-check_lengths-lengths) → let a = c.args in first (field_checks a.code a.radii a.indices a.signs) (value (needed_for a.code)) ≡ first (length_checks (a.code.dim / 2) c.counted_in-needed.result a.radii a.indices a.signs) (value (needed_for a.code))
-lengths-left c =
+lengths-left : (c : goal.After-check_lengths-lengths) → {n : ℕ} → (let a = c.args in first (code_checks a.code) (value (needed_for a.code)) ≡ value n) → let a = c.args in first (field_checks a.code a.radii a.indices a.signs) (value (needed_for a.code)) ≡ first (length_checks (a.code.dim / 2) c.counted_in-needed.result a.radii a.indices a.signs) (value (needed_for a.code))
+lengths-left c told =
     let a = c.args in
-    fields-rest a.code a.radii a.indices a.signs (needed_for a.code) (value (needed_for a.code)) (passed c)
+    fields-rest a.code a.radii a.indices a.signs (needed_for a.code) (value (needed_for a.code)) told
     ∙ ap (λ (n : ℕ). first (length_checks (a.code.dim / 2) n a.radii a.indices a.signs) (value (needed_for a.code))) (sym c.counted_in-needed.ensures)
 
 pub returns-in-Refused-lengths : goal.returns-in-Refused-lengths
 returns-in-Refused-lengths c = let a = c.args in
-    sym (lengths-left (goal.at.returns-in-Refused-lengths c).After-check_lengths-lengths ∙ first-refused (length_checks (a.code.dim / 2) c.counted_in-needed.result a.radii a.indices a.signs) (value (needed_for a.code)) (sym c.check_lengths-lengths.ensures ∙ ap says c.in-Refused-lengths.is))
+    sym (lengths-left (goal.at.returns-in-Refused-lengths c).After-check_lengths-lengths (passed (goal.at.returns-in-Refused-lengths c).In_default) ∙ first-refused (length_checks (a.code.dim / 2) c.counted_in-needed.result a.radii a.indices a.signs) (value (needed_for a.code)) (sym c.check_lengths-lengths.ensures ∙ ap says c.in-Refused-lengths.is))
 
 pub returns : goal.returns
 unfolding record_size_of
@@ -40,4 +40,4 @@ returns c = let a = c.args in
     c.record_size-size.ensures
     ∙ told
     ∙ ap value (sym (first-value (code_checks a.code) (needed_for a.code) told))
-    ∙ sym (lengths-left (goal.at.returns c).After-check_lengths-lengths ∙ first-passed (length_checks (a.code.dim / 2) c.counted_in-needed.result a.radii a.indices a.signs) (value (needed_for a.code)) (sym c.check_lengths-lengths.ensures ∙ ap says c.in_default-lengths.is))
+    ∙ sym (lengths-left (goal.at.returns c).After-check_lengths-lengths (passed (goal.at.returns c).In_default) ∙ first-passed (length_checks (a.code.dim / 2) c.counted_in-needed.result a.radii a.indices a.signs) (value (needed_for a.code)) (sym c.check_lengths-lengths.ensures ∙ ap says c.in_default-lengths.is))

@@ -13,7 +13,7 @@ asked : (c : goal.After-is_bad_radius) → c.is_bad_radius.result ≡ bad_radius
 asked c = c.is_bad_radius.ensures ∙ ap bad_radius c.norm_value.ensures
 
 normal : (c : goal.Else-is_bad_radius) → bad_radius (norm_value c.args.norm) ≡ false
-normal c = sym (asked c) ∙ c.if-is_bad_radius.false
+normal c = sym (c.is_bad_radius.ensures ∙ ap bad_radius c.norm_value.ensures) ∙ c.if-is_bad_radius.false
 
 pub returns-then-is_bad_radius : goal.returns-then-is_bad_radius
 returns-then-is_bad_radius c = let a = c.args in

@@ -19,14 +19,10 @@ use Rattle.lists.proofs.Stores.{lent_back, front-again, store_both}
 use Rattle.packed_writing.proofs.Written.{Sized, fields-sized, fields-needed, write-values, write-no-room, write-value}
 use borrow.Author.Rules.{rules}
 use Rattle.error.proofs.Clauses.{said_left}
-use Rattle.packed_writing.proofs.write_sized.Goals.{After-header_length-head, In_default, Start}
+use Rattle.packed_writing.proofs.write_sized.Goals.{After-header_length-head, In_default}
 use Rattle.packed_writing.proofs.write_sized.Goals as goal
 
--- the scalars and the lengths have passed
-sized : (c : goal.Start) → Sized c.args.code.profile c.args.code.bits (length c.args.radii.now) (length c.args.indices.now) (length c.args.signs.now)
-sized c = fields-sized c.args.code (length c.args.radii.now) (length c.args.indices.now) (length c.args.signs.now) c.requires.0
-
--- and so have the values
+-- the values have passed
 values : (c : goal.In_default) → let a = c.args in first (value_checks a.code.profile a.code.bits a.code.norm a.radii.now a.indices.now a.signs.now) accepted ≡ accepted
 values c = sym c.check_values-checked.ensures ∙ ap says c.in_default.is
 
@@ -39,11 +35,11 @@ out-long c =
     let e = c.if-out-need.false in
     let n = c.requires.1 in
     let f = fields-needed c.args.code (length c.args.radii.now) (length c.args.indices.now) (length c.args.signs.now) c.requires.0 in
-    let h = head-is c in
+    let h = c.header_length-head.ensures ∙ ap header_length c.map_for.ensures in
     omega (arith, e, n, f, h)
 
 pub check_values-checked-requires : goal.check_values-checked-requires
-check_values-checked-requires c = (sized (goal.at.check_values-checked-requires c).Start).known
+check_values-checked-requires c = (fields-sized c.args.code (length c.args.radii.now) (length c.args.indices.now) (length c.args.signs.now) c.requires.0).known
 
 pub returns-in-Refused : goal.returns-in-Refused
 returns-in-Refused c = said_left (both-refused _ _ (write-values c.args.code c.args.radii.now c.args.indices.now c.args.signs.now (length c.args.out.now) c.requires.0 (sym c.check_values-checked.ensures ∙ ap says c.in-Refused.is)))
@@ -60,7 +56,7 @@ slice_bounds-put_payloads-start c = let e = out-long (goal.at.slice_bounds-put_p
 pub put_payloads-range-requires : goal.put_payloads-range-requires
 put_payloads-range-requires c = let n = length c.args.radii.now in
     let rest = bytes_for (length c.args.indices.now * c.args.code.bits) + bytes_for (length c.args.signs.now) in
-    let z = sized (goal.at.put_payloads-range-requires c).Start in
+    let z = fields-sized c.args.code (length c.args.radii.now) (length c.args.indices.now) (length c.args.signs.now) c.requires.0 in
     let all = first-all (value_checks c.args.code.profile c.args.code.bits c.args.code.norm c.args.radii.now c.args.indices.now c.args.signs.now) accepted (values (goal.at.put_payloads-range-requires c).In_default) in
     record {
       known = z.known;
