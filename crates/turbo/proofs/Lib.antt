@@ -2,5 +2,5 @@ pub mod Demand
 pub mod Answers
 pub mod Phased
 pub mod Since
-pub mod Hidden
+pub mod NothingHidden
 pub mod Prepared

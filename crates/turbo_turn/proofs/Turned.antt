@@ -160,6 +160,10 @@ module _ (s : Setup) (l : Lent) (query : List Float) (room space : ℕ) where
 
 -- ---- the answer and both outputs
 
+-- three facts at once are the clauses of a contract, under their names
+pub said_rotated_projected : {A B C : Type 0} → A × (B × C) → record { said : A; rotated : B; projected : C }
+said_rotated_projected p = record { said = p.0; rotated = p.1.0; projected = p.1.1 }
+
 -- memory is kept where a call is not done
 pub done-keeps : {A : Type 0} (a : Answer A) (old : A) {number place : ℕ} → done a ≡ refused number place → after a old ≡ old
 done-keeps (value x) old e = cc

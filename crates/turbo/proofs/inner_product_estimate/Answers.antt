@@ -4,21 +4,20 @@ use borrow.Author.Rules.{rules}
 use lib.Ieee.{nan}
 use Rattle.rounding.proofs.Folds.{all-fit-from}
 use Rattle.setup.specs.Lent.{lent}
-use Rattle.turbo.specs.Order.{Demand}
 use Rattle.turbo_phased.specs.Estimates.{joined}
 use Rattle.turbo.proofs.Answers.{phased-joined}
 use Rattle.turbo.proofs.Demand.{demand}
-use Rattle.turbo.proofs.inner_product_estimate.Goals.{After-shared_slice_known-5-1}
 use Rattle.turbo.proofs.inner_product_estimate.Goals as goal
 
-demanded : (c : goal.After-shared_slice_known-5-1) → let a = c.args in Demand a.setup (lent a.rotation.now a.directions.now a.matrix.now) a.query.now
-demanded c =
-    let a = c.args in
-    demand a.setup (lent a.rotation.now a.directions.now a.matrix.now) a.query.now
-    (all-fit-from a.rotation.now nan (λ j h. c.type_inv.rotation j))
-    (all-fit-from a.directions.now nan (λ j h. c.type_inv.directions j))
-    (all-fit-from a.matrix.now nan (λ j h. c.type_inv.matrix j))
-    (all-fit-from a.query.now nan (λ j h. c.type_inv.query j))
-
 pub returns : goal.returns
-returns c = let a = c.args in record { said = c.without_phase.ensures ∙ ap joined c.inner_product_estimate_phased.ensures ∙ phased-joined a.setup (lent a.rotation.now a.directions.now a.matrix.now) a.query.now a.bytes.now; ordered = demanded (goal.at.returns c).After-shared_slice_known-5-1 }
+returns c = let a = c.args in
+    let l = lent a.rotation.now a.directions.now a.matrix.now in
+    record {
+      said = c.without_phase.ensures ∙ ap joined c.inner_product_estimate_phased.ensures ∙ phased-joined a.setup l a.query.now a.bytes.now;
+      ordered =
+          demand a.setup l a.query.now
+          (all-fit-from a.rotation.now nan (λ j h. c.type_inv.rotation j))
+          (all-fit-from a.directions.now nan (λ j h. c.type_inv.directions j))
+          (all-fit-from a.matrix.now nan (λ j h. c.type_inv.matrix j))
+          (all-fit-from a.query.now nan (λ j h. c.type_inv.query j));
+    }

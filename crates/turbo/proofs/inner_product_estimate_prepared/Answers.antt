@@ -5,28 +5,20 @@ use borrow.Author.Rules.{rules}
 use Rattle.error.specs.Outcomes.{says, says_score}
 use Rattle.error.proofs.Chains.{first-passed}
 use Rattle.setup.specs.Checks.{scalar_checks}
-use Rattle.turbo.specs.Prepared.{Prepared}
 use Rattle.turbo_prepared.proofs.Answers.{prepared-refused, prepared-passed, ready-usable}
-use Rattle.turbo.proofs.Hidden.{prepared-scored}
+use Rattle.turbo.proofs.NothingHidden.{prepared-scored}
 use Rattle.turbo.proofs.Prepared.{prepared-stands}
-use Rattle.turbo.proofs.inner_product_estimate_prepared.Goals.{After-shared_slice_known-4-1}
 use Rattle.turbo.proofs.inner_product_estimate_prepared.Goals as goal
-
--- the lent directions are f32
-stands : (c : goal.After-shared_slice_known-4-1) → let a = c.args in Prepared a.setup a.directions.now a.rotated.now a.projected.now
-stands c =
-    let a = c.args in
-    prepared-stands a.setup a.directions.now a.rotated.now a.projected.now (λ j h. c.type_inv.directions j)
 
 pub returns-in-Score : goal.returns-in-Score
 returns-in-Score c = let a = c.args in
-    record { said = sym (prepared-scored a.setup a.directions.now a.rotated.now a.projected.now a.bytes.now (c.is_fitting.ensures c.if-is_fitting.true) (sym (ap says_score c.in-Score.is) ∙ c.record_score-scored.ensures)); ordered = stands (goal.at.returns-in-Score c).After-shared_slice_known-4-1 }
+    record { said = sym (prepared-scored a.setup a.directions.now a.rotated.now a.projected.now a.bytes.now (c.is_fitting.ensures c.if-is_fitting.true) (sym (ap says_score c.in-Score.is) ∙ c.record_score-scored.ensures)); ordered = prepared-stands a.setup a.directions.now a.rotated.now a.projected.now (λ j h. c.type_inv.directions j) }
 
 pub returns-in-Refused : goal.returns-in-Refused
 returns-in-Refused c = let a = c.args in
-    record { said = sym (prepared-refused a.setup a.directions.now a.rotated.now a.projected.now a.bytes.now (sym c.check_prepared-checked.ensures ∙ ap says c.in-Refused.is)); ordered = stands (goal.at.returns-in-Refused c).After-shared_slice_known-4-1 }
+    record { said = sym (prepared-refused a.setup a.directions.now a.rotated.now a.projected.now a.bytes.now (sym c.check_prepared-checked.ensures ∙ ap says c.in-Refused.is)); ordered = prepared-stands a.setup a.directions.now a.rotated.now a.projected.now (λ j h. c.type_inv.directions j) }
 
 pub returns : goal.returns
 returns c = let a = c.args in
     let passed = sym c.check_prepared-checked.ensures ∙ ap says c.in_default-checked.is in
-    record { said = c.record_score.ensures ∙ first-passed (scalar_checks a.setup) _ (ready-usable a.setup a.directions.now a.rotated.now a.projected.now passed) ∙ sym (prepared-passed a.setup a.directions.now a.rotated.now a.projected.now a.bytes.now passed); ordered = stands (goal.at.returns c).After-shared_slice_known-4-1 }
+    record { said = c.record_score.ensures ∙ first-passed (scalar_checks a.setup) _ (ready-usable a.setup a.directions.now a.rotated.now a.projected.now passed) ∙ sym (prepared-passed a.setup a.directions.now a.rotated.now a.projected.now a.bytes.now passed); ordered = prepared-stands a.setup a.directions.now a.rotated.now a.projected.now (λ j h. c.type_inv.directions j) }

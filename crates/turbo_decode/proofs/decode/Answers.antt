@@ -8,4 +8,4 @@ use Rattle.turbo_decode.proofs.decode.Goals as goal
 pub returns : goal.returns
 returns c = let pairs = c.read_pairs in
     c.rotate_back_within.ensures.left
-    ∙ values-back c.args.setup c.args.rotation.now _ _ (length c.args.out.now) c.requires.turnable pairs.auto.1.1.1.0 pairs.ensures
+    ∙ values-back c.args.setup c.args.rotation.now _ _ (length c.args.out.now) c.requires.turnable pairs.auto.values pairs.ensures

@@ -30,7 +30,9 @@ usable c =
 -- and it is
 opened : (c : goal.In-Read) → let a = c.args in opened_of a.setup a.bytes.now ≡ value c.in-Read.header
 opened c =
-    sym (usable c) ∙ sym c.open_record.ensures ∙ ap says_reading c.in-Read.is
+    let a = c.args in
+    let l = lent a.rotation.now a.directions.now a.matrix.now in
+    sym (open-usable a.setup a.bytes.now (setup-scalars a.setup l (sym c.check_setup-checked.ensures ∙ ap says c.in_default.is))) ∙ sym c.open_record.ensures ∙ ap says_reading c.in-Read.is
 
 pub returns-in-Refused : goal.returns-in-Refused
 returns-in-Refused c = said_left (let a = c.args in

@@ -2,7 +2,7 @@
 -- Assumes nothing.
 use mathlib.Core.Path.{◌≡◌, sym, ap, ◌∙◌}
 use borrow.Author.Rules.{rules}
-use lib.Ieee.{binary32, add, sub, mul, of_bits, isNan}
+use lib.Ieee.{binary32, add, sub, mul, of_bits, is_nan}
 use Rattle.error.specs.Checks.{finite_score_of}
 use Rattle.turbo_distance.specs.Distance.{distance_sum, cut_at_zero}
 use Rattle.turbo_distance.proofs.Norms.{sum-of-norms}
@@ -16,8 +16,8 @@ module _ (c : goal.After-is_nan) where
       sub binary32 (add binary32 c.squared_norm.result c.squared_norm-2.result) (mul binary32 (of_bits binary32 0x4000_0000) a.score) ≡ distance_sum a.query.now a.radii.now a.score
   summed = sum-of-norms _ _ _ c.squared_norm.ensures c.squared_norm-2.ensures
 
-  tested : let a = c.args in isNan (distance_sum a.query.now a.radii.now a.score) ≡ c.is_nan.result
-  tested = ap isNan (sym summed) ∙ sym c.is_nan.ensures
+  tested : let a = c.args in is_nan (distance_sum a.query.now a.radii.now a.score) ≡ c.is_nan.result
+  tested = ap is_nan (sym summed) ∙ sym c.is_nan.ensures
 
 pub returns-then-is_nan : goal.returns-then-is_nan
 returns-then-is_nan c = sym (by-sum-nan _ (tested (goal.at.returns-then-is_nan c).After-is_nan ∙ c.if-is_nan.true))

@@ -22,7 +22,7 @@ few-room : (c : goal.After-few_zeros-projected) → c.args.setup.dim ≤ length 
 few-room c = omega (arith, c.if-dim-gt256.false, c.few_zeros-rotated.type_inv)
 
 few-space : (c : goal.After-few_zeros-projected) → c.counted_projections-rows.result ≤ length c.few_zeros-projected.result
-few-space c = omega (arith, ltb-false 256 c.counted_projections-rows.result c.if-rows-gt256.false, c.few_zeros-projected.type_inv)
+few-space c = omega (arith, c.if-rows-gt256.false, c.few_zeros-projected.type_inv)
 
 pub slice_bounds-rotated-end : goal.slice_bounds-rotated-end
 slice_bounds-rotated-end c = room (goal.at.slice_bounds-rotated-end c).After-zeros-projected

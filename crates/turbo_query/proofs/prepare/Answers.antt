@@ -22,7 +22,7 @@ few-room : (c : goal.After-few_zeros-sums) → c.args.setup.dim ≤ length c.few
 few-room c = omega (arith, c.if-dim-gt256.false, c.few_zeros-turned.type_inv)
 
 few-space : (c : goal.After-few_zeros-sums) → c.counted_projections-rows.result ≤ length c.few_zeros-sums.result
-few-space c = omega (arith, ltb-false 256 c.counted_projections-rows.result c.if-rows-gt256.false, c.few_zeros-sums.type_inv)
+few-space c = omega (arith, c.if-rows-gt256.false, c.few_zeros-sums.type_inv)
 
 pub slice_bounds-turned-end : goal.slice_bounds-turned-end
 slice_bounds-turned-end c = room (goal.at.slice_bounds-turned-end c).After-zeros-sums

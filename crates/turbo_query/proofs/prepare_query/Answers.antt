@@ -4,6 +4,7 @@ use Rattle.error.specs.Outcomes.{says}
 use Rattle.setup.specs.Lent.{lent}
 use Rattle.turbo_query.proofs.Answers.{query-scalars, prepare-refused}
 use borrow.Author.Rules.{rules}
+use Rattle.turbo_turn.proofs.Turned.{said_rotated_projected}
 use Rattle.turbo_query.proofs.prepare_query.Goals as goal
 
 pub prepare-requires : goal.prepare-requires
@@ -12,4 +13,4 @@ prepare-requires c = sym c.check_scalars.ensures ∙ ap says c.in-Done.is
 pub returns-in-Refused : goal.returns-in-Refused
 returns-in-Refused c = let a = c.args in
     let l = (lent a.rotation.now a.directions.now a.matrix.now) in
-    prepare-refused a.setup l a.query.now a.rotated.now a.projected.now (query-scalars a.setup l a.query.now (sym c.check_scalars.ensures ∙ ap says c.in-Refused.is))
+    said_rotated_projected (prepare-refused a.setup l a.query.now a.rotated.now a.projected.now (query-scalars a.setup l a.query.now (sym c.check_scalars.ensures ∙ ap says c.in-Refused.is)))
