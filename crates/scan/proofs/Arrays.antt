@@ -17,10 +17,10 @@ use Rattle.scan.proofs.Scan.TheLaws as T'
 
 module _ (scan : Scan) (vs : List Val) (good : Is T.the_row scan vs) where
   pub numbers-long : length scan.numbers ≡ 64
-  numbers-long = sym (length-map scan.numbers (λ v. v)) ∙ (LL.owed T.the_type T'.the_laws scan vs good).1.0.1.0.1
+  numbers-long = (LL.owed T.the_type T'.the_laws scan vs good).1.0.1.0.1
 
   pub scores-long : length scan.scores ≡ 64
-  scores-long = sym (length-map scan.scores (λ v. v)) ∙ (LL.owed T.the_type T'.the_laws scan vs good).1.1.0.1.0.1
+  scores-long = (LL.owed T.the_type T'.the_laws scan vs good).1.1.0.1.0.1
 
 module _ {A : Type 0} (xs : List A) (long : length xs ≡ 64) where
   all-lent : take 64 xs ≡ xs

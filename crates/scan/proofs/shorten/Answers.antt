@@ -14,5 +14,5 @@ pub returns : goal.returns
 returns c = let scan = c.args.scan in
     let n = c.args.length in
     let shorter = c.shorten_within-shorter.ensures in
-    let left = ap (λ (t : Tally). scan_of t scan.numbers scan.scores) shorter.1.0 in
-    record { said = shorter.0; left = left; led = (λ k earlier led. subst (λ (s : Scan). Led k (asked n ∷ earlier) s) (sym left) (shortened-led k earlier scan n led)); alike = as-opened }
+    let left = ap (λ (t : Tally). scan_of t scan.numbers scan.scores) shorter.left in
+    record { said = shorter.said; left = left; led = (λ k earlier led. subst (λ (s : Scan). Led k (asked n ∷ earlier) s) (sym left) (shortened-led k earlier scan n led)); alike = as-opened }
