@@ -1,14 +1,8 @@
 -- `bitpack_signs::all_signs` meets its contract, by the laws of `Sweep`. Assumes nothing.
-use Prim.Native.Nat.{ℕ, ◌-◌}
-use mathlib.Core.Path.{◌≡◌, refl, sym, ap, ◌∙◌}
-use mathlib.Core.Bool.{Bool, true, false, cond}
-use mathlib.Core.Logic.{⊎_elim}
-use native.Mathlib.Omega.{arith}
-use lib.IntN.{ℤ, pos}
+use Prim.Native.Nat.{◌-◌}
 use lib.ListN.{length}
 use Rattle.bitpack.specs.Signs.{bad_sketch_sign}
-use Rattle.error.proofs.Sweep.{swept-start, swept-pass, swept-spot, swept-end, Swept}
-use Rattle.bitpack_signs.proofs.Signs.{signed-at}
+use Rattle.error.proofs.Sweep.{Swept}
 use Rattle.bitpack_signs.proofs.all_signs.Given as goal
 
 abbrev pub invariant-loop-i : goal.invariant-loop-i

@@ -1,10 +1,7 @@
 -- `bitpack_signs::find_no_sign` meets its contract: the loop keeps that the place is i and the place in the rest. Assumes nothing.
-use Prim.Native.Nat.{◌+◌, ◌-◌, ◌≤◌}
-use mathlib.Core.Path.{◌≡◌, sym, ap, ◌∙◌}
+use mathlib.Core.Path.{sym, ap, ◌∙◌}
 use native.Mathlib.Omega.{arith}
 use lib.IntN.{pos}
-use lib.ListN.{length, drop}
-use Rattle.error.specs.Answer.{place}
 use Rattle.error.proofs.Places.{place-start, place-skip, place_here, place_end}
 use Rattle.bitpack.specs.Signs.{bad_sketch_sign}
 use Rattle.bitpack_signs.proofs.Signs.{signed-at}

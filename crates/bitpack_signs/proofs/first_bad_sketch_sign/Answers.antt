@@ -1,6 +1,5 @@
 -- `bitpack_signs::first_bad_sketch_sign` meets its contract: where the pass finds nothing, the place is the length. Assumes nothing.
 use mathlib.Core.Path.{sym, ◌∙◌}
-use borrow.Author.Rules.{rules}
 use Rattle.bitpack.specs.Signs.{bad_sketch_sign}
 use Rattle.error.proofs.Sweep.{clear-place}
 use Rattle.bitpack_signs.proofs.first_bad_sketch_sign.Goals as goal

@@ -1,16 +1,10 @@
 -- `bitpack_signs_reading::put_last_signs` meets its contract: the loop keeps that what is written and what is left are the signs of the digits. Assumes nothing.
-use Prim.Native.Nat.{◌-◌, ◌%◌, ◌≤◌}
-use mathlib.Core.Path.{◌≡◌, refl, sym, ap, ◌∙◌}
+use Prim.Native.Nat.{◌-◌, ◌≤◌}
+use mathlib.Core.Path.{◌≡◌}
 use mathlib.Core.List.{◌++◌, map}
-use native.Mathlib.Omega.{arith}
-use lib.IntN.{ℤ}
-use lib.ListN.{length, take, length-set}
-use mir.Syntax.{w8}
-use mir.Val.{of_z, to_z}
+use lib.ListN.{length, take}
 use Rattle.digits.specs.Digits.{digits}
 use Rattle.bitpack.specs.Signs.{sign_of_bit}
-use Rattle.bitpack_signs.proofs.Signs.{sign-back}
-use Rattle.bitpack_signs.proofs.SignUnpacking.{sign-next, sign-end}
 use Rattle.bitpack_signs_reading.proofs.put_last_signs.Given as goal
 
 abbrev pub invariant-loop-i : goal.invariant-loop-i

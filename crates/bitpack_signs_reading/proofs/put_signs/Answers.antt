@@ -9,7 +9,6 @@ use mir.Val.{of_z, to_z}
 use Rattle.digits.specs.Digits.{digits}
 use Rattle.lists.proofs.Stores.{store-four}
 use Rattle.bitpack_signs.proofs.Signs.{sign-back}
-use borrow.Author.Rules.{rules}
 use Rattle.bitpack_signs_reading.proofs.put_signs.Goals as goal
 
 pub bounds-out-at-2 : goal.bounds-out-at-2

@@ -1,9 +1,7 @@
 -- `bitpack_signs_reading::unpack_sign_bytes` meets its contract: the loop keeps `SignsUnpacked`; a last byte is read where signs are left. Assumes nothing.
 use Prim.Native.Nat.{◌-◌}
-use mathlib.Core.Path.{refl, ◌∙◌}
-use native.Mathlib.Omega.{arith}
 use lib.ListN.{length}
-use Rattle.bitpack_signs.proofs.SignUnpacking.{SignsUnpacked, unsigns-start, unsigns-byte, unsigns-room, unsigns-turn, unsigns-last, unsigns-none}
+use Rattle.bitpack_signs.proofs.SignUnpacking.{SignsUnpacked}
 use Rattle.bitpack_signs_reading.proofs.unpack_sign_bytes.Given as goal
 
 abbrev pub invariant-loop-k : goal.invariant-loop-k

@@ -3,7 +3,6 @@ use mathlib.Core.Path.{sym, ap, ◌∙◌}
 use Rattle.error.specs.Outcomes.{says}
 use Rattle.error.proofs.Answers.{both-refused, both-value}
 use Rattle.bitpack_signs_reading.proofs.SignAnswers.{unpack_signs-padded, unpack-signs-no-room, unpack-signs-value, unpack-signs-enough}
-use borrow.Author.Rules.{rules}
 use Rattle.error.proofs.Clauses.{said_left}
 use Rattle.bitpack_signs_reading.proofs.unpack_signs.Goals as goal
 

@@ -1,6 +1,5 @@
 -- `bitpack_signs_writing::bits_byte` meets its contract: two words of bits, gathered by one product. Assumes nothing.
 use Rattle.bitpack_signs_writing.proofs.SignBlocks.{block-byte}
-use borrow.Author.Rules.{rules}
 use Rattle.bitpack_signs_writing.proofs.bits_byte.Goals as goal
 
 pub returns : goal.returns

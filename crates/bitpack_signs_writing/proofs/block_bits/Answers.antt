@@ -1,9 +1,9 @@
 -- `bitpack_signs_writing::block_bits` meets its contract: the bits of the signs passed stand in front. Assumes nothing.
-use Prim.Native.Nat.{◌+◌, ◌-◌, ◌≤◌}
-use mathlib.Core.Path.{◌≡◌, refl, ◌∙◌}
+use Prim.Native.Nat.{◌+◌, ◌≤◌}
+use mathlib.Core.Path.{refl, ◌∙◌}
 use mathlib.Core.List.{map}
 use native.Mathlib.Omega.{arith}
-use lib.ListN.{length, take, drop, length-map, length-set}
+use lib.ListN.{length, length-map, length-set}
 use Rattle.bitpack.specs.Signs.{bit_of_sign}
 use Rattle.bitpack_signs.proofs.Signs.{bit-read}
 use Rattle.bitpack_signs_writing.proofs.SignBlocks.{block-next, block-end}

@@ -1,12 +1,9 @@
 -- `bitpack_signs_writing::get_last_signs` meets its contract: the loop goes down and keeps `LastBits`. Assumes nothing.
-use Prim.Native.Nat.{◌-◌, ◌≤◌}
-use mathlib.Core.Path.{◌≡◌, ◌∙◌}
+use Prim.Native.Nat.{◌≤◌}
 use mathlib.Core.List.{map}
-use native.Mathlib.Omega.{arith}
-use lib.ListN.{length, length-map}
+use lib.ListN.{length}
 use Rattle.bitpack.specs.Signs.{bit_of_sign}
-use Rattle.bitpack_signs.proofs.Signs.{bit-read}
-use Rattle.bitpack_signs_writing.proofs.SignPacking.{LastBits, last-start, last_turn, last-small}
+use Rattle.bitpack_signs_writing.proofs.SignPacking.{LastBits}
 use Rattle.bitpack_signs_writing.proofs.get_last_signs.Given as goal
 
 abbrev pub invariant-loop-i : goal.invariant-loop-i

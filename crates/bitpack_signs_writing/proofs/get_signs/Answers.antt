@@ -8,7 +8,6 @@ use Rattle.digits.specs.Digits.{number}
 use Rattle.bitpack.specs.Signs.{bit_of_sign}
 use Rattle.lists.proofs.Stores.{run-four}
 use Rattle.bitpack_signs.proofs.Signs.{bit-read}
-use borrow.Author.Rules.{rules}
 use Rattle.bitpack_signs_writing.proofs.get_signs.Goals as goal
 
 pub returns : goal.returns

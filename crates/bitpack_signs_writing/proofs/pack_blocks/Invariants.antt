@@ -1,14 +1,9 @@
 -- `bitpack_signs_writing::pack_blocks` meets its contract: each byte that a block gives is the next of `SignsPacked`. Assumes nothing.
-use Prim.Native.Nat.{ℕ, ◌+◌, ◌-◌, ◌*◌, ◌/◌, ◌≤◌, ◌<◌}
-use mathlib.Core.Path.{◌≡◌, refl, ◌∙◌}
+use Prim.Native.Nat.{◌+◌, ◌-◌, ◌≤◌}
 use mathlib.Core.List.{map}
-use native.Mathlib.Nat.{add-zero}
-use native.Mathlib.Omega.{arith}
-use lib.ListN.{length, length-map}
+use lib.ListN.{length}
 use Rattle.bitpack.specs.Signs.{bit_of_sign}
 use Rattle.bitpack_signs_writing.specs.Inner.{SignsPacked}
-use Rattle.bitpack_signs_writing.proofs.SignPacking.{signs_start_lem, signs-byte}
-use Rattle.bitpack_signs_writing.proofs.SignBlocks.{signs-block, block_at}
 use Rattle.bitpack_signs_writing.proofs.pack_blocks.Given as goal
 
 abbrev pub invariant-loop-j : goal.invariant-loop-j

@@ -1,13 +1,10 @@
 -- `bitpack_signs_writing::pack_sign_bytes` meets its contract: the loop keeps `SignsPacked`; a last byte is written where signs are left. Assumes nothing.
 use Prim.Native.Nat.{◌-◌}
-use mathlib.Core.Path.{refl, sym, ◌∙◌}
 use mathlib.Core.List.{map}
-use native.Mathlib.Omega.{arith}
-use lib.ListN.{length, length-map, length-set}
+use lib.ListN.{length}
 use Rattle.bitpack.specs.Padding.{bytes_for}
 use Rattle.bitpack.specs.Signs.{bit_of_sign}
 use Rattle.bitpack_signs_writing.specs.Inner.{SignsPacked}
-use Rattle.bitpack_signs_writing.proofs.SignPacking.{signs-inside, signs-room, signs-turn, signs-left, signs-last, signs_none}
 use Rattle.bitpack_signs_writing.proofs.pack_sign_bytes.Given as goal
 
 abbrev pub invariant-loop-k : goal.invariant-loop-k

@@ -2,7 +2,6 @@
 use Rattle.bitpack.proofs.Lengths.{rounded-up}
 use Rattle.error.proofs.Answers.{both-refused, both-value}
 use Rattle.bitpack_signs_writing.proofs.SignAnswers.{pack_signs-bad, pack-signs-no-room, pack-signs-value}
-use borrow.Author.Rules.{rules}
 use Rattle.error.proofs.Clauses.{said_left}
 use Rattle.bitpack_signs_writing.proofs.pack_signs.Goals as goal
 

@@ -7,7 +7,6 @@ use Rattle.lists.proofs.Stores.{run-four}
 use Rattle.digits.specs.Digits.{number}
 use Rattle.digits.proofs.Windows.{shift_in-word}
 use Rattle.bitpack_writing.proofs.Groups.{four-word, four-fits, four-number}
-use borrow.Author.Rules.{rules}
 use Rattle.bitpack_writing.proofs.four_of.Goals.{Start}
 use Rattle.bitpack_writing.proofs.four_of.Goals as goal
 

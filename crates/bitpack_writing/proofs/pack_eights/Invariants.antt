@@ -1,10 +1,7 @@
 -- `bitpack_writing::pack_eights` meets its contract: the loop keeps `Gathered`, and its turn is a law of it. Assumes nothing.
-use Prim.Native.Nat.{◌+◌, ◌-◌, ◌*◌, ◌≤◌}
-use mathlib.Core.Path.{refl}
-use native.Mathlib.Omega.{arith}
+use Prim.Native.Nat.{◌-◌}
 use lib.ListN.{length}
 use Rattle.bitpack_writing.specs.Inner.{Gathered}
-use Rattle.bitpack_writing.proofs.Groups.{gathered-start, gathered-within, gathered-more, gathered-turn}
 use Rattle.bitpack_writing.proofs.pack_eights.Given as goal
 
 abbrev pub invariant-loop-k : goal.invariant-loop-k

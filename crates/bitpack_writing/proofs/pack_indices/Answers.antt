@@ -3,7 +3,6 @@ use mathlib.Core.Path.{sym, ap, ◌∙◌}
 use Rattle.error.specs.Lengths.{says_length}
 use Rattle.error.proofs.Answers.{both-refused, both-value}
 use Rattle.bitpack_writing.proofs.Answers.{pack-no-length, pack-large, pack-no-room, pack-value, packable}
-use borrow.Author.Rules.{rules}
 use Rattle.error.proofs.Clauses.{said_left}
 use Rattle.bitpack_writing.proofs.pack_indices.Goals as goal
 

@@ -1,7 +1,6 @@
 -- `bitpack_writing::put_eight` meets its contract: one word, or two, hold the bytes of eight indices. Assumes nothing.
 use native.Mathlib.Omega.{arith}
 use Rattle.bitpack_writing.proofs.Groups.{eight-word, placed-eight, placed-eight-wide}
-use borrow.Author.Rules.{rules}
 use Rattle.bitpack_writing.proofs.put_eight.Goals as goal
 
 pub overflow_add-low : goal.overflow_add-low

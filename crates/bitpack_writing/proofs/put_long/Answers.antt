@@ -1,6 +1,5 @@
 -- `bitpack_writing::put_long` meets its contract: four bytes are placed, and four behind them. Assumes nothing.
 use Rattle.bitpack_writing.proofs.Groups.{placed-more}
-use borrow.Author.Rules.{rules}
 use Rattle.bitpack_writing.proofs.put_long.Goals as goal
 
 pub returns : goal.returns

@@ -4,7 +4,6 @@ use lib.ListN.{length-set}
 use Rattle.digits.specs.Digits.{digits}
 use Rattle.lists.proofs.Stores.{store-four}
 use Rattle.bitpack_writing.proofs.Groups.{placed-run}
-use borrow.Author.Rules.{rules}
 use Rattle.bitpack_writing.proofs.put_low.Goals as goal
 
 pub bounds-out-at-2 : goal.bounds-out-at-2

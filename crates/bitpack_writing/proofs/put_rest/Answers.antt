@@ -1,10 +1,7 @@
 -- `bitpack_writing::put_rest` meets its contract: the loop keeps that what is written and what is left are the digits. Assumes nothing.
-use Prim.Native.Nat.{◌-◌, ◌≤◌}
-use mathlib.Core.Path.{◌≡◌, refl, sym, ◌∙◌}
-use mathlib.Core.List.{◌++◌}
+use mathlib.Core.Path.{refl, sym, ◌∙◌}
 use native.Mathlib.Omega.{arith}
-use lib.ListN.{length, take, length-set}
-use Rattle.digits.specs.Digits.{digits}
+use lib.ListN.{length-set}
 use Rattle.digits.proofs.Digits.{write-next, write-end}
 use Rattle.bitpack_writing.proofs.put_rest.Goals as goal
 

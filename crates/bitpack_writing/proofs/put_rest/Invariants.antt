@@ -1,11 +1,9 @@
 -- `bitpack_writing::put_rest` meets its contract: the loop keeps that what is written and what is left are the digits. Assumes nothing.
 use Prim.Native.Nat.{◌-◌, ◌≤◌}
-use mathlib.Core.Path.{◌≡◌, refl, sym, ◌∙◌}
+use mathlib.Core.Path.{◌≡◌}
 use mathlib.Core.List.{◌++◌}
-use native.Mathlib.Omega.{arith}
-use lib.ListN.{length, take, length-set}
+use lib.ListN.{length, take}
 use Rattle.digits.specs.Digits.{digits}
-use Rattle.digits.proofs.Digits.{write-next, write-end}
 use Rattle.bitpack_writing.proofs.put_rest.Given as goal
 
 abbrev pub invariant-loop-k : goal.invariant-loop-k

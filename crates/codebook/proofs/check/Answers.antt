@@ -1,6 +1,5 @@
 -- `codebook::check` meets its contract: each return is the first check that offends, or the end of the list. Assumes nothing.
 use mathlib.Core.Logic.{⊎_elim}
-use borrow.Author.Rules.{rules}
 use borrow.Author.Tests.{lt-ltb, le-ltb}
 use Rattle.codebook.specs.Inner.{check_of}
 use Rattle.codebook.proofs.check.Goals.{then-not-is_finite-via-then-not-is_finite, then-not-is_finite-via-else-not-is_finite+then-not-is_finite-2, then-not-is_finite-via-else-not-is_finite+else-not-is_finite-2+then-max-min}

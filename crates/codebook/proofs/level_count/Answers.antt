@@ -1,5 +1,4 @@
 -- `codebook::level_count` meets its contract: the shift loses no bit. Assumes nothing.
-use borrow.Author.Rules.{rules}
 use Rattle.float.proofs.Levels.{levels-shifted}
 use Rattle.codebook.proofs.level_count.Goals as goal
 

@@ -1,5 +1,4 @@
 -- `packed::bad_bounds_for` meets its contract. Assumes nothing.
-use borrow.Author.Rules.{rules}
 use Rattle.packed.proofs.bad_bounds_for.Goals as goal
 
 pub returns-in-BlockLinearU16 : goal.returns-in-BlockLinearU16

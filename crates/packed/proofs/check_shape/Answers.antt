@@ -1,7 +1,6 @@
 -- `packed::check_shape` meets its contract: a check that passes leaves the rest of the list. Assumes nothing.
 use mathlib.Core.Path.{sym, ◌∙◌}
 use borrow.Author.Tests.{eq-eqb, ne_eqb}
-use borrow.Author.Rules.{rules}
 use Rattle.packed.proofs.check_shape.Goals as goal
 
 pub returns-then-dim-eq0 : goal.returns-then-dim-eq0

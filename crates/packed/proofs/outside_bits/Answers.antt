@@ -1,6 +1,5 @@
 -- `packed::outside_bits` meets its contract. Assumes nothing.
 use borrow.Author.Tests.{lt-ltb, le-ltb}
-use borrow.Author.Rules.{rules}
 use Rattle.packed.proofs.outside_bits.Goals as goal
 
 pub returns-then-bits-lt1 : goal.returns-then-bits-lt1

@@ -1,7 +1,6 @@
 -- `packed::outside_map` meets its contract: the tests in the definition's order. Assumes nothing.
 use mathlib.Core.Path.{sym, ◌∙◌}
 use borrow.Author.Tests.{lt-ltb, le-ltb}
-use borrow.Author.Rules.{rules}
 use Rattle.packed.proofs.outside_map.Goals as goal
 
 pub returns-then-map-gt7 : goal.returns-then-map-gt7

@@ -7,7 +7,6 @@ use native.Mathlib.Omega.{arith}
 use lib.ListN.{length}
 use Rattle.packed_parts.specs.Parts.{bad_places}
 use Rattle.packed_parts.proofs.Cuts.{places-order, cut-outside, start_outside, cut_inside, start-inside}
-use borrow.Author.Rules.{rules}
 use Rattle.packed_parts.proofs.cut.Goals.{Else-outside_places}
 use Rattle.packed_parts.proofs.cut.Goals as goal
 

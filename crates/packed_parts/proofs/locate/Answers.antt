@@ -2,7 +2,6 @@
 use mathlib.Core.Path.{sym, ap, ◌∙◌}
 use Rattle.packed.specs.Reading.{says_reading}
 use Rattle.packed_parts.specs.Parts.{places_in, locate_of}
-use borrow.Author.Rules.{rules}
 use Rattle.packed_parts.proofs.locate.Goals as goal
 
 pub returns-in-Read : goal.returns-in-Read

@@ -1,6 +1,5 @@
 -- `packed_parts::radii_part` meets its contract: a cut at the places that were found. Assumes nothing.
 use Rattle.packed_parts.proofs.Handed.{radii-payload, payload-handed, held_stands}
-use borrow.Author.Rules.{rules}
 use Rattle.packed_parts.proofs.radii_part.Goals as goal
 
 pub returns : goal.returns

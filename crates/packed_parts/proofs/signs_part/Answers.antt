@@ -1,6 +1,5 @@
 -- `packed_parts::signs_part` meets its contract: a cut at the places that were found. Assumes nothing.
 use Rattle.packed_parts.proofs.Handed.{signs-payload, payload-handed, held_stands}
-use borrow.Author.Rules.{rules}
 use Rattle.packed_parts.proofs.signs_part.Goals as goal
 
 pub returns : goal.returns

@@ -7,7 +7,6 @@ use Rattle.packed.specs.Layout.{record_length}
 use Rattle.packed.specs.Radii.{bad_bounds_for}
 use Rattle.packed.proofs.Parts.{ordered, header-bounds, header_norm_lem}
 use Rattle.packed.proofs.Payloads.{frame-size, frame-bounds, frame-norm, frame-sound}
-use borrow.Author.Rules.{rules}
 use Rattle.packed_reading.proofs.check_frame.Goals.{After-is_bad_radius-bad_norm, Else-bytes-header}
 use Rattle.packed_reading.proofs.check_frame.Goals as goal
 

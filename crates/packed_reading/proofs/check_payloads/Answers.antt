@@ -9,7 +9,6 @@ use Rattle.radius_reading.proofs.Scan.{first-bad-whole}
 use Rattle.packed.specs.Reading.{radii_of}
 use Rattle.packed.proofs.Parts.{Ordered, ordered, radii_part, length-radii, header-pairs, header-width, header-radii}
 use Rattle.packed.proofs.Payloads.{payload-radius, payload-rest}
-use borrow.Author.Rules.{rules}
 use Rattle.packed_reading.proofs.check_payloads.Goals.{After-first_bad_payload-bad, Start}
 use Rattle.packed_reading.proofs.check_payloads.Goals as goal
 

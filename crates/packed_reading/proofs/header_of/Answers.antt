@@ -8,7 +8,6 @@ use Rattle.packed.specs.Fields.{dim_of}
 use Rattle.packed.specs.Layout.{header_of}
 use Rattle.packed.proofs.Headers.{word-run, header-usable, bits_most, projections-most, product-most}
 use Rattle.radius.proofs.Widths.{width-most}
-use borrow.Author.Rules.{rules}
 use Rattle.packed_reading.proofs.header_of.Goals.{After-get_u32-dim, After-width_of}
 use Rattle.packed_reading.proofs.header_of.Goals as goal
 

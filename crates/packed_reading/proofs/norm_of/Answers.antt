@@ -4,9 +4,8 @@ use mathlib.Core.Path.{◌≡◌, sym, ap, ◌∙◌}
 use mathlib.Core.Bool.{true}
 use native.Mathlib.Omega.{arith}
 use borrow.Author.Tests.{eqb-true}
-use borrow.Author.Rules.{rules}
 use lib.Ieee.{of_bits}
-use Rattle.packed.specs.Fields.{map_of, norm_bit, has_norm, float_at, norm_start, norm_of}
+use Rattle.packed.specs.Fields.{map_of, has_norm, float_at, norm_start, norm_of}
 use Rattle.packed.proofs.Headers.{float-run}
 use Rattle.packed_reading.proofs.norm_of.Goals.{After-header_length-at, Then-norm_stands}
 use Rattle.packed_reading.proofs.norm_of.Goals as goal

@@ -5,7 +5,6 @@ use Rattle.error.specs.Outcomes.{says}
 use Rattle.packed.specs.Reading.{says_reading, padding_checks}
 use Rattle.packed.specs.Peeking.{read_frame_of, peek_record_of}
 use Rattle.packed.proofs.Frame.{frame-withdrawn, frame_refused, frame-whole, frame-then-refused, frame-then-passed}
-use borrow.Author.Rules.{rules}
 use Rattle.packed_reading.proofs.peek_record.Goals.{In-Read}
 use Rattle.packed_reading.proofs.peek_record.Goals as goal
 

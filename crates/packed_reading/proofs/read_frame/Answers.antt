@@ -11,7 +11,6 @@ use Rattle.packed.specs.Layout.{header_of}
 use Rattle.packed.specs.Reading.{header_checks, is_withdrawn}
 use Rattle.packed.specs.Peeking.{frame_checks, read_frame_of}
 use Rattle.packed.proofs.Withdrawn.{unless-none, unless-some}
-use borrow.Author.Rules.{rules}
 use Rattle.packed_reading.proofs.read_frame.Goals.{Else-bytes-eq0}
 use Rattle.packed_reading.proofs.read_frame.Goals as goal
 

@@ -5,7 +5,6 @@ use Rattle.error.specs.Outcomes.{says}
 use Rattle.packed.specs.Reading.{says_reading, read_record_of}
 use Rattle.packed.specs.Peeking.{radii_checks, read_frame_of}
 use Rattle.packed.proofs.Frame.{frame-withdrawn, frame_refused, frame-whole, frame-then-refused, frame-then-passed}
-use borrow.Author.Rules.{rules}
 use Rattle.packed_reading.proofs.read_record.Goals.{In-Read}
 use Rattle.packed_reading.proofs.read_record.Goals as goal
 

@@ -7,7 +7,6 @@ use Rattle.radius.specs.Codec.{bad_profile}
 use Rattle.packed.specs.Reading.{shape_checks}
 use Rattle.packed_size.specs.Size.{bad_norm_alone}
 use Rattle.packed_size.proofs.Scalars.{code-norm_alone, code_shape, code-projections, code-clear}
-use borrow.Author.Rules.{rules}
 use Rattle.packed_size.proofs.check_code.Goals.{Else-is_bad_profile, Else-norm_alone, In_default}
 use Rattle.packed_size.proofs.check_code.Goals as goal
 

@@ -13,7 +13,6 @@ use Rattle.radius.proofs.Widths.{width-most}
 use Rattle.packed.proofs.Headers.{product-most}
 use Rattle.packed_size.specs.Size.{map_for, needed_for, code_checks, record_size_of}
 use Rattle.packed_size.proofs.Scalars.{code-small}
-use borrow.Author.Rules.{rules}
 use Rattle.packed_size.proofs.record_size.Goals.{After-width_of, In_default}
 use Rattle.packed_size.proofs.record_size.Goals as goal
 

@@ -7,7 +7,6 @@ use Rattle.error.proofs.Answers.{both-refused}
 use Rattle.bitpack.specs.Packing.{unpack_indices_of}
 use Rattle.packed_values.specs.AtHeader.{indices_at_of}
 use Rattle.packed_values.proofs.Values.{places-refused, places-passed, both-as}
-use borrow.Author.Rules.{rules}
 use Rattle.error.proofs.Clauses.{said_left}
 use Rattle.packed_values.proofs.indices_at.Goals as goal
 

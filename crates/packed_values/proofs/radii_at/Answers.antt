@@ -7,7 +7,6 @@ use Rattle.error.proofs.Answers.{both-refused}
 use Rattle.radius.specs.Codec.{restore_of}
 use Rattle.packed_values.specs.AtHeader.{radii_at_of}
 use Rattle.packed_values.proofs.Values.{places-refused, places-passed, both-as}
-use borrow.Author.Rules.{rules}
 use Rattle.error.proofs.Clauses.{said_left}
 use Rattle.packed_values.proofs.radii_at.Goals as goal
 

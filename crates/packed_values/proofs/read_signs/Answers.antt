@@ -3,7 +3,6 @@ use mathlib.Core.Path.{sym, ap, ◌∙◌}
 use Rattle.error.proofs.Answers.{both-refused, both-withdrawn}
 use Rattle.packed.specs.Reading.{says_reading}
 use Rattle.packed_values.proofs.Values.{both-as, signs_at-read, signs_refused, signs-withdrawn}
-use borrow.Author.Rules.{rules}
 use Rattle.error.proofs.Clauses.{said_left}
 use Rattle.packed_values.proofs.read_signs.Goals as goal
 

@@ -7,7 +7,6 @@ use Rattle.error.proofs.Answers.{both-refused}
 use Rattle.bitpack.specs.Signs.{unpack_signs_of}
 use Rattle.packed_values.specs.AtHeader.{signs_at_of}
 use Rattle.packed_values.proofs.Values.{places-refused, places-passed, both-as}
-use borrow.Author.Rules.{rules}
 use Rattle.error.proofs.Clauses.{said_left}
 use Rattle.packed_values.proofs.signs_at.Goals as goal
 

@@ -1,6 +1,5 @@
 -- `packed_writing::check_codes` meets its contract: each return is one case of the checks, in their order. Assumes nothing.
 use mathlib.Core.Path.{sym}
-use borrow.Author.Rules.{rules}
 use Rattle.packed_writing.proofs.Written.{codes-large, codes-stray, codes-pass}
 use Rattle.packed_writing.proofs.check_codes.Goals as goal
 

@@ -8,7 +8,6 @@ use Rattle.error.specs.Outcomes.{says}
 use Rattle.packed_size.specs.Size.{code_checks, needed_for, record_size_of}
 use Rattle.packed_writing.specs.Writing.{length_checks, field_checks}
 use Rattle.packed_writing.proofs.Writing.{fields-code, fields-rest}
-use borrow.Author.Rules.{rules}
 use Rattle.packed_writing.proofs.check_fields.Goals.{After-check_lengths-lengths, In_default}
 use Rattle.packed_writing.proofs.check_fields.Goals as goal
 

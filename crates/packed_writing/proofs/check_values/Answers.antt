@@ -1,7 +1,6 @@
 -- `packed_writing::check_values` meets its contract: each return is one case of the checks, in their order. Assumes nothing.
 use mathlib.Core.Path.{◌≡◌, sym, ap, ◌∙◌}
 use mathlib.Core.Bool.{false}
-use borrow.Author.Rules.{rules}
 use Rattle.radius.specs.Radii.{bad_radius}
 use Rattle.packed_size.specs.Size.{norm_value}
 use Rattle.packed_writing.proofs.Written.{values-norm, values-radius, values-lost, values-codes}

@@ -1,5 +1,4 @@
 -- `packed_writing::norm_value` meets its contract. Assumes nothing.
-use borrow.Author.Rules.{rules}
 use lib.Ieee.{of_bits}
 use Rattle.packed_writing.proofs.norm_value.Goals as goal
 

@@ -9,7 +9,6 @@ use Rattle.bitpack.specs.Packing.{index_bytes}
 use Rattle.packed.proofs.Headers.{product-most}
 use Rattle.lists.proofs.Stores.{lent_back, front-again, store_both}
 use Rattle.packed_writing.proofs.Writing.{indices-pass, signs-pass}
-use borrow.Author.Rules.{rules}
 use Rattle.packed_writing.proofs.put_codes.Goals as goal
 
 pub overflow_mul-codes : goal.overflow_mul-codes

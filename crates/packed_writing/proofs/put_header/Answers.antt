@@ -1,7 +1,7 @@
 -- `packed_writing::put_header` meets its contract: six bytes, the range, the projections and the norm, one behind the other. Assumes nothing.
 use Prim.Native.Nat.{ℕ, ◌+◌, ◌-◌}
 use mathlib.Core.Path.{◌≡◌, ap, ◌∙◌}
-use mathlib.Core.List.{List, [], ◌∷◌, ◌++◌}
+use mathlib.Core.List.{List, ◌∷◌, ◌++◌}
 use native.Mathlib.Omega.{arith}
 use lib.ListN.{length, take, drop, set, length-set}
 use Rattle.digits.specs.Digits.{digits}
@@ -15,7 +15,6 @@ use Rattle.packed_size.proofs.Maps.{map-tells}
 use Rattle.packed_writing.specs.Writing.{range_bytes, projection_bytes, norm_bytes, header_bytes}
 use Rattle.packed_writing.proofs.Stores.{store-six, store-header}
 use Rattle.packed_writing.proofs.Writing.{range-long, projection-long}
-use borrow.Author.Rules.{rules}
 use Rattle.packed_writing.proofs.put_header.Goals.{After-put_projections, After-put_range, After-put_word}
 use Rattle.packed_writing.proofs.put_header.Goals as goal
 

@@ -3,7 +3,6 @@ use Prim.Native.Nat.{ℕ}
 use mathlib.Core.Path.{ap, ◌∙◌}
 use mathlib.Core.List.{List}
 use Rattle.error.specs.Answer.{Answer, after}
-use borrow.Author.Rules.{rules}
 use Rattle.packed_writing.proofs.put_indices.Goals as goal
 
 pub returns : goal.returns

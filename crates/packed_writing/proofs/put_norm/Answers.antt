@@ -5,7 +5,6 @@ use Rattle.float.proofs.Bytes.{put_f32-room}
 use Rattle.packed_writing.proofs.Stores.{store-last}
 use Rattle.lists.proofs.Stores.{store-none}
 use native.Mathlib.Omega.{arith}
-use borrow.Author.Rules.{rules}
 use Rattle.packed_writing.proofs.put_norm.Goals as goal
 
 pub overflow_sub-at : goal.overflow_sub-at

@@ -10,7 +10,6 @@ use Rattle.packed.proofs.Headers.{product-most}
 use Rattle.radius.proofs.Widths.{width-most}
 use Rattle.lists.proofs.Stores.{lent_back, front-again, store_both}
 use Rattle.packed_writing.proofs.Writing.{radii-pass}
-use borrow.Author.Rules.{rules}
 use Rattle.packed_writing.proofs.put_payloads.Goals.{After-width_of}
 use Rattle.packed_writing.proofs.put_payloads.Goals as goal
 

@@ -3,7 +3,6 @@ use mathlib.Core.Path.{◌∙◌}
 use native.Mathlib.Nat.{add-zero}
 use Rattle.digits.proofs.Words.{put_word-room}
 use Rattle.packed_writing.proofs.Stores.{store_nothing}
-use borrow.Author.Rules.{rules}
 use Rattle.packed_writing.proofs.put_projections.Goals as goal
 
 pub returns-in-PolarWithQjl : goal.returns-in-PolarWithQjl

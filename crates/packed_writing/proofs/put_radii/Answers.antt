@@ -10,7 +10,6 @@ use Rattle.radius.specs.Codec.{compress_checks, range_for, payload_for, compress
 use Rattle.radius_writing.specs.Says.{says_range}
 use Rattle.radius.specs.declared.Range.{Range}
 use Rattle.radius.specs.declared.RadiusCodecProfileV1.{RadiusCodecProfileV1}
-use borrow.Author.Rules.{rules}
 use Rattle.packed_writing.proofs.put_radii.Goals as goal
 
 value_same : {x y : Range} → value x ≡ value y → x ≡ y

@@ -7,7 +7,6 @@ use lib.ListN.{take, drop}
 use Rattle.float.specs.Bytes.{to_le_bytes}
 use Rattle.float.proofs.Bytes.{length-to_le_bytes, put_f32-room}
 use Rattle.packed_writing.proofs.Stores.{store_pair, store_nothing}
-use borrow.Author.Rules.{rules}
 use Rattle.packed_writing.proofs.put_range.Goals as goal
 
 pub put_f32-requires : goal.put_f32-requires

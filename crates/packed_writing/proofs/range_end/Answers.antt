@@ -1,5 +1,4 @@
 -- `packed_writing::range_end` meets its contract, by the profile. Assumes nothing.
-use borrow.Author.Rules.{rules}
 use Rattle.packed_writing.proofs.range_end.Goals as goal
 
 pub returns-in-F32 : goal.returns-in-F32

@@ -1,7 +1,6 @@
 -- `packed_writing::write_record` meets its contract: what the checks of scalars and lengths refuse is refused, and else it is what `write_sized` does.
 -- Assumes nothing.
-use Prim.Native.Nat.{ℕ}
-use mathlib.Core.Path.{◌≡◌, sym, ap, ◌∙◌}
+use mathlib.Core.Path.{sym, ap, ◌∙◌}
 use lib.ListN.{length}
 use Rattle.error.specs.Answer.{done}
 use Rattle.error.specs.Lengths.{says_length}
@@ -10,7 +9,6 @@ use Rattle.error.proofs.Chains.{first_done, first-value}
 use Rattle.packed_size.specs.Size.{needed_for}
 use Rattle.packed_writing.specs.Writing.{field_checks}
 use Rattle.packed_writing.proofs.Written.{write-fields}
-use borrow.Author.Rules.{rules}
 use Rattle.error.proofs.Clauses.{said_left}
 use Rattle.packed_writing.proofs.write_record.Goals as goal
 

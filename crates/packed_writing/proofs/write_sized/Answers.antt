@@ -16,7 +16,7 @@ use Rattle.packed.specs.Layout.{header_length}
 use Rattle.packed_size.specs.Size.{map_for}
 use Rattle.packed_writing.specs.Writing.{header_bytes, record_of, value_checks}
 use Rattle.lists.proofs.Stores.{lent_back, front-again, store_both}
-use Rattle.packed_writing.proofs.Written.{Sized, fields-sized, fields-needed, write-values, write-no-room, write-value}
+use Rattle.packed_writing.proofs.Written.{fields-sized, fields-needed, write-values, write-no-room, write-value}
 use borrow.Author.Rules.{rules}
 use Rattle.error.proofs.Clauses.{said_left}
 use Rattle.packed_writing.proofs.write_sized.Goals.{After-header_length-head, In_default}

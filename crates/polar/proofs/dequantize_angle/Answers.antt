@@ -1,5 +1,5 @@
 -- `polar::dequantize_angle` meets its contract: each return is the first check that offends, or the angle. Assumes nothing.
-use Rattle.std.proofs.Common.{◌≤◌, ⊎_elim, arith, rules, ltb-false, le-ltb, lt-ltb, le-leb}
+use Rattle.std.proofs.Common.{◌≤◌, ⊎_elim, arith, le-ltb, lt-ltb, le-leb}
 use borrow.Author.Tests.{lt-leb}
 use lib.Ieee.{of_bits}
 use Rattle.polar.specs.Angle.{dequantize_angle_of, radians, twice_pi}

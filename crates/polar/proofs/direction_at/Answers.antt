@@ -1,5 +1,5 @@
 -- `polar::direction_at` meets its contract: an index is below 65,536, so twice it fits, and where it is missing it counts as 0. Assumes nothing.
-use Rattle.std.proofs.Common.{ℕ, ◌*◌, sym, refl, ap, arith, rules}
+use Rattle.std.proofs.Common.{ℕ, ◌*◌, sym, refl, ap, arith}
 use lib.ListN.{get_or-eq_default}
 use Rattle.polar.proofs.direction_at.Goals as goal
 

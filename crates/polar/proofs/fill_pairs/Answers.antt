@@ -1,7 +1,6 @@
 -- `polar::fill_pairs` meets its contract. The invariant: what is written so far, with the pairs from i on, is the whole. Assumes nothing.
-use Rattle.std.proofs.Common.{◌≡◌, ℕ, ◌+◌, ◌-◌, ◌*◌, ◌≤◌, ◌++◌, length, take, refl, ap, ◌∙◌, arith, length-set}
-use Rattle.rounding.specs.Butterfly.{from}
-use Rattle.polar.specs.Polar.{value_at, along, across, laid, decoded_pairs}
+use Rattle.std.proofs.Common.{ℕ, ◌+◌, length, refl, ap, ◌∙◌, arith, length-set}
+use Rattle.polar.specs.Polar.{value_at, along, across, decoded_pairs}
 use Rattle.polar.proofs.Entries.{product_at}
 use Rattle.polar.proofs.Loops.{laid-start, laid_more, laid_end}
 use Rattle.polar.proofs.fill_pairs.Goals as goal

@@ -1,5 +1,4 @@
 -- `polar::pair_term` meets its contract: each factor is what its call says, and the radius lies within the slice. Assumes nothing.
-use Rattle.std.proofs.Common.{rules}
 use lib.Ieee.{nan}
 use Rattle.float.specs.Constants.{pos_zero}
 use Rattle.polar.specs.Polar.{term}

@@ -1,5 +1,5 @@
 -- `polar::polar_pairs` meets its contract: 6, or the pairs. Assumes nothing.
-use Rattle.std.proofs.Common.{length, rules}
+use Rattle.std.proofs.Common.{length}
 use Rattle.error.proofs.Answers.{both-refused, both-value}
 use Rattle.polar.specs.Polar.{polar_pairs_of}
 use Rattle.polar.proofs.Answers.{pairs-refused, pairs-value}

@@ -1,10 +1,8 @@
 -- `polar::polar_sum` meets its contract. The invariant: the sum so far, with the terms from pair i on, is the polar sum. Assumes nothing.
-use Rattle.std.proofs.Common.{◌≡◌, ◌-◌, ◌≤◌, map, length, arith}
-use lib.Ieee.{of_bits}
+use Rattle.std.proofs.Common.{◌≡◌, ◌-◌, ◌≤◌, map, length}
 use Rattle.rounding.specs.Butterfly.{from}
 use Rattle.rounding.specs.Sums.{running}
 use Rattle.polar.specs.Polar.{term, polar_sum_of}
-use Rattle.rounding.proofs.Running.{total-start, total-more, total-end}
 use Rattle.polar.proofs.polar_sum.Given as goal
 
 abbrev pub invariant-loop-i : goal.invariant-loop-i

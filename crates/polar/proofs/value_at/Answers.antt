@@ -1,5 +1,5 @@
 -- `polar::value_at` meets its contract: within the slice the default does not matter, and outside it is +0.0. Assumes nothing.
-use Rattle.std.proofs.Common.{sym, rules}
+use Rattle.std.proofs.Common.{sym}
 use lib.ListN.{get_or-eq_default}
 use lib.Ieee.{of_bits, nan}
 use Rattle.float.specs.Constants.{pos_zero}

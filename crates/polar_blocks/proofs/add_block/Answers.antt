@@ -1,5 +1,4 @@
 -- `polar_blocks::add_block` meets its contract: what was restored is judged, and its terms are added. Assumes nothing.
-use borrow.Author.Rules.{rules}
 use Prim.Native.Nat.{ℕ, ◌+◌, ◌-◌, ◌*◌, ◌≤◌}
 use mathlib.Core.Path.{◌≡◌, sym, ◌∙◌}
 use mathlib.Core.Bool.{false}
@@ -16,7 +15,6 @@ use Rattle.radius.specs.declared.Range.{Range}
 use Rattle.radius.specs.declared.RadiusCodecProfileV1.{RadiusCodecProfileV1}
 use Rattle.polar_blocks.specs.Inner.{part_radii}
 use Rattle.polar_blocks.proofs.Radii.{part-restored}
-use borrow.Author.Tests.{not-true, not-false}
 use Rattle.polar_blocks.proofs.Blocks.{added-sum, added_none, block-lent}
 use Rattle.polar_blocks.proofs.add_block.Goals.{After-no_radii-block, After-width_of-width}
 use Rattle.polar_blocks.proofs.add_block.Goals as goal

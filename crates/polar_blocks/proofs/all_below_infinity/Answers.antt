@@ -1,12 +1,11 @@
 -- `polar_blocks::all_below_infinity` meets its contract, by the laws of `Sweep`: a value offends where it is not below infinity. Assumes nothing.
-use Prim.Native.Nat.{◌-◌}
 use mathlib.Core.Path.{ap}
 use mathlib.Core.Bool.{not}
 use native.Mathlib.Omega.{arith}
 use borrow.Author.Rules.{scaled_Fits}
 use lib.ListN.{length}
 use lib.Ieee.{nan, nan_bits}
-use Rattle.error.proofs.Sweep.{swept-start, swept-pass, swept-spot, swept-end, Swept}
+use Rattle.error.proofs.Sweep.{swept-start, swept-pass, swept-spot, swept-end}
 use Rattle.polar_blocks.specs.Inner.{not_below_infinity}
 use Rattle.polar_blocks.proofs.all_below_infinity.Goals.{else-not-values-i, then-not-values-i}
 use Rattle.polar_blocks.proofs.all_below_infinity.Goals as goal

@@ -1,5 +1,4 @@
 -- `polar_blocks::all_good` meets its contract: a radius is refused where one of two tests says so. Assumes nothing.
-use borrow.Author.Rules.{rules}
 use mathlib.Core.Path.{sym, ap, ◌∙◌}
 use mathlib.Core.Bool.{Bool, ◌&&◌}
 use Rattle.error.specs.Answer.{clear}

@@ -1,12 +1,8 @@
 -- `polar_blocks::block_sum` meets its contract. The invariant: the sum so far, with the terms from pair i on, is the whole. Assumes nothing.
-use Prim.Native.Nat.{ℕ, ◌+◌, ◌-◌, ◌%◌, ◌≤◌}
-use mathlib.Core.Path.{◌≡◌, refl, sym, ap, ◌∙◌}
-use native.Mathlib.Omega.{arith}
+use Prim.Native.Nat.{◌-◌, ◌%◌, ◌≤◌}
+use mathlib.Core.Path.{◌≡◌}
 use lib.ListN.{length}
-use lib.Ieee.{Float}
-use Rattle.polar.specs.Polar.{value_at}
-use Rattle.polar_blocks.specs.Inner.{index_at, pair_term, block_sum_from}
-use Rattle.polar_blocks.proofs.Blocks.{pair-named, pair_read, total-four}
+use Rattle.polar_blocks.specs.Inner.{block_sum_from}
 use Rattle.polar_blocks.proofs.block_sum.Given as goal
 
 abbrev pub invariant-loop-i : goal.invariant-loop-i

@@ -1,11 +1,8 @@
 -- `polar_blocks::blocks_sum` meets its contract. The invariant: what is left from pair `at` on, with the sum so far, is the whole. Assumes nothing.
-use Prim.Native.Nat.{◌+◌, ◌-◌, ◌%◌, ◌≤◌, ◌<◌}
-use mathlib.Core.Path.{◌≡◌, refl, sym, ◌∙◌}
-use native.Mathlib.Omega.{arith}
-use borrow.Author.Rules.{rules}
-use lib.Ieee.{of_bits}
+use Prim.Native.Nat.{◌-◌, ◌%◌, ◌≤◌, ◌<◌}
+use mathlib.Core.Path.{◌≡◌}
 use Rattle.polar_blocks.specs.Payload.{payload_sum_of}
-use Rattle.polar_blocks.proofs.Blocks.{onward_from, onward-start, onward-more, onward-none, onward-end, block-there}
+use Rattle.polar_blocks.proofs.Blocks.{onward_from}
 use Rattle.polar_blocks.proofs.blocks_sum.Given as goal
 
 abbrev pub invariant-loop-at : goal.invariant-loop-at

@@ -1,5 +1,4 @@
 -- `polar_blocks::byte_at` meets its contract: past the end there is nothing. Assumes nothing.
-use borrow.Author.Rules.{rules}
 use mathlib.Core.Path.{sym}
 use lib.ListN.{get_or-eq_default}
 use native.Mathlib.Omega.{arith}

@@ -1,5 +1,4 @@
 -- `polar_blocks::index_at` meets its contract: the index begins in the first of four bytes and ends in the third at the latest. Assumes nothing.
-use borrow.Author.Rules.{rules}
 use Prim.Native.Nat.{ℕ, ◌*◌, ◌/◌, ◌%◌, ◌^◌}
 use mathlib.Core.Path.{ap, ◌∙◌}
 use native.Mathlib.Nat.{mul-le-mul}

@@ -1,5 +1,4 @@
 -- `polar_blocks::last_word` meets its contract: two words of four bytes, one behind the other. Assumes nothing.
-use borrow.Author.Rules.{rules}
 use Rattle.polar_blocks.proofs.Indices.{number-eight}
 use Rattle.polar_blocks.proofs.last_word.Goals as goal
 

@@ -1,5 +1,4 @@
 -- `polar_blocks::lowest` meets its contract: a mask takes the lowest bits. Assumes nothing.
-use borrow.Author.Rules.{rules}
 use native.Mathlib.Nat.{mod-lt}
 use native.Mathlib.Omega.{arith}
 use lib.Pow.{pow_pos}

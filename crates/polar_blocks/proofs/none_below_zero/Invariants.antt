@@ -1,11 +1,7 @@
 -- `polar_blocks::none_below_zero` meets its contract, by the laws of `Sweep`: a value offends where it is below zero. Assumes nothing.
 use Prim.Native.Nat.{◌-◌}
-use mathlib.Core.Logic.{⊎_elim}
-use native.Mathlib.Omega.{arith}
-use borrow.Author.Rules.{scaled_Fits}
 use lib.ListN.{length}
-use lib.Ieee.{nan, of_bits}
-use Rattle.error.proofs.Sweep.{swept-start, swept-pass, swept-spot, swept-end, Swept}
+use Rattle.error.proofs.Sweep.{Swept}
 use Rattle.polar_blocks.specs.Inner.{below_zero}
 use Rattle.polar_blocks.proofs.none_below_zero.Given as goal
 

@@ -1,10 +1,9 @@
 -- `polar_blocks::payload_pairs` meets its contract: the radii are restored into the second half of the output, and spread from there. Assumes nothing.
-use borrow.Author.Rules.{rules}
 use Prim.Native.Nat.{◌-◌, ◌*◌, ◌/◌}
 use mathlib.Core.Path.{◌≡◌, sym, ap, ◌∙◌}
 use mathlib.Core.Bool.{true}
 use native.Mathlib.Omega.{arith}
-use borrow.Author.Tests.{eq-eqb, ne_eqb, not-true, not-false}
+use borrow.Author.Tests.{eq-eqb, ne_eqb}
 use borrow.Rule.Slice.PartMut.{same_len_mid}
 use lib.ListN.{length}
 use Rattle.bitpack.specs.Packing.{indices_in}

@@ -1,10 +1,9 @@
 -- `polar_blocks::payload_sum` meets its contract: what does not fit is left to the caller, and the rest is summed. Assumes nothing.
-use borrow.Author.Rules.{rules}
 use Prim.Native.Nat.{◌/◌, ◌^◌, ◌<◌}
 use mathlib.Core.Path.{◌≡◌, sym, ◌∙◌}
 use mathlib.Core.Bool.{true}
 use native.Mathlib.Omega.{arith}
-use borrow.Author.Tests.{not-true, not-false, le-leb, lt-leb}
+use borrow.Author.Tests.{le-leb, lt-leb}
 use lib.ListN.{length}
 use Rattle.digits.proofs.Masks.{power-shifted}
 use Rattle.polar_blocks.specs.Payload.{fits_payload, payload_sum_of}

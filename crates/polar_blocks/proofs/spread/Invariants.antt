@@ -1,12 +1,6 @@
 -- `polar_blocks::spread` meets its contract, by the laws of `Spreading`. Assumes nothing.
-use Prim.Native.Nat.{ℕ, ◌+◌, ◌-◌, ◌*◌}
-use mathlib.Core.Path.{ap, ◌∙◌}
-use native.Mathlib.Nat.{mul-le-mul_right}
-use native.Mathlib.Omega.{arith}
-use lib.ListN.{length-set}
-use lib.Pow.{pow_mono}
-use Rattle.polar.specs.Polar.{value_at}
-use Rattle.polar_blocks.proofs.Spreading.{Spread, spread-start, spread-more, spread_end}
+use Prim.Native.Nat.{◌-◌}
+use Rattle.polar_blocks.proofs.Spreading.{Spread}
 use Rattle.polar_blocks.proofs.spread.Given as goal
 
 abbrev pub invariant-loop-i : goal.invariant-loop-i

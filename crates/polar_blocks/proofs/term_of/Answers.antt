@@ -1,5 +1,4 @@
 -- `polar_blocks::term_of` meets its contract: each factor lies within its slice. Assumes nothing.
-use borrow.Author.Rules.{rules}
 use Prim.Native.Nat.{◌+◌, ◌*◌}
 use lib.Ieee.{nan}
 use native.Mathlib.Omega.{arith}

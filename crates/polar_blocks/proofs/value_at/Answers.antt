@@ -1,5 +1,4 @@
 -- `polar_blocks::value_at` meets its contract: within the slice the default does not matter, and outside it is +0.0. Assumes nothing.
-use borrow.Author.Rules.{rules}
 use mathlib.Core.Path.{sym}
 use lib.ListN.{get_or-eq_default}
 use lib.Ieee.{of_bits, nan}

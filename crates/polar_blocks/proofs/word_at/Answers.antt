@@ -1,5 +1,4 @@
 -- `polar_blocks::word_at` meets its contract: two words of four bytes, one behind the other. Assumes nothing.
-use borrow.Author.Rules.{rules}
 use Rattle.polar_blocks.proofs.Indices.{number-eight}
 use Rattle.polar_blocks.proofs.word_at.Goals as goal
 

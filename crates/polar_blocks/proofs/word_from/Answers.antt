@@ -1,5 +1,4 @@
 -- `polar_blocks::word_from` meets its contract: the word begins at the byte of the first bit, and the indices end within it. Assumes nothing.
-use borrow.Author.Rules.{rules}
 use native.Mathlib.Nat.{mul-le-mul}
 use native.Mathlib.Omega.{arith}
 use Rattle.digits.proofs.Laws.{Below}

@@ -1,6 +1,5 @@
 -- `qjl::check_vector` meets its contract: each return is one case of the laws of the vector's checks. Assumes nothing.
 use mathlib.Core.Path.{sym, ap, ◌∙◌}
-use borrow.Author.Rules.{rules}
 use Rattle.error.specs.Outcomes.{says}
 use Rattle.setup.specs.Lent.{lent}
 use Rattle.qjl.proofs.Answers.{vector-refused, vector-length, vector-entry, vector-passed}

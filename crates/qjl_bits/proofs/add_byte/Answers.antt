@@ -1,6 +1,5 @@
 -- `qjl_bits::add_byte` meets its contract: the second half of a byte follows the first. Assumes nothing.
 use native.Mathlib.Omega.{arith}
-use borrow.Author.Rules.{rules}
 use Rattle.qjl_bits.proofs.Bits.{bits_byte}
 use Rattle.qjl_bits.proofs.add_byte.Goals as goal
 

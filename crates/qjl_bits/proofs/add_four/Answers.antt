@@ -1,5 +1,4 @@
 -- `qjl_bits::add_four` meets its contract: four values are added, each by its bit. Assumes nothing.
-use borrow.Author.Rules.{rules}
 use Rattle.qjl_bits.proofs.Bits.{bits-four}
 use Rattle.qjl_bits.proofs.add_four.Goals as goal
 

@@ -1,10 +1,8 @@
 -- `qjl_bits::add_rest` meets its contract: the loop keeps the sum by the bits and the values that are left. Assumes nothing.
-use Prim.Native.Nat.{◌-◌, ◌≤◌}
-use mathlib.Core.Path.{◌≡◌, refl, sym, ◌∙◌}
+use mathlib.Core.Path.{refl, sym, ◌∙◌}
 use native.Mathlib.Omega.{arith}
 use borrow.Author.Rules.{scaled_Fits}
-use lib.ListN.{length, drop}
-use Rattle.qjl_bits.specs.Inner.{bit_sum_from}
+use lib.ListN.{length}
 use Rattle.qjl_bits.proofs.Bits.{bits-more, bits_none}
 use Rattle.qjl_bits.proofs.add_rest.Goals as goal
 

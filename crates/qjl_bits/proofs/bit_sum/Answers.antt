@@ -1,11 +1,9 @@
 -- `qjl_bits::bit_sum` meets its contract: the loop keeps `BytesAdded`, and the last byte or no bits serve the values that are left. Assumes nothing.
-use Prim.Native.Nat.{◌-◌, ◌/◌, ◌≤◌}
-use mathlib.Core.Logic.{⊎_elim}
+use Prim.Native.Nat.{◌/◌, ◌≤◌}
 use native.Mathlib.Omega.{arith}
-use borrow.Author.Tests.{ltb-true, ltb-false}
 use lib.ListN.{length}
 use lib.Ieee.{of_bits}
-use Rattle.qjl_bits.proofs.Bits.{BytesAdded, bytes-start, bytes-turn, bytes-last, bytes-none}
+use Rattle.qjl_bits.proofs.Bits.{bytes-start, bytes-turn, bytes-last, bytes-none}
 use Rattle.qjl_bits.proofs.bit_sum.Goals.{then-loop-k-test+else-k-packed, else-loop-k-test}
 use Rattle.qjl_bits.proofs.bit_sum.Goals as goal
 

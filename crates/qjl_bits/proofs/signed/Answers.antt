@@ -1,6 +1,5 @@
 -- `qjl_bits::signed` meets its contract: the two entries are the signs of the two bits. Assumes nothing.
 use mathlib.Core.Path.{ap}
-use borrow.Author.Rules.{rules}
 use lib.Ieee.{Float, binary32, mul}
 use Rattle.qjl_bits.proofs.Bits.{sign-entry}
 use Rattle.qjl_bits.proofs.signed.Goals as goal

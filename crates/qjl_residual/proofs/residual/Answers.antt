@@ -1,5 +1,4 @@
 -- `qjl_residual::residual` meets its contract: it is the product of what its two callees ensure. Assumes nothing.
-use borrow.Author.Rules.{rules}
 use Rattle.qjl_residual.proofs.SignSums.{residual-product}
 use Rattle.qjl_residual.proofs.residual.Goals as goal
 

@@ -1,6 +1,5 @@
 -- `qjl_residual::scale` meets its contract: the pattern is that of root(PI / 2). Assumes nothing.
 use mathlib.Core.Path.{ap}
-use borrow.Author.Rules.{rules}
 use lib.IntN.{pos}
 use lib.Ieee.{Float, binary32, div, mul, of_int, nan_bits}
 use Rattle.qjl_residual.specs.Residual.{scale_of}

@@ -1,17 +1,11 @@
 -- `qjl_residual::sign_sum` meets its contract: the loop keeps the sum as the running sum and what is left of both lists. Assumes nothing.
-use Prim.Native.Nat.{◌+◌, ◌-◌, ◌≤◌}
-use mathlib.Core.Path.{◌≡◌, refl, sym, ap, ◌∙◌}
+use Prim.Native.Nat.{◌-◌, ◌≤◌}
+use mathlib.Core.Path.{◌≡◌}
 use mathlib.Core.List.{map}
-use native.Mathlib.Omega.{arith}
-use borrow.Author.Rules.{scaled_Fits}
-use borrow.Author.Tests.{ltb-true, ltb-false}
-use lib.IntN.{ℤ}
-use lib.ListN.{length, get_or, drop}
-use lib.Ieee.{Float, nan, binary32, add, mul, of_int, of_bits}
+use lib.ListN.{length, drop}
+use lib.Ieee.{binary32, of_int}
 use Rattle.rounding.specs.Sums.{running, products}
 use Rattle.qjl_residual.specs.Residual.{sign_sum_of}
-use Rattle.bitpack_signs.proofs.Signs.{signed-at}
-use Rattle.qjl_residual.proofs.SignSums.{sign-more, sign_sum-end, value-end}
 use Rattle.qjl_residual.proofs.sign_sum.Given as goal
 
 abbrev pub invariant-loop-i : goal.invariant-loop-i

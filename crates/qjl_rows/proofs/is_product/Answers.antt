@@ -1,5 +1,4 @@
 -- `qjl_rows::is_product` meets its contract: by the quotient and the remainder. Assumes nothing.
-use borrow.Author.Rules.{rules}
 use Rattle.qjl_rows.proofs.Rows.{product-empty, product-leaves, product-count}
 use Rattle.qjl_rows.proofs.is_product.Goals as goal
 

@@ -1,8 +1,6 @@
 -- `qjl_rows::project` meets its contract: each return is one case of the answer's laws, and the values are those of `row_sums`. Assumes nothing.
 use Prim.Native.Nat.{ℕ}
 use mathlib.Core.Path.{sym, ap, ◌∙◌}
-use borrow.Author.Tests.{not-true, not-false}
-use borrow.Author.Rules.{rules}
 use lib.ListN.{length}
 use Rattle.error.proofs.Answers.{both-refused, both-value}
 use Rattle.rounding.specs.Rows.{projected}

@@ -7,7 +7,6 @@ use Rattle.lists.proofs.Parts.{part-long}
 use Rattle.rounding.specs.Rows.{projected}
 use Rattle.qjl_rows.specs.Inner.{Rowed}
 use Rattle.qjl.specs.Score.{signed_score}
-use borrow.Author.Rules.{rules}
 use Rattle.qjl_score.proofs.residual_score.Goals.{After-few_zeros-values, After-zeros-values}
 use Rattle.qjl_score.proofs.residual_score.Goals as goal
 

@@ -5,7 +5,6 @@ use Rattle.error.specs.Outcomes.{says}
 use Rattle.setup.specs.Lent.{lent}
 use Rattle.setup_tables.specs.Checks.{setup_checks_but_entries}
 use Rattle.qjl_score.proofs.Answers.{shaped-residual, score-made, score-left}
-use borrow.Author.Rules.{rules}
 use Rattle.qjl_score.proofs.score_at_once.Goals.{In_default}
 use Rattle.qjl_score.proofs.score_at_once.Goals as goal
 

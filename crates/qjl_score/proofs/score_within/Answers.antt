@@ -9,7 +9,6 @@ use Rattle.rounding.specs.Rows.{projected}
 use Rattle.rounding.proofs.Rows.{length-projected}
 use Rattle.qjl_rows.proofs.Answers.{project-ready}
 use Rattle.qjl.specs.Score.{signed_score}
-use borrow.Author.Rules.{rules}
 use Rattle.qjl_score.proofs.score_within.Goals as goal
 
 pub returns : goal.returns

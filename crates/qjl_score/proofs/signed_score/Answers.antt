@@ -1,6 +1,5 @@
 -- `qjl_score::signed_score` meets its contract: each return is one case of the answer's laws. Assumes nothing.
 use mathlib.Core.Path.{sym, ap, ◌∙◌}
-use borrow.Author.Rules.{rules}
 use Rattle.error.specs.Checks.{finite_score_of}
 use Rattle.qjl.proofs.Answers.{signed-entry, signed-length, signed-sign, signed-norm, signed-judged}
 use Rattle.qjl_score.proofs.signed_score.Goals as goal

@@ -1,9 +1,7 @@
 -- `qjl_sketch::judged_signs_into` meets its contract: where the values are not judged, or none offends, the signs are those of `signs_into`. Assumes nothing.
 use mathlib.Core.Path.{sym, ◌∙◌}
-use mathlib.Core.Logic.{⊎_elim}
 use mathlib.Core.Bool.{true≢false}
-use borrow.Author.Tests.{not-true, not-false}
-use borrow.Author.Rules.{rules}
+use borrow.Author.Tests.{not-true}
 use Rattle.qjl_sketch.proofs.AtOnce.{judged-left, signs-made}
 use Rattle.qjl_sketch.proofs.judged_signs_into.Goals.{else-judged, then-judged+else-not-all_finite}
 use Rattle.qjl_sketch.proofs.judged_signs_into.Goals as goal

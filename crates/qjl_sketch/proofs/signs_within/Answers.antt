@@ -6,7 +6,6 @@ use Rattle.error.proofs.Answers.{after-value}
 use Rattle.rounding.specs.Rows.{projected}
 use Rattle.qjl_rows.proofs.Answers.{project-ready}
 use Rattle.qjl_sketch.proofs.AtOnce.{signs_same}
-use borrow.Author.Rules.{rules}
 use Rattle.qjl_sketch.proofs.signs_within.Goals as goal
 
 pub returns : goal.returns

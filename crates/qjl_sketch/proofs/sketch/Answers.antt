@@ -1,7 +1,6 @@
 -- `qjl_sketch::sketch` meets its contract: the sketch is written at once, or the output is as it was and the sketch is made check by check.
 -- Assumes nothing.
 use mathlib.Core.Path.{refl}
-use borrow.Author.Rules.{rules}
 use Rattle.error.proofs.Answers.{both-value}
 use Rattle.setup.specs.Lent.{lent}
 use Rattle.qjl_sketch.proofs.Answers.{sketch-again}

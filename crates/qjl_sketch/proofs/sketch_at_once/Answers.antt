@@ -1,6 +1,5 @@
 -- `qjl_sketch::sketch_at_once` meets its contract: finite projections stand for the checks of the matrix's entries and of the vector. Assumes nothing.
 use mathlib.Core.Path.{◌≡◌, refl, sym, ap, ◌∙◌}
-use borrow.Author.Rules.{rules}
 use Rattle.error.specs.Answer.{first, accepted}
 use Rattle.error.specs.Outcomes.{says}
 use Rattle.setup.specs.Lent.{lent}

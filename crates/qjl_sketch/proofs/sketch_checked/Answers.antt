@@ -1,6 +1,5 @@
 -- `qjl_sketch::sketch_checked` meets its contract: each return is one case of the answer's laws, and the signs are those of `sketch_rows`. Assumes nothing.
 use mathlib.Core.Path.{◌≡◌, refl, sym, ap, ◌∙◌}
-use borrow.Author.Rules.{rules}
 use Rattle.error.specs.Answer.{first, accepted}
 use Rattle.error.specs.Outcomes.{says}
 use Rattle.error.proofs.Answers.{both-refused, both-value}

@@ -1,10 +1,9 @@
 -- `qjl_sums::block` meets its contract: the loop keeps what the sums have taken of the products that were placed. Assumes nothing.
-use Prim.Native.Nat.{◌+◌, ◌-◌, ◌≤◌, ◌<◌}
+use Prim.Native.Nat.{◌+◌, ◌<◌}
 use mathlib.Core.Path.{◌≡◌, refl}
 use native.Mathlib.Nat.{add-zero}
 use native.Mathlib.Omega.{arith}
 use lib.ListN.{length}
-use Rattle.qjl_sums.specs.Inner.{FourSoFar}
 use Rattle.qjl_sums.proofs.Fours.{four-placed}
 use Rattle.qjl_sums.proofs.block.Goals as goal
 

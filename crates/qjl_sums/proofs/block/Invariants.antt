@@ -1,11 +1,6 @@
 -- `qjl_sums::block` meets its contract: the loop keeps what the sums have taken of the products that were placed. Assumes nothing.
-use Prim.Native.Nat.{◌+◌, ◌-◌, ◌≤◌, ◌<◌}
-use mathlib.Core.Path.{◌≡◌, refl}
-use native.Mathlib.Nat.{add-zero}
-use native.Mathlib.Omega.{arith}
-use lib.ListN.{length}
+use Prim.Native.Nat.{◌+◌, ◌-◌, ◌≤◌}
 use Rattle.qjl_sums.specs.Inner.{FourSoFar}
-use Rattle.qjl_sums.proofs.Fours.{four-placed}
 use Rattle.qjl_sums.proofs.block.Given as goal
 
 abbrev pub invariant-loop-i : goal.invariant-loop-i

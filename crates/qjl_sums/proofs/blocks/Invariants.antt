@@ -1,11 +1,7 @@
 -- `qjl_sums::blocks` meets its contract: the loop keeps what the sums have taken, sixteen columns at a time. Assumes nothing.
 use Prim.Native.Nat.{◌-◌}
-use mathlib.Core.Path.{refl}
-use native.Mathlib.Omega.{arith}
 use lib.ListN.{length}
-use lib.Ieee.{of_bits}
 use Rattle.qjl_sums.specs.Inner.{FourSoFar}
-use Rattle.qjl_sums.proofs.Fours.{four-start}
 use Rattle.qjl_sums.proofs.blocks.Given as goal
 
 abbrev pub invariant-loop-column : goal.invariant-loop-column

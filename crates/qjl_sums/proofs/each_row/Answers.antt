@@ -1,15 +1,13 @@
 -- `qjl_sums::each_row` meets its contract: the loop keeps that the rows below `row` are through, and that what is left of the matrix starts with the next row. Assumes nothing.
-use Prim.Native.Nat.{ℕ, ◌-◌, ◌*◌, ◌≤◌, ◌<◌}
-use mathlib.Core.Path.{◌≡◌, sym, ap, ◌∙◌}
+use Prim.Native.Nat.{ℕ, ◌<◌}
+use mathlib.Core.Path.{sym, ap, ◌∙◌}
 use mathlib.Core.List.{List}
 use native.Mathlib.Nat.{zero-mul}
 use native.Mathlib.Omega.{arith}
 use lib.ListN.{length, drop}
 use lib.Ieee.{Float, nan}
-use Rattle.lists.specs.Inner.{Filled}
 use Rattle.lists.proofs.Loops.{filled-start, filled_more}
 use Rattle.rounding.specs.Sums.{dot}
-use Rattle.qjl_sums.specs.Inner.{on_row}
 use Rattle.qjl_sums.proofs.Rows.{drop-least, rows-through}
 use Rattle.qjl_sums.proofs.each_row.Goals as goal
 

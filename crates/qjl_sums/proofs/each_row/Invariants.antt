@@ -1,16 +1,10 @@
 -- `qjl_sums::each_row` meets its contract: the loop keeps that the rows below `row` are through, and that what is left of the matrix starts with the next row. Assumes nothing.
-use Prim.Native.Nat.{ℕ, ◌-◌, ◌*◌, ◌≤◌, ◌<◌}
-use mathlib.Core.Path.{◌≡◌, sym, ap, ◌∙◌}
-use mathlib.Core.List.{List}
-use native.Mathlib.Nat.{zero-mul}
-use native.Mathlib.Omega.{arith}
+use Prim.Native.Nat.{◌-◌, ◌*◌, ◌≤◌}
+use mathlib.Core.Path.{◌≡◌}
 use lib.ListN.{length, drop}
-use lib.Ieee.{Float, nan}
+use lib.Ieee.{nan}
 use Rattle.lists.specs.Inner.{Filled}
-use Rattle.lists.proofs.Loops.{filled-start, filled_more}
-use Rattle.rounding.specs.Sums.{dot}
 use Rattle.qjl_sums.specs.Inner.{on_row}
-use Rattle.qjl_sums.proofs.Rows.{drop-least, rows-through}
 use Rattle.qjl_sums.proofs.each_row.Given as goal
 
 abbrev pub invariant-loop-row : goal.invariant-loop-row

@@ -1,11 +1,9 @@
 -- `qjl_sums::eights` meets its contract: the loop keeps that the rows below `row` are through; eight more are stored, as far as there are so many. Assumes nothing.
-use Prim.Native.Nat.{ℕ, ◌+◌, ◌-◌, ◌*◌, ◌≤◌}
+use Prim.Native.Nat.{ℕ, ◌+◌, ◌*◌, ◌≤◌}
 use native.Mathlib.Omega.{arith}
 use lib.ListN.{length}
 use lib.Ieee.{nan}
-use Rattle.lists.specs.Inner.{Filled}
 use Rattle.lists.proofs.Loops.{filled-start}
-use Rattle.qjl_sums.specs.Inner.{on_row}
 use Rattle.qjl_sums.proofs.Rows.{Placed, placed, filled-over, rows-within, four-stored, rows-through}
 use Rattle.qjl_sums.proofs.eights.Goals.{After-least-lower}
 use Rattle.qjl_sums.proofs.eights.Goals as goal

@@ -1,9 +1,7 @@
 -- `qjl_sums::ends` meets its contract: the loop keeps what the sums have taken. Assumes nothing.
-use Prim.Native.Nat.{◌-◌}
 use mathlib.Core.Path.{◌≡◌}
 use native.Mathlib.Omega.{arith}
 use lib.ListN.{length}
-use Rattle.qjl_sums.specs.Inner.{FourSoFar}
 use Rattle.qjl_sums.proofs.ends.Goals as goal
 
 pub loop-column-init : goal.loop-column-init

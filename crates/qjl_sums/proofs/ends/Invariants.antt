@@ -1,7 +1,5 @@
 -- `qjl_sums::ends` meets its contract: the loop keeps what the sums have taken. Assumes nothing.
 use Prim.Native.Nat.{◌-◌}
-use mathlib.Core.Path.{◌≡◌}
-use native.Mathlib.Omega.{arith}
 use lib.ListN.{length}
 use Rattle.qjl_sums.specs.Inner.{FourSoFar}
 use Rattle.qjl_sums.proofs.ends.Given as goal

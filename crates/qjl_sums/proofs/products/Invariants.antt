@@ -1,9 +1,6 @@
 -- `qjl_sums::products` meets its contract: the loop keeps that the terms of the columns passed are placed, those of two rows in each array. Assumes nothing.
-use Prim.Native.Nat.{◌-◌, ◌≤◌, ◌<◌}
-use mathlib.Core.Path.{◌≡◌, refl}
-use native.Mathlib.Omega.{arith}
+use Prim.Native.Nat.{◌-◌, ◌≤◌}
 use Rattle.qjl_sums.specs.Inner.{Interleaved}
-use Rattle.qjl_sums.proofs.Fours.{paired-start, paired-more}
 use Rattle.qjl_sums.proofs.products.Given as goal
 
 abbrev pub invariant-loop-i : goal.invariant-loop-i

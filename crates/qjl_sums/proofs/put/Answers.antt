@@ -1,7 +1,6 @@
 -- `qjl_sums::put` meets its contract: the four entries lie within the output. Assumes nothing.
 use native.Mathlib.Omega.{arith}
 use lib.ListN.{length-set}
-use borrow.Author.Rules.{rules}
 use Rattle.qjl_sums.proofs.put.Goals as goal
 
 pub bounds-out-at-2 : goal.bounds-out-at-2

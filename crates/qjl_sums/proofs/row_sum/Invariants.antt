@@ -1,10 +1,6 @@
 -- `qjl_sums::row_sum` meets its contract: the loop keeps the dot product as the running sum and what is left of both lists. Assumes nothing.
 use Prim.Native.Nat.{◌-◌, ◌≤◌}
-use native.Mathlib.Omega.{arith}
-use lib.Ieee.{of_bits}
 use Rattle.rounding.specs.Inner.{SoFar}
-use Rattle.rounding.proofs.Running.{dot-start, dot-more}
-use Rattle.qjl_sums.proofs.Rows.{dot-least}
 use Rattle.qjl_sums.proofs.row_sum.Given as goal
 
 abbrev pub invariant-loop-i : goal.invariant-loop-i

@@ -1,6 +1,5 @@
 -- `qjl_sums::row_sums` meets its contract: either way the sums are the projections. Assumes nothing.
 use native.Mathlib.Omega.{arith}
-use borrow.Author.Rules.{rules}
 use Rattle.qjl_sums.proofs.Rows.{rows_fit}
 use Rattle.qjl_sums.proofs.row_sums.Goals as goal
 

@@ -1,15 +1,12 @@
 -- `radius::all_good` meets its contract: a turn keeps `Flagged`. Assumes nothing.
-use Prim.Native.Nat.{◌-◌}
 use mathlib.Core.Path.{◌≡◌, sym, ◌∙◌}
 use mathlib.Core.Bool.{true, false, false≢true}
-use mathlib.Core.Logic.{⊎_elim}
 use native.Mathlib.Omega.{arith}
-use lib.ListN.{length, get_or}
+use lib.ListN.{get_or}
 use lib.Ieee.{nan, inf, lt, nan_bits, of_bits}
-use borrow.Author.Rules.{rules, scaled_Fits}
-use borrow.Author.Tests.{not-false}
+use borrow.Author.Rules.{scaled_Fits}
 use Rattle.float.specs.Constants.{pos_zero}
-use Rattle.radius.proofs.Passes.{Flagged, flagged-start, flagged-next, flagged-end}
+use Rattle.radius.proofs.Passes.{flagged-start, flagged-next, flagged-end}
 use Rattle.radius.proofs.all_good.Goals.{Joined-not-radius, Joined-radius, else-not-radius, else-radius, then-not-radius, then-radius}
 use Rattle.radius.proofs.all_good.Goals as goal
 

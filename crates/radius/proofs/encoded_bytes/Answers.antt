@@ -1,6 +1,5 @@
 -- `radius::encoded_bytes` meets its contract, profile by profile. Assumes nothing.
 use native.Mathlib.Nat.{add-zero}
-use borrow.Author.Rules.{rules}
 use Rattle.radius.specs.Codec.{encoded_bytes_of}
 use Rattle.radius.proofs.encoded_bytes.Goals as goal
 

@@ -1,12 +1,8 @@
 -- `radius::find_bad_radius` meets its contract: a search that keeps `place` of what is left. Assumes nothing.
 use Prim.Native.Nat.{◌+◌, ◌-◌, ◌≤◌}
-use mathlib.Core.Path.{◌≡◌, sym, ◌∙◌}
-use native.Mathlib.Omega.{arith}
+use mathlib.Core.Path.{◌≡◌}
 use lib.ListN.{length, drop}
-use lib.Ieee.{nan}
-use borrow.Author.Rules.{rules, scaled_Fits}
 use Rattle.error.specs.Answer.{place}
-use Rattle.error.proofs.Places.{place-start, place-skip, place_here, place_end}
 use Rattle.radius.specs.Radii.{bad_radius}
 use Rattle.radius.proofs.find_bad_radius.Given as goal
 

@@ -1,5 +1,4 @@
 -- `radius::first_bad_radius` meets its contract: where the pass finds nothing, the place is the length. Assumes nothing.
-use borrow.Author.Rules.{rules}
 use Rattle.error.proofs.Sweep.{clear-place}
 use Rattle.radius.specs.Radii.{bad_radius}
 use Rattle.radius.proofs.first_bad_radius.Goals as goal

@@ -1,5 +1,4 @@
 -- `radius::is_bad_radius` meets its contract: the two tests in the definition's order. Assumes nothing.
-use borrow.Author.Rules.{rules}
 use lib.Ieee.{of_bits}
 use Rattle.radius.proofs.is_bad_radius.Goals as goal
 

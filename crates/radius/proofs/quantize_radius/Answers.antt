@@ -1,6 +1,5 @@
 -- `radius::quantize_radius` meets its contract: the definition's steps, one by one. Assumes nothing.
 use mathlib.Core.Path.{ap, ◌∙◌}
-use borrow.Author.Rules.{rules}
 use lib.Ieee.{Float, binary32, mul, of_bits}
 use Rattle.float.specs.Rounding.{round_unsigned}
 use Rattle.radius.specs.Radii.{top_float}

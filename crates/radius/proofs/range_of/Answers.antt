@@ -1,14 +1,12 @@
 -- `radius::range_of` meets its contract: a turn moves one radius from what is left into the least and the greatest. Assumes nothing.
-use Prim.Native.Nat.{◌-◌, ◌≤◌, ◌<◌}
+use Prim.Native.Nat.{◌<◌}
 use mathlib.Core.Path.{◌≡◌, sym, ◌∙◌}
 use mathlib.Core.Bool.{cond}
-use mathlib.Core.Logic.{⊎_elim}
 use native.Mathlib.Omega.{arith}
-use lib.ListN.{length, get_or, drop}
+use lib.ListN.{length, get_or}
 use lib.Ieee.{nan, lt, of_bits}
 use borrow.Author.Rules.{scaled_Fits}
-use Rattle.radius.specs.Radii.{range_of}
-use Rattle.radius.proofs.Radii.{range_onward, range_none, range-start, range-step, range_end}
+use Rattle.radius.proofs.Radii.{range_none, range-start, range-step, range_end}
 use Rattle.radius.proofs.range_of.Goals.{After-shared_slice_known-2-1, Joined-max-radius, Joined-radius-min, else-max-radius, else-radius-min, then-max-radius, then-radius-min}
 use Rattle.radius.proofs.range_of.Goals as goal
 

@@ -1,14 +1,9 @@
 -- `radius::range_of` meets its contract: a turn moves one radius from what is left into the least and the greatest. Assumes nothing.
-use Prim.Native.Nat.{◌-◌, ◌≤◌, ◌<◌}
-use mathlib.Core.Path.{◌≡◌, sym, ◌∙◌}
-use mathlib.Core.Bool.{cond}
-use mathlib.Core.Logic.{⊎_elim}
-use native.Mathlib.Omega.{arith}
-use lib.ListN.{length, get_or, drop}
-use lib.Ieee.{nan, lt, of_bits}
-use borrow.Author.Rules.{scaled_Fits}
+use Prim.Native.Nat.{◌-◌, ◌≤◌}
+use mathlib.Core.Path.{◌≡◌}
+use lib.ListN.{length, drop}
 use Rattle.radius.specs.Radii.{range_of}
-use Rattle.radius.proofs.Radii.{range_onward, range_none, range-start, range-step, range_end}
+use Rattle.radius.proofs.Radii.{range_onward}
 use Rattle.radius.proofs.range_of.Given as goal
 
 abbrev pub invariant-loop-i : goal.invariant-loop-i

@@ -1,13 +1,10 @@
 -- `radius_range::all_positive` meets its contract, by the laws of `Sweep`. Assumes nothing.
-use Prim.Native.Nat.{◌-◌}
 use mathlib.Core.Path.{ap}
 use mathlib.Core.Bool.{not}
-use mathlib.Core.Logic.{⊎_elim}
 use native.Mathlib.Omega.{arith}
-use lib.ListN.{length}
 use lib.Ieee.{nan, of_bits}
 use borrow.Author.Rules.{scaled_Fits}
-use Rattle.error.proofs.Sweep.{Swept, swept-start, swept-pass, swept-spot, swept-end}
+use Rattle.error.proofs.Sweep.{swept-start, swept-pass, swept-spot, swept-end}
 use Rattle.radius_range.specs.Inner.{not_positive}
 use Rattle.radius_range.proofs.all_positive.Goals.{else-not-radii-i, then-not-radii-i}
 use Rattle.radius_range.proofs.all_positive.Goals as goal

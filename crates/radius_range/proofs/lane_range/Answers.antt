@@ -1,5 +1,5 @@
 -- `radius_range::lane_range` meets its contract: each radius goes into a lane, and the lanes' ranges are the list's. Assumes nothing.
-use Prim.Native.Nat.{◌+◌, ◌-◌, ◌≤◌, ◌<◌}
+use Prim.Native.Nat.{◌+◌, ◌<◌}
 use mathlib.Core.Path.{◌≡◌, ap, ◌∙◌}
 use native.Mathlib.Nat.{add-zero}
 use native.Mathlib.Omega.{arith}
@@ -12,7 +12,7 @@ use Rattle.error.proofs.Places.{each-clear}
 use Rattle.radius.specs.Radii.{range_of}
 use Rattle.radius.specs.declared.Range.{Range}
 use Rattle.radius_range.specs.Inner.{not_positive}
-use Rattle.radius_range.proofs.Best.{AllAbove, Both, both-start, both-next, both_end}
+use Rattle.radius_range.proofs.Best.{AllAbove, both-start, both-next, both_end}
 use Rattle.radius_range.proofs.lane_range.Goals.{After-shared_slice_known-1, In-loop-i, In-loop-lane}
 use Rattle.radius_range.proofs.lane_range.Goals as goal
 

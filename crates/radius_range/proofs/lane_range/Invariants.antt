@@ -1,18 +1,7 @@
 -- `radius_range::lane_range` meets its contract: each radius goes into a lane, and the lanes' ranges are the list's. Assumes nothing.
-use Prim.Native.Nat.{◌+◌, ◌-◌, ◌≤◌, ◌<◌}
-use mathlib.Core.Path.{◌≡◌, ap, ◌∙◌}
-use native.Mathlib.Nat.{add-zero}
-use native.Mathlib.Omega.{arith}
+use Prim.Native.Nat.{◌+◌, ◌-◌, ◌≤◌}
 use lib.ListN.{length}
-use lib.Seq.{take_all}
-use lib.Ieee.{nan}
-use borrow.Author.Rules.{scaled_Fits}
-use borrow.Author.Tests.{not-true, not-false}
-use Rattle.error.proofs.Places.{each-clear}
-use Rattle.radius.specs.Radii.{range_of}
-use Rattle.radius.specs.declared.Range.{Range}
-use Rattle.radius_range.specs.Inner.{not_positive}
-use Rattle.radius_range.proofs.Best.{AllAbove, Both, both-start, both-next, both_end}
+use Rattle.radius_range.proofs.Best.{Both}
 use Rattle.radius_range.proofs.lane_range.Given as goal
 
 abbrev pub invariant-loop-i : goal.invariant-loop-i

@@ -1,7 +1,6 @@
 -- `radius_range::range_of` meets its contract: each way answers the range. Assumes nothing.
 use mathlib.Core.Path.{sym, ◌∙◌}
 use native.Mathlib.Omega.{arith}
-use borrow.Author.Rules.{rules}
 use Rattle.radius_range.proofs.range_of.Goals as goal
 
 pub lane_range-requires : goal.lane_range-requires

@@ -1,17 +1,9 @@
 -- `radius_reading::all_linear` meets its contract: a pass to the end, with a flag for each test of a radius. Assumes nothing.
-use Prim.Native.Nat.{ℕ, ◌-◌}
-use mathlib.Core.Path.{◌≡◌, refl, sym, ap, ◌∙◌}
-use mathlib.Core.Bool.{true, false, not, ◌&&◌, false≢true}
-use mathlib.Core.Logic.{⊎_elim}
-use native.Mathlib.Omega.{arith}
-use lib.Ieee.{binary32, nan_bits, of_bits, lt}
-use Rattle.float.specs.Constants.{pos_zero}
-use Rattle.error.proofs.Chains.{and-true}
-use Rattle.lists.proofs.Stores.{run-two}
+use Prim.Native.Nat.{◌-◌}
+use mathlib.Core.Bool.{◌&&◌}
 use Rattle.radius.specs.Linear.{linear_radius}
 use Rattle.radius.specs.Radii.{bad_radius}
-use Rattle.radius_reading.proofs.Scan.{Passing, passing-start, passing-next, passing-end}
-use Rattle.radius_reading.proofs.Tests.{radius-passes}
+use Rattle.radius_reading.proofs.Scan.{Passing}
 use Rattle.radius_reading.proofs.all_linear.Given as goal
 
 abbrev pub invariant-loop-i : goal.invariant-loop-i

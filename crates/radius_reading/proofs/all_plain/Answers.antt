@@ -1,12 +1,11 @@
 -- `radius_reading::all_plain` meets its contract: a pass to the end, with a flag that a pattern at or above that of infinity clears. Assumes nothing.
-use Prim.Native.Nat.{ℕ, ◌-◌}
+use Prim.Native.Nat.{ℕ}
 use mathlib.Core.Bool.{false≢true}
-use mathlib.Core.Logic.{⊎_elim}
 use native.Mathlib.Omega.{arith}
 use Rattle.lists.proofs.Stores.{run-four}
 use Rattle.float.specs.Bytes.{of_le_bytes}
 use Rattle.radius.specs.Radii.{bad_radius}
-use Rattle.radius_reading.proofs.Scan.{Passing, passing-start, passing-next, passing-end}
+use Rattle.radius_reading.proofs.Scan.{passing-start, passing-next, passing-end}
 use Rattle.radius_reading.proofs.Tests.{pattern-passes}
 use mathlib.Core.Path.{◌≡◌, refl, sym, ap, ◌∙◌}
 use lib.ListN.{take, drop}

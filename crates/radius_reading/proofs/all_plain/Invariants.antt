@@ -1,16 +1,8 @@
 -- `radius_reading::all_plain` meets its contract: a pass to the end, with a flag that a pattern at or above that of infinity clears. Assumes nothing.
-use Prim.Native.Nat.{ℕ, ◌-◌}
-use mathlib.Core.Bool.{false≢true}
-use mathlib.Core.Logic.{⊎_elim}
-use native.Mathlib.Omega.{arith}
-use Rattle.lists.proofs.Stores.{run-four}
+use Prim.Native.Nat.{◌-◌}
 use Rattle.float.specs.Bytes.{of_le_bytes}
 use Rattle.radius.specs.Radii.{bad_radius}
-use Rattle.radius_reading.proofs.Scan.{Passing, passing-start, passing-next, passing-end}
-use Rattle.radius_reading.proofs.Tests.{pattern-passes}
-use mathlib.Core.Path.{◌≡◌, refl, sym, ap, ◌∙◌}
-use lib.ListN.{take, drop}
-use Rattle.digits.specs.Digits.{number}
+use Rattle.radius_reading.proofs.Scan.{Passing}
 use Rattle.radius_reading.proofs.all_plain.Given as goal
 
 abbrev pub invariant-loop-i : goal.invariant-loop-i

@@ -6,7 +6,6 @@ use borrow.Author.Tests.{eq-eqb, ne_eqb, eqb-true, eqb-false}
 use native.Mathlib.Nat.{mul-div_cancel_left, div-add-mod}
 use native.Mathlib.Omega.{arith}
 use lib.Dec.{eqb}
-use borrow.Author.Rules.{rules}
 use Rattle.radius_reading.proofs.bad_length.Goals as goal
 
 -- two tests are alike where what they test is

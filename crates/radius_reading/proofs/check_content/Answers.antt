@@ -1,7 +1,7 @@
 -- `radius_reading::check_content` meets its contract: the refusal of the profile and the length, or what the content is judged. Assumes nothing.
 use Prim.Native.Nat.{◌*◌}
 use mathlib.Core.Path.{◌≡◌, refl, sym, ap, ◌∙◌}
-use mathlib.Core.List.{[], ◌∷◌}
+use mathlib.Core.List.{◌∷◌}
 use native.Mathlib.Omega.{arith}
 use borrow.Author.Tests.{lt-ltb, le-ltb}
 use lib.ListN.{length}
@@ -11,7 +11,6 @@ use Rattle.lists.proofs.Chunks.{length-chunks}
 use Rattle.radius.specs.Codec.{wrong_content}
 use Rattle.radius_reading.specs.Inner.{profile_checks, content_checks}
 use Rattle.radius_reading.proofs.Checks.{fit_length, fit-content, unfit-content}
-use borrow.Author.Rules.{rules}
 use Rattle.radius_reading.proofs.check_content.Goals.{In_default}
 use Rattle.radius_reading.proofs.check_content.Goals as goal
 

@@ -1,7 +1,6 @@
 -- `radius_reading::check_profile` meets its contract: the profile, then the length that it needs. Assumes nothing.
 use mathlib.Core.Path.{sym, ◌∙◌}
 use Rattle.radius.proofs.Widths.{width-known}
-use borrow.Author.Rules.{rules}
 use Rattle.radius_reading.proofs.check_profile.Goals as goal
 
 pub bad_length-requires : goal.bad_length-requires

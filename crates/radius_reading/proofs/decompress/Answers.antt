@@ -4,7 +4,6 @@ use lib.ListN.{length}
 use Rattle.error.specs.Outcomes.{says}
 use Rattle.error.proofs.Answers.{both-refused}
 use Rattle.radius_reading.proofs.Checks.{content-refused, content-restore}
-use borrow.Author.Rules.{rules}
 use Rattle.error.proofs.Clauses.{said_left}
 use Rattle.radius_reading.proofs.decompress.Goals as goal
 

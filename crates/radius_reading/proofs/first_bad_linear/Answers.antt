@@ -1,5 +1,4 @@
 -- `radius_reading::first_bad_linear` meets its contract: at once where every one passes, or else by a search. Assumes nothing.
-use borrow.Author.Rules.{rules}
 use Rattle.radius_reading.proofs.first_bad_linear.Goals as goal
 
 pub returns-then-all_linear : goal.returns-then-all_linear

@@ -1,6 +1,5 @@
 -- `radius_reading::first_bad_payload` meets its contract: by the profile, a search through as many radii as the payload holds whole. Assumes nothing.
 use mathlib.Core.Path.{sym}
-use borrow.Author.Rules.{rules}
 use Rattle.radius.specs.Firsts.{first_bad_payload_of}
 use Rattle.radius_reading.proofs.Scan.{first-bad-log}
 use Rattle.radius_reading.proofs.first_bad_payload.Goals as goal

@@ -1,6 +1,5 @@
 -- `radius_reading::get_radius` meets its contract: the number is that of the definition. Assumes nothing.
 use Rattle.radius.specs.Linear.{linear_radius}
-use borrow.Author.Rules.{rules}
 use Rattle.radius_reading.proofs.get_radius.Goals as goal
 
 pub returns : goal.returns

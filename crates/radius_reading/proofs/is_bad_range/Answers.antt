@@ -2,8 +2,6 @@
 use mathlib.Core.Path.{◌≡◌, sym, ◌∙◌}
 use mathlib.Core.Bool.{not, ◌||◌}
 use lib.Ieee.Scale.{finite}
-use mathlib.Core.Logic.{⊎_elim}
-use borrow.Author.Rules.{rules}
 use Rattle.radius_reading.proofs.is_bad_range.Goals.{Joined-not-is_finite, else-not-is_finite, then-not-is_finite}
 use Rattle.radius_reading.proofs.is_bad_range.Goals as goal
 

@@ -1,12 +1,8 @@
 -- `radius_reading::read_floats` meets its contract: a turn reads one float from its four bytes. Assumes nothing.
-use Prim.Native.Nat.{ℕ, ◌+◌, ◌-◌, ◌≤◌, ◌<◌}
-use mathlib.Core.Path.{refl, sym, ap, ◌∙◌}
-use native.Mathlib.Omega.{arith}
+use Prim.Native.Nat.{◌-◌}
 use lib.ListN.{length}
-use borrow.Author.Rules.{scaled_Fits}
-use Rattle.lists.proofs.Stores.{run-four}
 use Rattle.float.specs.Bytes.{of_le_bytes}
-use Rattle.lists.proofs.Loops.{Gathered, gathered-start, gathered_next, gathered-end, place-within}
+use Rattle.lists.proofs.Loops.{Gathered}
 use Rattle.radius_reading.proofs.read_floats.Given as goal
 
 abbrev pub invariant-loop-i : goal.invariant-loop-i

@@ -1,6 +1,5 @@
 -- `radius_reading::read_payload` meets its contract: by the profile, which is none but the two. Assumes nothing.
 use mathlib.Core.Bool.{true≢false}
-use borrow.Author.Rules.{rules}
 use Rattle.radius_reading.proofs.read_payload.Goals as goal
 
 pub read_floats-requires : goal.read_floats-requires

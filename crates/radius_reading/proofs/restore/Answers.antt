@@ -10,7 +10,6 @@ use Rattle.error.proofs.Answers.{both-refused, both-value}
 use Rattle.radius.specs.Codec.{width_of, radii_for}
 use Rattle.radius_reading.specs.Inner.{profile_checks}
 use Rattle.radius_reading.proofs.Checks.{fit-known, fit_length, fit-restore, unfit-restore}
-use borrow.Author.Rules.{rules}
 use Rattle.error.proofs.Clauses.{said_left}
 use Rattle.radius_reading.proofs.restore.Goals.{In_default}
 use Rattle.radius_reading.proofs.restore.Goals as goal

@@ -1,19 +1,15 @@
 -- `radius_writing::all_kept` meets its contract: a turn keeps `Flagged` of the radii as they are read back. Assumes nothing.
-use Prim.Native.Nat.{◌-◌}
 use mathlib.Core.Path.{◌≡◌, sym, ap, ◌∙◌}
 use mathlib.Core.Bool.{true, false, false≢true}
-use mathlib.Core.Logic.{⊎_elim}
 use native.Mathlib.Omega.{arith}
-use lib.ListN.{length, get_or}
+use lib.ListN.{get_or}
 use lib.Ieee.{Float, nan, inf, lt, nan_bits, of_bits}
-use borrow.Author.Rules.{rules, scaled_Fits}
-use borrow.Author.Tests.{not-false}
+use borrow.Author.Rules.{scaled_Fits}
 use Rattle.error.specs.Answer.{clear}
 use Rattle.float.specs.Constants.{pos_zero}
-use Rattle.radius.specs.Linear.{quantize_radius_of, radius_of}
+use Rattle.radius.specs.Linear.{radius_of}
 use Rattle.radius.specs.Radii.{bad_radius}
-use Rattle.radius.specs.declared.Range.{Range}
-use Rattle.radius.proofs.Passes.{Flagged, flagged-start, flagged-next, flagged-end}
+use Rattle.radius.proofs.Passes.{flagged-start, flagged-next, flagged-end}
 use Rattle.radius_writing.proofs.all_kept.Goals.{After-radius_of-kept, Joined-kept, Joined-not-kept, else-kept, else-not-kept, then-kept, then-not-kept}
 use Rattle.radius_writing.proofs.all_kept.Invariants.{kept_of}
 use Rattle.radius_writing.proofs.all_kept.Goals as goal

@@ -1,19 +1,10 @@
 -- `radius_writing::all_kept` meets its contract: a turn keeps `Flagged` of the radii as they are read back. Assumes nothing.
 use Prim.Native.Nat.{◌-◌}
-use mathlib.Core.Path.{◌≡◌, sym, ap, ◌∙◌}
-use mathlib.Core.Bool.{true, false, false≢true}
-use mathlib.Core.Logic.{⊎_elim}
-use native.Mathlib.Omega.{arith}
-use lib.ListN.{length, get_or}
-use lib.Ieee.{Float, nan, inf, lt, nan_bits, of_bits}
-use borrow.Author.Rules.{rules, scaled_Fits}
-use borrow.Author.Tests.{not-false}
-use Rattle.error.specs.Answer.{clear}
-use Rattle.float.specs.Constants.{pos_zero}
+use lib.ListN.{length}
+use lib.Ieee.{Float}
 use Rattle.radius.specs.Linear.{quantize_radius_of, radius_of}
-use Rattle.radius.specs.Radii.{bad_radius}
 use Rattle.radius.specs.declared.Range.{Range}
-use Rattle.radius.proofs.Passes.{Flagged, flagged-start, flagged-next, flagged-end}
+use Rattle.radius.proofs.Passes.{Flagged}
 use Rattle.radius_writing.proofs.all_kept.Given as goal
 
 -- what a radius is read back as, from a least radius and a span

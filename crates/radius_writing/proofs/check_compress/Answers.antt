@@ -5,7 +5,6 @@ use native.Mathlib.Omega.{arith}
 use borrow.Author.Tests.{lt-ltb, le-ltb, eq-eqb, ne_eqb}
 use lib.ListN.{length}
 use Rattle.radius.proofs.Widths.{width-most}
-use borrow.Author.Rules.{rules}
 use Rattle.radius_writing.proofs.check_compress.Goals as goal
 
 pub returns-then-bad-radii : goal.returns-then-bad-radii

@@ -5,7 +5,6 @@ use Rattle.error.specs.Answer.{first, accepted}
 use Rattle.error.specs.Outcomes.{says}
 use Rattle.radius.specs.Codec.{compress_checks}
 use Rattle.radius_writing.proofs.Checks.{compress-refused, compress-room, compress-value}
-use borrow.Author.Rules.{rules}
 use Rattle.error.proofs.Clauses.{said_left}
 use Rattle.radius_writing.proofs.compress.Goals.{In_default}
 use Rattle.radius_writing.proofs.compress.Goals as goal

@@ -1,16 +1,13 @@
 -- `radius_writing::find_bad_kept` meets its contract: a search that keeps `place` of what is left. Assumes nothing.
-use Prim.Native.Nat.{◌+◌, ◌-◌, ◌≤◌}
 use mathlib.Core.Path.{◌≡◌, sym, ap, ◌∙◌}
-use mathlib.Core.Bool.{Bool}
 use native.Mathlib.Omega.{arith}
-use lib.ListN.{length, get_or, drop}
+use lib.ListN.{get_or}
 use lib.Ieee.{Float, nan}
-use borrow.Author.Rules.{rules, scaled_Fits}
+use borrow.Author.Rules.{scaled_Fits}
 use Rattle.error.specs.Answer.{place}
 use Rattle.error.proofs.Places.{place-start, place-skip, place_here, place_end}
-use Rattle.radius.specs.Linear.{quantize_radius_of, radius_of}
+use Rattle.radius.specs.Linear.{radius_of}
 use Rattle.radius.specs.Radii.{bad_radius}
-use Rattle.radius.specs.declared.Range.{Range}
 use Rattle.radius_writing.specs.Inner.{bad_kept}
 use Rattle.radius_writing.proofs.find_bad_kept.Goals.{After-is_bad_radius, After-span_of-span}
 use Rattle.radius_writing.proofs.find_bad_kept.Invariants.{kept}

@@ -1,5 +1,4 @@
 -- `radius_writing::first_bad_kept` meets its contract: where the pass finds nothing, the place is the length. Assumes nothing.
-use borrow.Author.Rules.{rules}
 use Rattle.error.proofs.Sweep.{clear-place}
 use Rattle.radius_writing.specs.Inner.{bad_kept}
 use Rattle.radius_writing.proofs.first_bad_kept.Goals as goal

@@ -1,6 +1,5 @@
 -- `radius_writing::first_bad_read_back` meets its contract: by the profile; floats come back as they are. Assumes nothing.
 use mathlib.Core.Path.{sym, ap, ◌∙◌}
-use borrow.Author.Rules.{rules}
 use Rattle.error.specs.Answer.{place}
 use Rattle.radius_writing.specs.Inner.{bad_kept}
 use Rattle.radius.specs.declared.Range.{Range}

@@ -3,7 +3,6 @@ use native.Mathlib.Omega.{arith}
 use lib.ListN.{length-set}
 use Rattle.digits.specs.Digits.{digits}
 use Rattle.lists.proofs.Stores.{store_two}
-use borrow.Author.Rules.{rules}
 use Rattle.radius_writing.proofs.put_number.Goals as goal
 
 pub bounds-out-at-2 : goal.bounds-out-at-2

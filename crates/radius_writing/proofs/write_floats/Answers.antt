@@ -1,12 +1,12 @@
 -- `radius_writing::write_floats` meets its contract: a turn writes the four bytes of one radius. Assumes nothing.
-use Prim.Native.Nat.{◌+◌, ◌-◌, ◌≤◌}
+use Prim.Native.Nat.{◌+◌, ◌≤◌}
 use lib.ListN.{length}
 use lib.Ieee.{nan}
 use mathlib.Core.Path.{sym, ◌∙◌}
-use borrow.Author.Rules.{rules, scaled_Fits}
+use borrow.Author.Rules.{scaled_Fits}
 use Rattle.float.specs.Bytes.{to_le_bytes}
 use Rattle.float.proofs.Bytes.{length-to_le_bytes, put_f32-room}
-use Rattle.lists.proofs.Loops.{Written, written_start, written_next, written-end, place-within}
+use Rattle.lists.proofs.Loops.{written_start, written_next, written-end, place-within}
 use native.Mathlib.Omega.{arith}
 use Rattle.radius_writing.proofs.write_floats.Goals.{After-put_f32}
 use Rattle.radius_writing.proofs.write_floats.Goals as goal

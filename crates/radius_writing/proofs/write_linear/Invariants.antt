@@ -1,15 +1,11 @@
 -- `radius_writing::write_linear` meets its contract: a turn writes the two bytes of one radius. Assumes nothing.
 use Prim.Native.Nat.{ℕ, ◌-◌}
-use mathlib.Core.List.{List, flat_map}
+use mathlib.Core.List.{List}
 use lib.ListN.{length}
-use lib.Ieee.{Float, nan}
-use mathlib.Core.Path.{sym, ap, ◌∙◌}
-use borrow.Author.Rules.{rules, scaled_Fits}
+use lib.Ieee.{Float}
 use Rattle.digits.specs.Digits.{digits}
-use Rattle.digits.proofs.Laws.{length_digits}
-use Rattle.radius.specs.Linear.{quantize_radius_of, linear_bytes}
-use Rattle.lists.proofs.Loops.{Written, written_start, written_next, written-end, place-within}
-use native.Mathlib.Omega.{arith}
+use Rattle.radius.specs.Linear.{quantize_radius_of}
+use Rattle.lists.proofs.Loops.{Written}
 use Rattle.radius_writing.proofs.write_linear.Given as goal
 
 -- the two bytes of a radius, from a least radius and a span

@@ -1,13 +1,12 @@
 -- `radius_writing::write_payload` meets its contract: by the profile; BlockLogU8 has no bytes. Assumes nothing.
 use Prim.Native.Nat.{ℕ, ◌*◌}
 use mathlib.Core.Path.{◌≡◌, refl, ap, ◌∙◌}
-use mathlib.Core.List.{List, [], ◌∷◌, flat_map}
+use mathlib.Core.List.{List, ◌∷◌, flat_map}
 use native.Mathlib.Omega.{arith}
 use lib.ListN.{length}
 use lib.Ieee.{of_bits}
 use Rattle.radius.specs.Linear.{linear_bytes}
 use Rattle.radius.specs.declared.Range.{Range}
-use borrow.Author.Rules.{rules}
 use Rattle.radius_writing.proofs.write_payload.Goals as goal
 
 -- a list of no bytes for each radius is empty

@@ -1,5 +1,5 @@
 -- `replay::every_call` ends: the calls are counted. Assumes nothing.
-use Rattle.std.proofs.Common.{◌-◌, ◌≤◌, rules}
+use Rattle.std.proofs.Common.{◌-◌, ◌≤◌}
 use Rattle.replay.proofs.every_call.Given as goal
 
 abbrev pub invariant-loop-call : goal.invariant-loop-call

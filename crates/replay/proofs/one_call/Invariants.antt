@@ -1,5 +1,5 @@
 -- `replay::one_call` ends: its cases are counted. Assumes nothing.
-use Rattle.std.proofs.Common.{◌-◌, ◌≤◌, rules}
+use Rattle.std.proofs.Common.{◌-◌, ◌≤◌}
 use Rattle.replay.proofs.one_call.Given as goal
 
 abbrev pub invariant-loop-i : goal.invariant-loop-i

@@ -1,6 +1,5 @@
 -- `rotation::apply` answers `apply_of`: after the checks it flips the signs into the output and transforms it there,
 -- and a refusal leaves the output as it was. Assumes nothing.
-use borrow.Author.Rules.{rules}
 use mathlib.Core.Path.{◌≡◌, sym, ap, ◌∙◌}
 use lib.ListN.{length}
 use Rattle.error.specs.Answer.{first, accepted}

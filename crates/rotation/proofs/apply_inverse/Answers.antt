@@ -1,6 +1,5 @@
 -- `rotation::apply_inverse` answers `apply_inverse_of`: after the checks it copies the input and turns it back in the output, and a refusal leaves the output
 -- as it was. Assumes nothing.
-use borrow.Author.Rules.{rules}
 use mathlib.Core.Path.{◌≡◌, sym, ap, ◌∙◌}
 use lib.ListN.{length}
 use Rattle.float.proofs.Copying.{copy_into-same}

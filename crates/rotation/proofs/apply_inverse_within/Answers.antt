@@ -1,6 +1,5 @@
 -- `rotation::apply_inverse_within` answers `apply_inverse_of` of the values, in place: after the checks it turns them back, and a refusal leaves them
 -- as they were. Assumes nothing.
-use borrow.Author.Rules.{rules}
 use mathlib.Core.Path.{◌≡◌, sym, ap, ◌∙◌}
 use lib.ListN.{length}
 use Rattle.error.specs.Answer.{first, accepted}

@@ -1,13 +1,10 @@
 -- `rotation::bad_signs` counts the signs that are neither -1 nor 1. The loop's invariant says that a count of 0 has found none of those passed bad.
 -- Assumes nothing.
-use Prim.Native.Nat.{◌+◌, ◌≤◌, ◌-◌}
-use mathlib.Core.Path.{◌≡◌, sym, ◌∙◌}
-use mathlib.Core.Logic.{⊎_elim}
+use mathlib.Core.Path.{sym, ◌∙◌}
 use native.Mathlib.Omega.{arith}
 use borrow.Author.Rules.{scaled_Fits}
-use lib.ListN.{length, drop}
+use lib.ListN.{length}
 use lib.Ieee.{nan}
-use Rattle.error.specs.Answer.{place}
 use Rattle.error.proofs.Places.{place-start, place-skip, place_end}
 use Rattle.rotation.specs.Checks.{bad_sign}
 use Rattle.rotation.proofs.bad_signs.Goals.{else-is_bad_sign, then-is_bad_sign}

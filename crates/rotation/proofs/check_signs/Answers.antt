@@ -1,5 +1,4 @@
 -- `rotation::check_signs` answers the first check of a dimension and of its signs that fails, in document 01's order. Assumes nothing.
-use borrow.Author.Rules.{rules}
 use mathlib.Core.Path.{sym, ◌∙◌}
 use borrow.Author.Tests.{eq-eqb, ne_eqb}
 use Rattle.error.proofs.Places.{each-offends, each-passes}

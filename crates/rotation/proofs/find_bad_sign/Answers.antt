@@ -1,11 +1,9 @@
 -- `rotation::find_bad_sign` finds the first sign that is neither -1 nor 1. The loop's invariant says that no sign passed is bad. Assumes nothing.
-use Prim.Native.Nat.{◌+◌, ◌≤◌, ◌-◌}
-use mathlib.Core.Path.{◌≡◌, sym, ◌∙◌}
+use mathlib.Core.Path.{sym, ◌∙◌}
 use native.Mathlib.Omega.{arith}
 use borrow.Author.Rules.{scaled_Fits}
-use lib.ListN.{length, drop}
+use lib.ListN.{length}
 use lib.Ieee.{nan}
-use Rattle.error.specs.Answer.{place}
 use Rattle.error.proofs.Places.{place-start, place-skip, place_here, place_end}
 use Rattle.rotation.specs.Checks.{bad_sign}
 use Rattle.rotation.proofs.find_bad_sign.Goals as goal

@@ -1,5 +1,4 @@
 -- `rotation::first_bad_sign` answers the number of signs where a count finds none of them bad, and else looks for the first that is. Assumes nothing.
-use borrow.Author.Rules.{rules}
 use Rattle.rotation.proofs.first_bad_sign.Goals as goal
 
 pub returns-then-bad_signs-eq0 : goal.returns-then-bad_signs-eq0

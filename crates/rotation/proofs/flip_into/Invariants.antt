@@ -1,14 +1,8 @@
 -- `rotation::flip_into` leaves each value times its sign in the output. The loop's invariant says that those passed are written. Assumes nothing.
 use Prim.Native.Nat.{◌≤◌, ◌-◌}
-use mathlib.Core.Path.{refl, sym, ◌∙◌}
-use native.Mathlib.Omega.{arith}
-use borrow.Author.Rules.{scaled_Fits}
 use lib.ListN.{length, get_or}
 use lib.Ieee.{nan, binary32, mul}
-use Rattle.rounding.specs.Sums.{products}
 use Rattle.lists.specs.Inner.{Filled}
-use Rattle.lists.proofs.Loops.{filled-start, filled_more, filled-all}
-use Rattle.rounding.proofs.Lists.{length-products, get_or-products}
 use Rattle.rotation.proofs.flip_into.Given as goal
 
 abbrev pub invariant-loop-i : goal.invariant-loop-i

@@ -1,5 +1,4 @@
 -- `rotation::hadamard` is the transform and then the scale, in place. Assumes nothing.
-use borrow.Author.Rules.{rules}
 use mathlib.Core.Path.{ap₂, ◌∙◌}
 use Rattle.rotation_stages.proofs.Transformed.{transformed-all}
 use Rattle.rotation.specs.Rotation.{scaled, hadamard_of}

@@ -1,15 +1,9 @@
 -- `rotation::scale_by` multiplies each value by the factor, in place.
 -- The loop's invariant says that those passed are multiplied and that those ahead are as they were. Assumes nothing.
 use Prim.Native.Nat.{◌≤◌, ◌-◌}
-use mathlib.Core.Path.{ap}
-use native.Mathlib.Omega.{arith}
-use borrow.Author.Rules.{scaled_Fits}
-use lib.ListN.{length, get_or, length-map, get_or-map}
-use mathlib.Core.List.{map}
-use lib.Ieee.{Float, nan, binary32, mul}
-use Rattle.rotation.specs.Rotation.{scaled}
+use lib.ListN.{length, get_or}
+use lib.Ieee.{nan, binary32, mul}
 use Rattle.lists.specs.Inner.{Filled}
-use Rattle.lists.proofs.Loops.{filled-start, filled_more, filled-all}
 use Rattle.rotation.proofs.scale_by.Given as goal
 
 abbrev pub invariant-loop-i : goal.invariant-loop-i

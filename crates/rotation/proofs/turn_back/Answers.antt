@@ -1,5 +1,4 @@
 -- `rotation::turn_back` is the normalized transform and then the signs, in place. Assumes nothing.
-use borrow.Author.Rules.{rules}
 use mathlib.Core.Path.{ap, ◌∙◌}
 use Rattle.rounding.specs.Sums.{products}
 use Rattle.rotation.specs.Rotation.{unrotated}

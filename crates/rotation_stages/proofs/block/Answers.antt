@@ -1,6 +1,6 @@
 -- `rotation_stages::block` does the butterflies of one block.
 -- The loop's invariant, `Partly`, says what each entry holds when so many pairs are through. Assumes nothing.
-use Prim.Native.Nat.{ℕ, ◌≤◌, ◌-◌}
+use Prim.Native.Nat.{ℕ}
 use mathlib.Core.Path.{◌≡◌, subst}
 use native.Mathlib.Omega.{arith}
 use borrow.Author.Rules.{scaled_Fits}

@@ -1,12 +1,7 @@
 -- `rotation_stages::block` does the butterflies of one block.
 -- The loop's invariant, `Partly`, says what each entry holds when so many pairs are through. Assumes nothing.
-use Prim.Native.Nat.{ℕ, ◌≤◌, ◌-◌}
-use mathlib.Core.Path.{◌≡◌, subst}
-use native.Mathlib.Omega.{arith}
-use borrow.Author.Rules.{scaled_Fits}
-use lib.ListN.{length, length-set}
+use Prim.Native.Nat.{◌≤◌, ◌-◌}
 use Rattle.rotation_stages.specs.Inner.{Partly}
-use Rattle.rotation_stages.proofs.Blocks.{partly-start, partly_more}
 use Rattle.rotation_stages.proofs.block.Given as goal
 
 abbrev pub invariant-loop-offset : goal.invariant-loop-offset

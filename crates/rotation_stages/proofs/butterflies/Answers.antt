@@ -1,10 +1,10 @@
 -- `rotation_stages::butterflies` is one stage with step h.
 -- The loop's invariant says that the blocks passed are done and that those ahead are as they were. Assumes nothing.
-use Prim.Native.Nat.{◌+◌, ◌*◌, ◌≤◌, ◌-◌}
+use Prim.Native.Nat.{◌+◌, ◌*◌, ◌≤◌}
 use native.Mathlib.Omega.{arith}
 use lib.ListN.{length}
 use Rattle.rotation_stages.proofs.Passes.{through-start, block-fits}
-use Rattle.rotation_stages.proofs.Stages.{OneThrough, one_more, one-all}
+use Rattle.rotation_stages.proofs.Stages.{one_more, one-all}
 use Rattle.rotation_stages.proofs.butterflies.Goals.{After-slice_known-in-loop-start-1}
 use Rattle.rotation_stages.proofs.butterflies.Goals as goal
 

@@ -1,10 +1,8 @@
 -- `rotation_stages::butterflies` is one stage with step h.
 -- The loop's invariant says that the blocks passed are done and that those ahead are as they were. Assumes nothing.
-use Prim.Native.Nat.{◌+◌, ◌*◌, ◌≤◌, ◌-◌}
-use native.Mathlib.Omega.{arith}
+use Prim.Native.Nat.{◌≤◌, ◌-◌}
 use lib.ListN.{length}
-use Rattle.rotation_stages.proofs.Passes.{through-start, block-fits}
-use Rattle.rotation_stages.proofs.Stages.{OneThrough, one_more, one-all}
+use Rattle.rotation_stages.proofs.Stages.{OneThrough}
 use Rattle.rotation_stages.proofs.butterflies.Given as goal
 
 abbrev pub invariant-loop-start : goal.invariant-loop-start

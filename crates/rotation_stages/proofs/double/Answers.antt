@@ -1,6 +1,6 @@
 -- `rotation_stages::double` does two stages of one block.
 -- The loop's invariant says that the fours passed are through, and that no other entry is touched. Assumes nothing.
-use Prim.Native.Nat.{ℕ, ◌≤◌, ◌-◌}
+use Prim.Native.Nat.{ℕ}
 use mathlib.Core.Path.{◌≡◌, subst}
 use native.Mathlib.Omega.{arith}
 use Rattle.rotation_stages.specs.Inner.{FoursDone}

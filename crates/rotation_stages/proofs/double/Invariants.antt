@@ -1,10 +1,7 @@
 -- `rotation_stages::double` does two stages of one block.
 -- The loop's invariant says that the fours passed are through, and that no other entry is touched. Assumes nothing.
-use Prim.Native.Nat.{ℕ, ◌≤◌, ◌-◌}
-use mathlib.Core.Path.{◌≡◌, subst}
-use native.Mathlib.Omega.{arith}
+use Prim.Native.Nat.{◌≤◌, ◌-◌}
 use Rattle.rotation_stages.specs.Inner.{FoursDone}
-use Rattle.rotation_stages.proofs.Fours.{fours-start, fours-more}
 use Rattle.rotation_stages.proofs.double.Given as goal
 
 abbrev pub invariant-loop-offset : goal.invariant-loop-offset

@@ -1,10 +1,10 @@
 -- `rotation_stages::doubles` is two stages, with steps h and 2 h.
 -- The loop's invariant says that the blocks passed are done and that those ahead are as they were. Assumes nothing.
-use Prim.Native.Nat.{◌+◌, ◌*◌, ◌≤◌, ◌-◌}
+use Prim.Native.Nat.{◌+◌, ◌*◌, ◌≤◌}
 use native.Mathlib.Omega.{arith}
 use lib.ListN.{length}
 use Rattle.rotation_stages.proofs.Passes.{through-start, block-fits}
-use Rattle.rotation_stages.proofs.Stages.{TwoThrough, two-more, two-all}
+use Rattle.rotation_stages.proofs.Stages.{two-more, two-all}
 use Rattle.rotation_stages.proofs.doubles.Goals.{After-slice_known-in-loop-start-1}
 use Rattle.rotation_stages.proofs.doubles.Goals as goal
 

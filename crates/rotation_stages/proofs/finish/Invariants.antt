@@ -1,12 +1,11 @@
 -- `rotation_stages::finish` is every stage that is left, in its order.
 -- The loop's invariant says that the stages left, of what the values hold now, give the whole. Assumes nothing.
-use mathlib.Core.Path.{◌≡◌, refl, ◌∙◌}
-use native.Mathlib.Omega.{arith}
+use mathlib.Core.Path.{◌≡◌}
 use lib.ListN.{length}
 use lib.Ieee.{binary32, add, sub}
 use Rattle.float.specs.Constants.{pos_zero}
 use Rattle.rounding.specs.Butterfly.{stages}
-use Rattle.rotation_stages.proofs.Ordered.{Running, running-start, steps-fours, steps-small, steps-pairs, running-twice, running_more, running-all}
+use Rattle.rotation_stages.proofs.Ordered.{Running}
 use Rattle.rotation_stages.proofs.finish.Given as goal
 
 abbrev pub invariant-loop-left : goal.invariant-loop-left

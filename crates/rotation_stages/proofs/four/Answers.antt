@@ -1,6 +1,5 @@
 -- `rotation_stages::four` does two stages of four entries: the eight sums and differences, and four stores. Assumes nothing.
 use native.Mathlib.Omega.{arith}
-use borrow.Author.Rules.{rules}
 use lib.ListN.{length-set}
 use Rattle.rotation_stages.proofs.Fours.{four-done}
 use Rattle.rotation_stages.proofs.four.Goals as goal

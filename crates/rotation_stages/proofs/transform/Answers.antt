@@ -4,7 +4,6 @@ use Prim.Native.Nat.{ℕ, ◌^◌, ◌-◌, ◌*◌, ◌≤◌}
 use mathlib.Core.Path.{◌≡◌, sym, ◌∙◌}
 use mathlib.Core.List.{List}
 use native.Mathlib.Omega.{arith}
-use borrow.Author.Rules.{rules}
 use lib.ListN.{length}
 use lib.Ieee.{Float, binary32, add, sub}
 use Rattle.float.specs.Constants.{pos_zero}

@@ -1,11 +1,10 @@
 -- `rotation_stored::add_column` takes one column more: the loop fills the sums anew, each with its term. Assumes nothing.
-use Prim.Native.Nat.{◌+◌, ◌*◌, ◌≤◌, ◌<◌, ◌-◌}
+use Prim.Native.Nat.{◌+◌, ◌*◌, ◌<◌}
 use mathlib.Core.Path.{ap}
 use native.Mathlib.Omega.{arith}
 use borrow.Author.Rules.{scaled_Fits}
-use lib.ListN.{length, get_or}
+use lib.ListN.{length}
 use lib.Ieee.{nan}
-use Rattle.lists.specs.Inner.{Filled}
 use Rattle.lists.proofs.Loops.{filled-start, filled_more, filled-done}
 use Rattle.rotation_stored.proofs.Columns.{column_added, column-within, taken-one}
 use Rattle.rotation_stored.proofs.add_column.Goals.{In-loop-i}

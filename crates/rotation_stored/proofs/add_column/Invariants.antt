@@ -1,13 +1,9 @@
 -- `rotation_stored::add_column` takes one column more: the loop fills the sums anew, each with its term. Assumes nothing.
-use Prim.Native.Nat.{◌+◌, ◌*◌, ◌≤◌, ◌<◌, ◌-◌}
-use mathlib.Core.Path.{ap}
-use native.Mathlib.Omega.{arith}
-use borrow.Author.Rules.{scaled_Fits}
+use Prim.Native.Nat.{◌*◌, ◌≤◌, ◌-◌}
 use lib.ListN.{length, get_or}
 use lib.Ieee.{nan}
 use Rattle.lists.specs.Inner.{Filled}
-use Rattle.lists.proofs.Loops.{filled-start, filled_more, filled-done}
-use Rattle.rotation_stored.proofs.Columns.{column_added, column-within, taken-one}
+use Rattle.rotation_stored.proofs.Columns.{column_added}
 use Rattle.rotation_stored.proofs.add_column.Given as goal
 
 abbrev pub invariant-loop-i : goal.invariant-loop-i

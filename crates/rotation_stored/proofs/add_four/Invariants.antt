@@ -1,13 +1,9 @@
 -- `rotation_stored::add_four` takes four columns more: the loop fills the sums anew, each with its four terms. Assumes nothing.
-use Prim.Native.Nat.{◌+◌, ◌*◌, ◌≤◌, ◌-◌}
-use mathlib.Core.Path.{ap}
-use native.Mathlib.Omega.{arith}
-use borrow.Author.Rules.{scaled_Fits}
+use Prim.Native.Nat.{◌*◌, ◌≤◌, ◌-◌}
 use lib.ListN.{length, get_or}
 use lib.Ieee.{nan}
 use Rattle.lists.specs.Inner.{Filled}
-use Rattle.lists.proofs.Loops.{filled-start, filled_more, filled-done}
-use Rattle.rotation_stored.proofs.Columns.{four_added, four-within, taken-four}
+use Rattle.rotation_stored.proofs.Columns.{four_added}
 use Rattle.rotation_stored.proofs.add_four.Given as goal
 
 abbrev pub invariant-loop-i : goal.invariant-loop-i

@@ -1,10 +1,7 @@
 -- `rotation_stored::add_rest` takes the columns that are left: the loop's invariant says how many each sum has taken. Assumes nothing.
 use Prim.Native.Nat.{◌-◌}
-use mathlib.Core.Path.{sym, ◌∙◌}
-use native.Mathlib.Omega.{arith}
 use lib.ListN.{length}
 use Rattle.rotation_stored.specs.Inner.{Taken}
-use Rattle.rotation_stored.proofs.Columns.{taken-all}
 use Rattle.rotation_stored.proofs.add_rest.Given as goal
 
 abbrev pub invariant-loop-column : goal.invariant-loop-column

@@ -5,8 +5,6 @@ use lib.ListN.{length}
 use Rattle.rotation_stored.specs.Stored.{stored_rotated}
 use Rattle.rotation_stored.specs.Inner.{Shaped}
 use Rattle.rotation_stored.proofs.AtOnce.{judged-same, rotated-at_once}
-use borrow.Author.Tests.{not-false}
-use borrow.Author.Rules.{rules}
 use Rattle.error.proofs.AtOnce.{at_once-left}
 use Rattle.rotation_stored.proofs.apply_at_once.Goals as goal
 

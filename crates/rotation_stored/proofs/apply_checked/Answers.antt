@@ -1,7 +1,6 @@
 -- `rotation_stored::apply_checked` answers `stored_apply_of`: after the checks it sums along the rows into the output, and a refusal leaves the output as it was.
 -- Assumes nothing.
 use Prim.Native.Nat.{ℕ, ◌*◌}
-use borrow.Author.Rules.{rules}
 use mathlib.Core.Path.{◌≡◌, sym, ap, ◌∙◌}
 use lib.ListN.{length}
 use Rattle.error.specs.Answer.{first, accepted}

@@ -1,6 +1,5 @@
 -- `rotation_stored::apply_inverse` meets its contract: the sums are written at once, or the output is as it was and they are made check by check. Assumes nothing.
 use mathlib.Core.Path.{refl}
-use borrow.Author.Rules.{rules}
 use Rattle.error.proofs.Answers.{both-value}
 use Rattle.rotation_stored.specs.Stored.{stored_apply_inverse_of}
 use Rattle.rotation_stored.proofs.AtOnce.{applied-again}

@@ -1,5 +1,4 @@
 -- `rotation_stored::check_matrix` answers the first check of a dimension and of its matrix that fails, in document 02's order. Assumes nothing.
-use borrow.Author.Rules.{rules}
 use Prim.Native.Nat.{◌*◌, ◌≤◌}
 use mathlib.Core.Path.{sym, ◌∙◌}
 use native.Mathlib.Nat.{mul-le-mul_right}

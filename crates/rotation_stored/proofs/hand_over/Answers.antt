@@ -1,7 +1,6 @@
 -- `rotation_stored::hand_over` meets its contract: the values are copied where none offends. Assumes nothing.
 use mathlib.Core.Path.{sym, ◌∙◌}
-use borrow.Author.Tests.{not-true, not-false}
-use borrow.Author.Rules.{rules}
+use borrow.Author.Tests.{not-true}
 use Rattle.float.proofs.Copying.{copy_into-same}
 use Rattle.rotation_stored.proofs.AtOnce.{judged-left, judged-made}
 use Rattle.rotation_stored.proofs.hand_over.Goals as goal

@@ -2,8 +2,6 @@
 use mathlib.Core.Path.{refl}
 use lib.ListN.{length}
 use Rattle.rotation_stored.proofs.AtOnce.{unrotated-at_once}
-use borrow.Author.Tests.{not-false}
-use borrow.Author.Rules.{rules}
 use Rattle.error.proofs.AtOnce.{at_once-left}
 use Rattle.rotation_stored.proofs.inverse_at_once.Goals as goal
 

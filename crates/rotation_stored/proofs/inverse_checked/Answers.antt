@@ -1,6 +1,5 @@
 -- `rotation_stored::inverse_checked` answers `stored_apply_inverse_of`: after the checks it projects on the columns, and a refusal leaves the output as it was.
 -- Assumes nothing.
-use borrow.Author.Rules.{rules}
 use mathlib.Core.Path.{◌≡◌, sym, ap, ◌∙◌}
 use lib.ListN.{length}
 use Rattle.error.specs.Answer.{first, accepted}

@@ -4,7 +4,6 @@ use mathlib.Core.Bool.{false≢true}
 use native.Mathlib.Nat.{mul-le-mul}
 use native.Mathlib.Omega.{arith}
 use borrow.Author.Tests.{ltb-false, eqb-true, ne_eqb}
-use borrow.Author.Rules.{rules}
 use Rattle.rotation_stored.proofs.is_shaped.Goals as goal
 
 pub returns-then-dim-eq0 : goal.returns-then-dim-eq0

@@ -3,7 +3,6 @@ use Prim.Native.Nat.{◌-◌, ◌≤◌}
 use mathlib.Core.Path.{sym, ◌∙◌}
 use native.Mathlib.Omega.{arith}
 use borrow.Author.Tests.{ltb-false}
-use borrow.Author.Rules.{rules}
 use borrow.Rule.Slice.PartMut.{post_of}
 use lib.ListN.{length}
 use Rattle.lists.proofs.Parts.{part-long, part-read, part-again, part-enough}

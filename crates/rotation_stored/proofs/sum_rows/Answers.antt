@@ -1,10 +1,6 @@
 -- `rotation_stored::sum_rows` leaves the sum along each row: the sums start at +0.0 and take four columns at a time, and `add_rest` takes what is left. Assumes nothing.
-use Prim.Native.Nat.{◌-◌}
 use mathlib.Core.Path.{sym, ◌∙◌}
 use native.Mathlib.Omega.{arith}
-use borrow.Author.Rules.{rules}
-use lib.ListN.{length}
-use Rattle.rotation_stored.specs.Inner.{Taken}
 use Rattle.rotation_stored.proofs.Columns.{taken_start, taken-end}
 use Rattle.rotation_stored.proofs.sum_rows.Goals as goal
 

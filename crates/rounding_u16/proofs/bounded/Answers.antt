@@ -1,7 +1,6 @@
 -- `rounding_u16::bounded` meets its contract, by the laws of `Bounds`. Assumes nothing.
 use mathlib.Core.Path.{refl, sym, ap, ◌∙◌}
 use mathlib.Core.Bool.{true≢false}
-use mathlib.Core.Logic.{⊎_elim}
 use native.Mathlib.Omega.{arith}
 use lib.Ieee.{Float, lt, of_bits}
 use Rattle.rounding_u16.proofs.Bounds.{most, below_zero_lem, above_most, between-small}

@@ -2,7 +2,6 @@
 use mathlib.Core.Logic.{⊎_elim}
 use native.Mathlib.Omega.{arith}
 use borrow.Author.Tests.{lt-ltb, le-ltb}
-use borrow.Author.Rules.{rules}
 use Prim.Native.Nat.{◌≤◌}
 use Rattle.scan.proofs.Opening.{open_none, open-many, open-passed, open-refused, open_done, one-or-more, empty-led}
 use Rattle.scan.proofs.open.Goals as goal

@@ -3,7 +3,6 @@ use mathlib.Core.Path.{sym, ap, subst}
 use Prim.Native.Nat.{ℕ}
 use mathlib.Core.Logic.{⊎_elim}
 use mathlib.Core.List.{◌∷◌}
-use borrow.Author.Rules.{rules}
 use borrow.Author.Tests.{lt-ltb, le-ltb}
 use Rattle.scan.specs.declared.Tally.{Tally}
 use Rattle.scan.specs.Scans.{scan_of, tally_of}

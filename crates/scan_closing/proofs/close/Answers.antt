@@ -1,5 +1,5 @@
 -- `scan_closing::close` meets its contract: in the loop the list is `filled` up to the index, which at its end is as far as closing writes. Assumes nothing.
-use Rattle.std.proofs.Common.{◌≡◌, ◌+◌, ◌≤◌, ◌<◌, ℕ, length, sym, ap, ◌∙◌, arith, add-one, rules}
+use Rattle.std.proofs.Common.{◌≡◌, ◌<◌, length, sym, ap, ◌∙◌, arith, add-one}
 use borrow.Author.Rules.{scaled_Fits}
 use mathlib.Core.List.{List}
 use lib.ListN.{set}

@@ -1,5 +1,4 @@
 -- `scan_entering::enter_score` meets its contract: the score stands behind all that have room, or it is put in at its place. Assumes nothing.
-use Rattle.std.proofs.Common.{rules}
 use Rattle.scan_entering.proofs.Entered.{entered-out, entered-in}
 use Rattle.scan_entering.proofs.enter_score.Goals as goal
 

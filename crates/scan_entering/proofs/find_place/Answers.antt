@@ -1,7 +1,6 @@
 -- `scan_entering::find_place` meets its contract: each round makes one comparison, and a round that goes on leaves the place as it is, and the comparisons made with those
 -- to come. Assumes nothing.
-use Rattle.std.proofs.Common.{◌≡◌, ◌+◌, sym, ap, ◌∙◌, arith, rules}
-use borrow.Author.Tests.{not-true, not-false}
+use Rattle.std.proofs.Common.{◌≡◌, sym, ap, ◌∙◌, arith}
 use Rattle.scan.specs.Entering.{place_up, compared_up}
 use Rattle.scan_entering.proofs.Putting.{up_none, up-stopped, up-passed}
 use Rattle.scan_entering.proofs.find_place.Goals as goal

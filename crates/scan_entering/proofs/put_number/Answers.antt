@@ -1,5 +1,5 @@
 -- `scan_entering::put_number` meets its contract: each round moves one item, and what is left to do stays the same. Assumes nothing.
-use Rattle.std.proofs.Common.{◌≡◌, ℕ, ◌-◌, ◌<◌, ◌≤◌, length, get_or, sym, ap, ◌∙◌, arith, length-set, rules}
+use Rattle.std.proofs.Common.{◌≡◌, ℕ, ◌-◌, get_or, sym, ap, ◌∙◌, arith, length-set}
 use Rattle.scan.specs.Entering.{put_in}
 use Rattle.scan_entering.proofs.Putting.{put-moving, put-stored}
 use Rattle.scan_entering.proofs.put_number.Goals as goal

@@ -1,6 +1,5 @@
 -- `scan_many::check_many` meets its contract: each return is one case of the laws of these checks. Assumes nothing.
 use mathlib.Core.Path.{sym, ap, ◌∙◌}
-use borrow.Author.Rules.{rules}
 use Rattle.error.specs.Outcomes.{says}
 use Rattle.scan_many.proofs.Answers.{many-full, many-query, many-ends}
 use Rattle.scan_many.proofs.check_many.Goals as goal

@@ -1,17 +1,13 @@
 -- `scan_many::enter_many` meets its contract: each record that enters leaves those behind it. Assumes nothing.
-use Prim.Native.Nat.{◌+◌, ◌-◌, ◌≤◌}
-use mathlib.Core.Path.{◌≡◌, refl, sym, ◌∙◌}
-use mathlib.Core.List.{[], ◌∷◌}
-use native.Mathlib.Omega.{arith}
-use borrow.Author.Rules.{rules}
-use lib.ListN.{length, drop, get_or}
+use Prim.Native.Nat.{◌-◌, ◌≤◌}
+use mathlib.Core.Path.{◌≡◌}
+use mathlib.Core.List.{◌∷◌}
+use lib.ListN.{length, drop}
 use Rattle.error.specs.Answer.{first, accepted}
-use Rattle.error.proofs.Chains.{first-passed}
 use Rattle.setup.specs.Checks.{scalar_checks}
 use Rattle.turbo_record.specs.Scoring.{record_score_of}
 use Rattle.scan.specs.Scans.{scan_of}
 use Rattle.scan_many.specs.Many.{records_in, wrong_ends, entered_each}
-use Rattle.scan_many.proofs.Many.{ends-passed, each-done, each_next}
 use Rattle.scan_many.proofs.enter_many.Given as goal
 
 abbrev pub invariant-loop-i : goal.invariant-loop-i

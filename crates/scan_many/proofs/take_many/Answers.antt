@@ -2,7 +2,6 @@
 use mathlib.Core.Path.{sym, ap, ◌∙◌, subst}
 use mathlib.Core.List.{◌++◌, map, reverse}
 use native.Mathlib.Omega.{arith}
-use borrow.Author.Rules.{rules}
 use Rattle.error.specs.Answer.{done, after}
 use Rattle.scan.specs.declared.Scan.{Scan}
 use Rattle.scan.proofs.Arrays.{numbers-long, scores-long, lent-all, lent-whole}

@@ -2,7 +2,6 @@
 -- Assumes nothing.
 use mathlib.Core.Path.{sym, ap, ◌∙◌, subst}
 use mathlib.Core.List.{◌++◌, map, reverse}
-use borrow.Author.Rules.{rules}
 use Rattle.error.specs.Answer.{Answer, done, after}
 use Rattle.error.specs.Outcomes.{says}
 use Rattle.error.proofs.Chains.{value-not-refused}

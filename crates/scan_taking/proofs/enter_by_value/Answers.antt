@@ -1,7 +1,6 @@
 -- `scan_taking::enter_by_value` meets its contract: the two arrays are lent whole, and hold what they are left with. Assumes nothing.
 use mathlib.Core.Path.{refl}
 use native.Mathlib.Omega.{arith}
-use borrow.Author.Rules.{rules}
 use Rattle.turbo_phased.specs.Estimates.{says_phased}
 use Rattle.scan.specs.declared.Scan.{Scan}
 use Rattle.scan.proofs.Arrays.{numbers-long, scores-long, lent-whole}

@@ -1,6 +1,5 @@
 -- `scan_taking::enter_phased` meets its contract, for each kind of answer. Assumes nothing.
 use mathlib.Core.Path.{ap}
-use borrow.Author.Rules.{rules}
 use Rattle.error.specs.declared.Scored.TheVariants as scored
 use Rattle.turbo_phased.specs.Estimates.{says_phased}
 use Rattle.scan.specs.Scans.{scan_of}

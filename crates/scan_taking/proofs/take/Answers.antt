@@ -2,7 +2,6 @@
 -- Assumes nothing.
 use mathlib.Core.Path.{ap, ◌∙◌, sym, subst}
 use mathlib.Core.List.{◌∷◌}
-use borrow.Author.Rules.{rules}
 use lib.Ieee.{nan}
 use Rattle.rounding.proofs.Folds.{all-fit-from}
 use Rattle.setup.specs.Lent.{lent}

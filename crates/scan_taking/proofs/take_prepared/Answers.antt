@@ -1,7 +1,6 @@
 -- `scan_taking::take_prepared` meets its contract: what is asked is entered, and the history with it leads to the scan. Assumes nothing.
 use mathlib.Core.Path.{ap, ◌∙◌, sym, subst}
 use mathlib.Core.List.{◌∷◌}
-use borrow.Author.Rules.{rules}
 use Rattle.turbo.proofs.Prepared.{prepared-stands}
 use Rattle.turbo_phased.specs.Estimates.{says_phased}
 use Rattle.scan.specs.declared.Scan.{Scan}

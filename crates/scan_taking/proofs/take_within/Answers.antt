@@ -1,7 +1,6 @@
 -- `scan_taking::take_within` meets its contract: what is asked is entered, and the history with it leads to the scan. Assumes nothing.
 use mathlib.Core.Path.{sym, ap, ◌∙◌, subst}
 use mathlib.Core.List.{◌∷◌}
-use borrow.Author.Rules.{rules}
 use Rattle.setup.specs.Lent.{lent}
 use Rattle.scan.specs.declared.Scan.{Scan}
 use Rattle.scan.specs.Scans.{scan_of}

@@ -1,5 +1,5 @@
 -- `setup::check_rotation_dimension` meets its contract, rotation by rotation. Assumes nothing.
-use Rattle.std.proofs.Common.{sym, ◌∙◌, rules}
+use Rattle.std.proofs.Common.{sym, ◌∙◌}
 use Rattle.setup.proofs.check_rotation_dimension.Goals as goal
 
 pub returns-then-outside_powers : goal.returns-then-outside_powers

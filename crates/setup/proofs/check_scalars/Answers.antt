@@ -1,5 +1,5 @@
 -- `setup::check_scalars` meets its contract: a check that passes leaves the rest of the list. Assumes nothing.
-use Rattle.std.proofs.Common.{sym, ◌∙◌, rules, eq-eqb, ne_eqb}
+use Rattle.std.proofs.Common.{sym, ◌∙◌, eq-eqb, ne_eqb}
 use Rattle.setup.proofs.Steps.{stops, goes_on}
 use Rattle.setup.proofs.check_scalars.Goals as goal
 

@@ -1,5 +1,5 @@
 -- `setup::outside_bits` meets its contract. Assumes nothing.
-use Rattle.std.proofs.Common.{rules, le-ltb, lt-ltb}
+use Rattle.std.proofs.Common.{le-ltb, lt-ltb}
 use Rattle.setup.proofs.outside_bits.Goals as goal
 
 pub returns-then-bits-lt1 : goal.returns-then-bits-lt1

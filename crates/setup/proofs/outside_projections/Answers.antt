@@ -1,5 +1,5 @@
 -- `setup::outside_projections` meets its contract. Assumes nothing.
-use Rattle.std.proofs.Common.{rules, eq-eqb, ne_eqb}
+use Rattle.std.proofs.Common.{eq-eqb, ne_eqb}
 use Rattle.setup.proofs.outside_projections.Goals as goal
 
 pub returns-then-projections-eq0 : goal.returns-then-projections-eq0

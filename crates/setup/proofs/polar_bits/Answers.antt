@@ -1,5 +1,5 @@
 -- `setup::polar_bits` meets its contract. Assumes nothing.
-use Rattle.std.proofs.Common.{arith, rules}
+use Rattle.std.proofs.Common.{arith}
 use Rattle.setup.proofs.polar_bits.Goals as goal
 
 pub returns-then-bits-eq0 : goal.returns-then-bits-eq0

@@ -5,7 +5,6 @@ use lib.ListN.{length}
 use lib.Ieee.{Float}
 use Rattle.error.specs.Answer.{Answer, done, after}
 use Rattle.setup_rotation.proofs.Rotations.{rotate_back-at}
-use borrow.Author.Rules.{rules}
 use Rattle.setup_rotation.proofs.rotate_back_within.Goals as goal
 
 pub returns-in-FastHadamard : goal.returns-in-FastHadamard

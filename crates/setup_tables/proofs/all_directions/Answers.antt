@@ -1,13 +1,11 @@
 -- `setup_tables::all_directions` meets its contract, by the laws of `Sweep`. Assumes nothing.
-use Prim.Native.Nat.{◌-◌}
 use mathlib.Core.Path.{sym, ◌∙◌}
-use mathlib.Core.Logic.{⊎_elim}
 use native.Mathlib.Omega.{arith}
 use borrow.Author.Rules.{scaled_Fits}
 use lib.ListN.{length}
 use lib.Ieee.{nan}
 use Rattle.setup_tables.specs.Checks.{bad_direction}
-use Rattle.error.proofs.Sweep.{swept-start, swept-pass, swept-spot, swept-end, Swept}
+use Rattle.error.proofs.Sweep.{swept-start, swept-pass, swept-spot, swept-end}
 use Rattle.setup_tables.proofs.all_directions.Goals.{else-is_bad_direction, then-is_bad_direction}
 use Rattle.setup_tables.proofs.all_directions.Goals as goal
 

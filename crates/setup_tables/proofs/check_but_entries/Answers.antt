@@ -6,7 +6,6 @@ use Rattle.setup.specs.Lent.{lent}
 use Rattle.setup.specs.Checks.{scalar_checks}
 use Rattle.setup_tables.specs.Checks.{table_checks_but_entries}
 use Rattle.error.proofs.Chains.{append-passed, append-refused}
-use borrow.Author.Rules.{rules}
 use Rattle.setup_tables.proofs.check_but_entries.Goals as goal
 
 pub check_tables-requires : goal.check_tables-requires

@@ -6,7 +6,6 @@ use Rattle.error.proofs.Places.{each-offends, each-passes}
 use Rattle.setup.specs.Setups.{directions_needed}
 use Rattle.setup_tables.specs.Checks.{bad_direction}
 use Rattle.setup_tables.proofs.Lengths.{entries-beyond, length-differs, length_meets}
-use borrow.Author.Rules.{rules}
 use Rattle.setup_tables.proofs.check_directions.Goals.{After-direction_entries}
 use Rattle.setup_tables.proofs.check_directions.Goals as goal
 

@@ -1,5 +1,4 @@
 -- `setup_tables::check_entries` meets its contract: the pass says whether an entry offends, and the search where. Assumes nothing.
-use borrow.Author.Rules.{rules}
 use Rattle.error.specs.Checks.{bad_value}
 use Rattle.error.proofs.Sweep.{clear-passes, clear-offends}
 use Rattle.setup_tables.proofs.check_entries.Goals as goal

@@ -10,7 +10,6 @@ use Rattle.setup.specs.Setups.{rotation_needed, directions_needed, matrix_needed
 use Rattle.setup.proofs.Usable.{Usable}
 use Rattle.setup_tables.proofs.Lengths.{matrix-fits, length-differs, length_meets}
 use Rattle.setup.proofs.Scalars.{scalars-usable}
-use borrow.Author.Rules.{rules}
 use Rattle.setup_tables.proofs.check_lengths.Goals.{After-counted_projections-rows, After-direction_entries, Else-directions-direction_entries, Else-matrix-rows, Else-rotation-rotation_entries, Start}
 use Rattle.setup_tables.proofs.check_lengths.Goals as goal
 

@@ -1,5 +1,4 @@
 -- `setup_tables::check_rotation` meets its contract, rotation by rotation. Assumes nothing.
-use borrow.Author.Rules.{rules}
 use Rattle.setup_tables.proofs.Rotations.{sign-offends, signs-pass, entry-offends, entries-pass}
 use Rattle.setup_tables.proofs.check_rotation.Goals as goal
 

@@ -1,7 +1,6 @@
 -- `setup_tables::check_setup` meets its contract: all checks but those of the matrix's entries, and then those. Assumes nothing.
 use Prim.Native.Nat.{ℕ, ◌*◌}
 use mathlib.Core.Path.{◌≡◌, sym, ap, ◌∙◌}
-use borrow.Author.Rules.{rules}
 use Rattle.error.specs.Answer.{first, accepted}
 use Rattle.error.specs.Outcomes.{says}
 use Rattle.error.proofs.Chains.{append-refused}

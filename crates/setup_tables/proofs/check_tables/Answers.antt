@@ -1,6 +1,6 @@
 -- `setup_tables::check_tables` meets its contract: the checks of the lengths, and then those of the rotation and the directions. Assumes nothing.
 use mathlib.Core.Path.{◌≡◌, sym, ap, ◌∙◌}
-use mathlib.Core.List.{[], ◌∷◌}
+use mathlib.Core.List.{◌∷◌}
 use Rattle.error.specs.Answer.{first, each, accepted}
 use Rattle.error.specs.Outcomes.{says}
 use Rattle.error.proofs.Chains.{append-passed, append-refused}
@@ -8,7 +8,6 @@ use Rattle.error.proofs.Places.{each-offends, each-passes}
 use Rattle.setup.specs.Lent.{Lent, lent}
 use Rattle.setup.specs.declared.Setup.{Setup}
 use Rattle.setup_tables.specs.Checks.{bad_direction, wrong_rotation_entry, table_length_checks, table_checks_but_entries}
-use borrow.Author.Rules.{rules}
 use Rattle.setup_tables.proofs.check_tables.Goals.{In_default-turned}
 use Rattle.setup_tables.proofs.check_tables.Goals as goal
 

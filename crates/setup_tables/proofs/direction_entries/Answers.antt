@@ -3,7 +3,6 @@ use Prim.Native.Nat.{ℕ, ◌*◌}
 use mathlib.Core.Path.{ap}
 use native.Mathlib.Omega.{arith}
 use Rattle.setup_tables.proofs.Lengths.{entries_fit, entries-shift}
-use borrow.Author.Rules.{rules}
 use Rattle.setup_tables.proofs.direction_entries.Goals as goal
 
 pub overflow_mul-result : goal.overflow_mul-result

@@ -1,12 +1,8 @@
 -- `setup_tables::find_bad_direction` meets its contract: before i no entry offends. Assumes nothing.
 use Prim.Native.Nat.{◌+◌, ◌≤◌, ◌-◌}
-use mathlib.Core.Path.{◌≡◌, sym, ◌∙◌}
-use native.Mathlib.Omega.{arith}
-use borrow.Author.Rules.{scaled_Fits}
+use mathlib.Core.Path.{◌≡◌}
 use lib.ListN.{length, drop}
-use lib.Ieee.{nan}
 use Rattle.error.specs.Answer.{place}
-use Rattle.error.proofs.Places.{place-start, place-skip, place_here, place_end}
 use Rattle.setup_tables.specs.Checks.{bad_direction}
 use Rattle.setup_tables.proofs.find_bad_direction.Given as goal
 

@@ -2,7 +2,6 @@
 use mathlib.Core.Path.{sym, ◌∙◌}
 use Rattle.setup_tables.specs.Checks.{bad_direction}
 use Rattle.error.proofs.Sweep.{clear-place}
-use borrow.Author.Rules.{rules}
 use Rattle.setup_tables.proofs.first_bad_direction.Goals as goal
 
 pub returns-then-all_directions : goal.returns-then-all_directions

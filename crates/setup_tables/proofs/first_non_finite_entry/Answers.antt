@@ -1,12 +1,10 @@
 -- `setup_tables::first_non_finite_entry` meets its contract: before the entry at row and column none offends. Assumes nothing.
-use Prim.Native.Nat.{◌+◌, ◌*◌, ◌≤◌, ◌<◌, ◌-◌}
-use mathlib.Core.Path.{◌≡◌, refl, sym, ◌∙◌}
+use Prim.Native.Nat.{◌+◌, ◌*◌, ◌<◌}
+use mathlib.Core.Path.{refl, sym, ◌∙◌}
 use native.Mathlib.Omega.{arith}
 use borrow.Author.Rules.{scaled_Fits}
-use borrow.Author.Tests.{not-true, not-false}
-use lib.ListN.{length, drop}
+use lib.ListN.{length}
 use lib.Ieee.{nan}
-use Rattle.error.specs.Answer.{place}
 use Rattle.error.proofs.Places.{place-skip, place_here, place_end}
 use Rattle.error.specs.Checks.{bad_value}
 use Rattle.setup_tables.proofs.Rows.{entry-below, rows-full, rows_start, row-start, row-end, column-next}

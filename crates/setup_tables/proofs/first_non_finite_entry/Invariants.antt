@@ -1,16 +1,9 @@
 -- `setup_tables::first_non_finite_entry` meets its contract: before the entry at row and column none offends. Assumes nothing.
-use Prim.Native.Nat.{◌+◌, ◌*◌, ◌≤◌, ◌<◌, ◌-◌}
-use mathlib.Core.Path.{◌≡◌, refl, sym, ◌∙◌}
-use native.Mathlib.Omega.{arith}
-use borrow.Author.Rules.{scaled_Fits}
-use borrow.Author.Tests.{not-true, not-false}
+use Prim.Native.Nat.{◌+◌, ◌*◌, ◌≤◌, ◌-◌}
+use mathlib.Core.Path.{◌≡◌}
 use lib.ListN.{length, drop}
-use lib.Ieee.{nan}
 use Rattle.error.specs.Answer.{place}
-use Rattle.error.proofs.Places.{place-skip, place_here, place_end}
 use Rattle.error.specs.Checks.{bad_value}
-use Rattle.setup_tables.proofs.Rows.{entry-below, rows-full, rows_start, row-start, row-end, column-next}
-use Rattle.error.proofs.Finite.{finite-passes, not-finite-offends}
 use Rattle.setup_tables.proofs.first_non_finite_entry.Given as goal
 
 abbrev pub invariant-loop-column : goal.invariant-loop-column

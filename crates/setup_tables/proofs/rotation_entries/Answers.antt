@@ -1,6 +1,5 @@
 -- `setup_tables::rotation_entries` meets its contract, rotation by rotation: at most 4,096 times 4,096 entries. Assumes nothing.
 use native.Mathlib.Omega.{arith}
-use borrow.Author.Rules.{rules}
 use Rattle.setup_tables.proofs.Lengths.{matrix-fits}
 use Rattle.setup_tables.proofs.rotation_entries.Goals as goal
 

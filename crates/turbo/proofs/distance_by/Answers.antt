@@ -1,9 +1,8 @@
 -- `turbo::distance_by` meets its contract: the radii are read into room of their number. Assumes nothing.
 use Prim.Native.Nat.{◌-◌, ◌≤◌}
-use mathlib.Core.Path.{◌≡◌, ap, ◌∙◌}
+use mathlib.Core.Path.{ap, ◌∙◌}
 use mathlib.Core.List.{List}
 use native.Mathlib.Omega.{arith}
-use borrow.Author.Rules.{rules}
 use borrow.Rule.Slice.PartMut.{post_of}
 use lib.ListN.{length}
 use lib.Ieee.{Float}

@@ -1,6 +1,5 @@
 -- `turbo::inner_product_estimate` meets its contract: the phase is left out, and demand 3 asks only that the lent floats are f32. Assumes nothing.
 use mathlib.Core.Path.{◌∙◌, ap}
-use borrow.Author.Rules.{rules}
 use lib.Ieee.{nan}
 use Rattle.rounding.proofs.Folds.{all-fit-from}
 use Rattle.setup.specs.Lent.{lent}

@@ -1,7 +1,6 @@
 -- `turbo::inner_product_estimate_prepared` meets its contract: a score tells that every value of the prepared query is finite, one that passes its checks is scored, and
 -- demand 3 asks only that the lent floats are f32. Assumes nothing.
 use mathlib.Core.Path.{sym, ap, ◌∙◌}
-use borrow.Author.Rules.{rules}
 use Rattle.error.specs.Outcomes.{says, says_score}
 use Rattle.error.proofs.Chains.{first-passed}
 use Rattle.setup.specs.Checks.{scalar_checks}

@@ -2,7 +2,6 @@
 -- Assumes nothing.
 use mathlib.Core.Path.{◌≡◌, sym, ap, ◌∙◌}
 use native.Mathlib.Omega.{arith}
-use borrow.Author.Rules.{rules}
 use Rattle.error.specs.Answer.{value}
 use Rattle.error.specs.Outcomes.{says_score}
 use Rattle.setup.specs.Lent.{lent}

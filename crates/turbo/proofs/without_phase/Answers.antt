@@ -1,6 +1,5 @@
 -- `turbo::without_phase` meets its contract: a score keeps its value, a refusal its number and place, and a withdrawn position stays one. Assumes nothing.
 use mathlib.Core.Path.{sym, ap}
-use borrow.Author.Rules.{rules}
 use Rattle.turbo_phased.specs.declared.Phased.{Phased}
 use Rattle.turbo_phased.specs.Estimates.{says_phased, joined}
 use Rattle.turbo.proofs.without_phase.Goals as goal

@@ -1,5 +1,4 @@
 -- `turbo_decode::decode` meets its contract: what is rotated back are the pairs that were read. Assumes nothing.
-use borrow.Author.Rules.{rules}
 use mathlib.Core.Path.{◌∙◌}
 use lib.ListN.{length}
 use Rattle.turbo_decode.proofs.Answers.{values-back}

@@ -1,6 +1,5 @@
 -- `turbo_decode::decode_approximate` meets its contract: each return is one case of the answer's laws. Assumes nothing.
 use mathlib.Core.Path.{◌≡◌, sym, ap, ◌∙◌}
-use borrow.Author.Rules.{rules}
 use lib.ListN.{length}
 use Rattle.error.specs.Answer.{value, first, accepted}
 use Rattle.error.specs.Outcomes.{says}

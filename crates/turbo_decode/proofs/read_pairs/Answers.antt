@@ -1,5 +1,4 @@
 -- `turbo_decode::read_pairs` meets its contract: the parts that are cut are the payloads of the record. Assumes nothing.
-use borrow.Author.Rules.{rules}
 use mathlib.Core.Path.{◌∙◌}
 use Rattle.packed_parts.proofs.Handed.{radii-cut, indices-cut}
 use Rattle.turbo_decode.proofs.Answers.{paired-values}

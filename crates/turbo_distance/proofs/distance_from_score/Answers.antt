@@ -1,7 +1,6 @@
 -- `turbo_distance::distance_from_score` meets its contract: the sum is put together step by step, and judged by the two cases of the test for a NaN.
 -- Assumes nothing.
 use mathlib.Core.Path.{◌≡◌, sym, ap, ◌∙◌}
-use borrow.Author.Rules.{rules}
 use lib.Ieee.{binary32, add, sub, mul, of_bits, is_nan}
 use Rattle.error.specs.Checks.{finite_score_of}
 use Rattle.turbo_distance.specs.Distance.{distance_sum, cut_at_zero}

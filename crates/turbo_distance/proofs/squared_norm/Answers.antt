@@ -1,12 +1,10 @@
 -- `turbo_distance::squared_norm` meets its contract: the loop keeps the norm as the running sum and what is left of the list. Assumes nothing.
-use Prim.Native.Nat.{◌-◌, ◌≤◌}
-use mathlib.Core.Path.{◌≡◌, refl, ◌∙◌}
+use mathlib.Core.Path.{refl, ◌∙◌}
 use native.Mathlib.Omega.{arith}
 use borrow.Author.Rules.{scaled_Fits}
 use lib.ListN.{length}
 use lib.Ieee.{of_bits}
-use Rattle.turbo_distance.specs.Distance.{squared_norm}
-use Rattle.turbo_distance.proofs.Norms.{norm_from, norm-more, norm-end}
+use Rattle.turbo_distance.proofs.Norms.{norm-more, norm-end}
 use Rattle.turbo_distance.proofs.squared_norm.Goals as goal
 
 pub loop-i-init : goal.loop-i-init

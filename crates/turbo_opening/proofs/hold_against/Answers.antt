@@ -1,6 +1,5 @@
 -- `turbo_opening::hold_against` meets its contract: each return is one case of the answer's laws. Assumes nothing.
 use mathlib.Core.Path.{◌≡◌, sym, ap, ◌∙◌}
-use borrow.Author.Rules.{rules}
 use Rattle.error.specs.Answer.{value}
 use Rattle.packed.specs.Reading.{says_reading, read_record_of}
 use Rattle.turbo_opening.proofs.Answers.{open-refused, open-withdrawn, open-dim, open-match, open-value}

@@ -1,6 +1,5 @@
 -- `turbo_opening::open_record` meets its contract: the scalars' checks, and then the record. Assumes nothing.
 use mathlib.Core.Path.{sym, ap, ◌∙◌}
-use borrow.Author.Rules.{rules}
 use Rattle.error.specs.Outcomes.{says}
 use Rattle.turbo_opening.proofs.Answers.{open-scalars, open-usable}
 use Rattle.turbo_opening.proofs.open_record.Goals as goal

@@ -1,5 +1,4 @@
 -- `turbo_opening::other_match` meets its contract: the two tests in the definition's order. Assumes nothing.
-use borrow.Author.Rules.{rules}
 use Rattle.turbo_opening.proofs.Answers.{match-bits, match-projections}
 use Rattle.turbo_opening.proofs.other_match.Goals as goal
 

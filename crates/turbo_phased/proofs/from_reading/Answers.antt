@@ -1,6 +1,5 @@
 -- `turbo_phased::from_reading` meets its contract. Assumes nothing.
 use mathlib.Core.Path.{sym, ap}
-use borrow.Author.Rules.{rules}
 use Rattle.error.specs.Answer.{value}
 use Rattle.error.specs.Outcomes.{says_score}
 use Rattle.error.specs.declared.Scored.{Scored}

@@ -1,6 +1,5 @@
 -- `turbo_phased::inner_product_estimate_phased` meets its contract: the scalars are judged first. Assumes nothing.
 use mathlib.Core.Path.{sym, ap, ◌∙◌}
-use borrow.Author.Rules.{rules}
 use Rattle.error.specs.Outcomes.{says}
 use Rattle.setup.specs.Lent.{lent}
 use Rattle.turbo_query.proofs.Answers.{query-scalars}

@@ -1,6 +1,5 @@
 -- `turbo_phased::measure_within` meets its contract: the score reads what the turned query has left. Assumes nothing.
 use mathlib.Core.Path.{sym, ap, ◌∙◌}
-use borrow.Author.Rules.{rules}
 use Rattle.error.specs.Answer.{value}
 use Rattle.error.specs.Outcomes.{says}
 use Rattle.error.proofs.Chains.{first-passed}

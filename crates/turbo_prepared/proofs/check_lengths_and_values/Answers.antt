@@ -1,6 +1,5 @@
 -- `turbo_prepared::check_lengths_and_values` meets its contract: each return is one case of the laws of these checks. Assumes nothing.
 use mathlib.Core.Path.{sym, ◌∙◌}
-use borrow.Author.Rules.{rules}
 use Rattle.turbo_prepared.proofs.Answers.{lengths-rotated, lengths-projected, lengths-passed}
 use Rattle.turbo_prepared.proofs.check_lengths_and_values.Goals as goal
 

@@ -1,6 +1,5 @@
 -- `turbo_prepared::check_prepared` meets its contract: the setup is judged first, and what is left of the checks is another call's. Assumes nothing.
 use mathlib.Core.Path.{◌≡◌, sym, ap, ◌∙◌}
-use borrow.Author.Rules.{rules}
 use Rattle.error.specs.Answer.{first, accepted}
 use Rattle.error.specs.Outcomes.{says}
 use Rattle.setup.specs.Checks.{scalar_checks}

@@ -1,7 +1,6 @@
 -- `turbo_prepared::inner_product_estimate_prepared_phased` meets its contract: what the checks refuse comes before the record is read, and the rest is the answer from
 -- its reading on. Assumes nothing.
 use mathlib.Core.Path.{sym, ap, ◌∙◌}
-use borrow.Author.Rules.{rules}
 use Rattle.error.specs.Answer.{value}
 use Rattle.error.specs.Outcomes.{says}
 use Rattle.error.proofs.Chains.{first-passed}

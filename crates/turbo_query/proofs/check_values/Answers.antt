@@ -1,6 +1,5 @@
 -- `turbo_query::check_values` meets its contract: each return is one case of the laws of these checks. Assumes nothing.
 use mathlib.Core.Path.{sym}
-use borrow.Author.Rules.{rules}
 use Rattle.turbo_query.proofs.Turned.{values-rotated, values-projected, values-passed}
 use Rattle.turbo_query.proofs.check_values.Goals as goal
 

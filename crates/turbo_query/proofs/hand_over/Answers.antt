@@ -1,6 +1,5 @@
 -- `turbo_query::hand_over` meets its contract: where the checks pass, both outputs are as long as what is copied to them. Assumes nothing.
 use mathlib.Core.Path.{sym, ap, ◌∙◌}
-use borrow.Author.Rules.{rules}
 use Rattle.error.specs.Outcomes.{says}
 use Rattle.turbo_query.proofs.Answers.{handed-refused, handed-copied}
 use Rattle.turbo_query.proofs.hand_over.Goals as goal

@@ -1,7 +1,5 @@
 -- `turbo_query::is_clean` meets its contract. Assumes nothing.
 use mathlib.Core.Path.{sym, ap, ◌∙◌}
-use borrow.Author.Tests.{not-true, not-false}
-use borrow.Author.Rules.{rules}
 use Rattle.error.specs.Outcomes.{says}
 use Rattle.turbo_query.proofs.Turned.{clean-refused, clean-not, clean-rest}
 use Rattle.turbo_query.proofs.is_clean.Goals as goal

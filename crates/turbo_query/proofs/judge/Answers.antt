@@ -1,6 +1,5 @@
 -- `turbo_query::judge` meets its contract: each return is one case of the laws of its answer. Assumes nothing.
 use mathlib.Core.Path.{sym, ap, ◌∙◌}
-use borrow.Author.Rules.{rules}
 use Rattle.error.specs.Outcomes.{says}
 use Rattle.setup.specs.Lent.{lent}
 use Rattle.turbo_query.proofs.Turned.{judge-clean, judge-refused, judge-unturned, judge-values}

@@ -2,11 +2,9 @@
 use Prim.Native.Nat.{◌≤◌}
 use mathlib.Core.Path.{◌∙◌}
 use native.Mathlib.Omega.{arith}
-use borrow.Author.Tests.{ltb-false}
 use lib.ListN.{length}
 use Rattle.lists.proofs.Parts.{part-long}
 use Rattle.setup.proofs.Scalars.{scalars-usable}
-use borrow.Author.Rules.{rules}
 use Rattle.turbo_query.proofs.prepare.Goals.{After-few_zeros-sums, After-zeros-sums}
 use Rattle.turbo_query.proofs.prepare.Goals as goal
 

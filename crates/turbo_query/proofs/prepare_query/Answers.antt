@@ -3,7 +3,6 @@ use mathlib.Core.Path.{sym, ap, ◌∙◌}
 use Rattle.error.specs.Outcomes.{says}
 use Rattle.setup.specs.Lent.{lent}
 use Rattle.turbo_query.proofs.Answers.{query-scalars, prepare-refused}
-use borrow.Author.Rules.{rules}
 use Rattle.turbo_turn.proofs.Turned.{said_rotated_projected}
 use Rattle.turbo_query.proofs.prepare_query.Goals as goal
 

@@ -1,6 +1,5 @@
 -- `turbo_query::prepare_within` meets its contract: a check of the query refuses, or what is handed over decides. Assumes nothing.
 use mathlib.Core.Path.{sym, ap, ◌∙◌}
-use borrow.Author.Rules.{rules}
 use Rattle.turbo_turn.proofs.Turned.{said_rotated_projected}
 use Rattle.error.specs.Outcomes.{says}
 use Rattle.setup.specs.Lent.{lent}

@@ -3,7 +3,6 @@ use mathlib.Core.Path.{sym, ap, ◌∙◌}
 use mathlib.Core.Bool.{Bool, cond}
 use Rattle.polar_blocks.specs.declared.PayloadSum.TheVariants.{Sum, Otherwise}
 use Rattle.turbo_record.specs.Inner.{finite_sum_of}
-use borrow.Author.Rules.{rules}
 use Rattle.turbo_record.proofs.finite_sum.Goals as goal
 
 pub returns-then-is_finite : goal.returns-then-is_finite

@@ -2,7 +2,6 @@
 use mathlib.Core.Path.{sym, ◌∙◌}
 use Rattle.turbo_opening.proofs.Answers.{opened-as-read}
 use Rattle.turbo_record.proofs.Scoring.{record-alone, record-both}
-use borrow.Author.Rules.{rules}
 use Rattle.turbo_record.proofs.opened_score.Goals as goal
 
 pub polar_part-polar-requires : goal.polar_part-polar-requires

@@ -1,10 +1,9 @@
 -- `turbo_record::peeked_polar` meets its contract: the payloads are the parts that the header gives. Assumes nothing.
-use mathlib.Core.Path.{◌≡◌, sym, ◌∙◌}
+use mathlib.Core.Path.{sym, ◌∙◌}
 use native.Mathlib.Omega.{arith}
 use lib.ListN.{length}
 use Rattle.packed.proofs.Parts.{Ordered, ordered, radii_part, indices_part}
 use Rattle.turbo_record.proofs.Peeked.{payload-summed}
-use borrow.Author.Rules.{rules}
 use Rattle.turbo_record.proofs.peeked_polar.Goals.{Start}
 use Rattle.turbo_record.proofs.peeked_polar.Goals as goal
 

@@ -1,5 +1,5 @@
 -- `turbo_record::peeked_score` meets its contract: the parts of the record are those of the score, by mode. Assumes nothing.
-use mathlib.Core.Path.{◌≡◌, sym, ◌∙◌, subst}
+use mathlib.Core.Path.{sym, ◌∙◌, subst}
 use Rattle.polar.specs.Polar.{polar_sum_of}
 use Rattle.polar_blocks.specs.declared.PayloadSum.{PayloadSum}
 use Rattle.polar_blocks.specs.declared.PayloadSum.TheVariants.{Sum}
@@ -8,7 +8,6 @@ use Rattle.packed.proofs.Frame.{peek-whole}
 use Rattle.turbo_record.specs.Inner.{Summed}
 use Rattle.turbo_record.proofs.Scoring.{record-alone, record-both}
 use Rattle.turbo_record.proofs.Peeked.{peeked-read, peeked_opened}
-use borrow.Author.Rules.{rules}
 use Rattle.turbo_record.proofs.peeked_score.Goals.{In-Sum}
 use Rattle.turbo_record.proofs.peeked_score.Goals as goal
 

@@ -1,16 +1,15 @@
 -- `turbo_record::polar_part` meets its contract: the parts of the two arrays that were filled are the parts that the sum reads. Assumes nothing.
-use Prim.Native.Nat.{ℕ, ◌-◌, ◌/◌, ◌≤◌}
-use mathlib.Core.Path.{◌≡◌, ap, ◌∙◌}
+use Prim.Native.Nat.{ℕ, ◌-◌, ◌/◌}
+use mathlib.Core.Path.{ap, ◌∙◌}
 use mathlib.Core.List.{List, ◌++◌}
 use native.Mathlib.Omega.{arith}
 use borrow.Rule.Slice.PartMut.{post_of}
-use lib.ListN.{length, take}
+use lib.ListN.{take}
 use lib.Ieee.{Float}
 use Rattle.lists.proofs.Parts.{part-enough}
 use Rattle.polar.specs.Polar.{polar_sum_of}
-use Rattle.packed.specs.Reading.{radii_of, indices_of}
+use Rattle.packed.specs.Reading.{indices_of}
 use Rattle.packed_values.proofs.Scratch.{read_pairs-most, radii-lent, indices-lent}
-use borrow.Author.Rules.{rules}
 use Rattle.turbo_record.proofs.polar_part.Goals as goal
 
 pub slice_bounds-radii-end : goal.slice_bounds-radii-end

@@ -7,7 +7,6 @@ use Rattle.polar_blocks.specs.declared.PayloadSum.{PayloadSum}
 use Rattle.setup.specs.Checks.{scalar_checks}
 use Rattle.turbo_record.specs.Scoring.{record_score_of}
 use Rattle.turbo_record.specs.Inner.{Answered}
-use borrow.Author.Rules.{rules}
 use Rattle.turbo_record.proofs.record_score.Goals.{In_default}
 use Rattle.turbo_record.proofs.record_score.Goals as goal
 

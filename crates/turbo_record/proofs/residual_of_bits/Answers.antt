@@ -1,12 +1,11 @@
 -- `turbo_record::residual_of_bits` meets its contract: the signs' bytes are the part that the header gives. Assumes nothing.
-use mathlib.Core.Path.{◌≡◌, sym, ◌∙◌}
+use mathlib.Core.Path.{sym, ◌∙◌}
 use native.Mathlib.Omega.{arith}
 use lib.ListN.{length}
 use Rattle.packed.proofs.Accepted.{read-header, read_accepts}
 use Rattle.packed.proofs.Parts.{Ordered, ordered, signs_part}
 use Rattle.packed_values.proofs.Scratch.{read-projections-most}
 use Rattle.turbo_record.proofs.Peeked.{bits-residual}
-use borrow.Author.Rules.{rules}
 use Rattle.turbo_record.proofs.residual_of_bits.Goals.{Start}
 use Rattle.turbo_record.proofs.residual_of_bits.Goals as goal
 

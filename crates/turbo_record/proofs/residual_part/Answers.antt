@@ -13,7 +13,6 @@ use Rattle.packed.specs.Reading.{signs_of}
 use Rattle.packed.proofs.Accepted.{read-header}
 use Rattle.packed.proofs.Parts.{header_projections_lem, header_norm_lem}
 use Rattle.packed_values.proofs.Scratch.{read-projections-most, signs-lent}
-use borrow.Author.Rules.{rules}
 use Rattle.turbo_record.proofs.residual_part.Goals as goal
 
 pub slice_bounds-signs-end : goal.slice_bounds-signs-end

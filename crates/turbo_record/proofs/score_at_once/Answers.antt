@@ -5,7 +5,6 @@ use Rattle.packed.specs.Reading.{says_reading}
 use Rattle.turbo_record.specs.Scoring.{record_score_of}
 use Rattle.turbo_record.specs.Inner.{Peeked, Answered}
 use Rattle.turbo_record.proofs.Peeked.{summed-answered}
-use borrow.Author.Rules.{rules}
 use Rattle.turbo_record.proofs.score_at_once.Goals.{Else-other}
 use Rattle.turbo_record.proofs.score_at_once.Goals as goal
 

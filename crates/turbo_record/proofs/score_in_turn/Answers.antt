@@ -5,7 +5,6 @@ use Rattle.packed.specs.Reading.{says_reading}
 use Rattle.turbo_opening.specs.Inner.{opened_of}
 use Rattle.turbo_opening.proofs.Answers.{open-usable}
 use Rattle.turbo_record.proofs.Scoring.{record-refused, record-withdrawn, record-finite, record-infinite}
-use borrow.Author.Rules.{rules}
 use Rattle.turbo_record.proofs.score_in_turn.Goals.{In-Read}
 use Rattle.turbo_record.proofs.score_in_turn.Goals as goal
 

@@ -3,7 +3,6 @@ use Prim.Native.Nat.{ℕ, ◌*◌}
 use mathlib.Core.Path.{◌≡◌, sym, ap, ◌∙◌}
 use native.Mathlib.Omega.{arith}
 use native.Mathlib.Nat.{mul-le-mul}
-use borrow.Author.Rules.{rules}
 use Rattle.error.specs.Answer.{refused, first, accepted}
 use Rattle.error.specs.Outcomes.{says}
 use Rattle.setup.specs.Setups.{matrix_needed}

@@ -1,6 +1,5 @@
 -- `turbo_turn::turn_query` meets its contract: the checks before the rotation's refuse, or the rotation decides, and then the projection refuses nothing. Assumes nothing.
 use mathlib.Core.Path.{◌≡◌, refl, sym, ap, ◌∙◌}
-use borrow.Author.Rules.{rules}
 use lib.ListN.{length}
 use Rattle.error.specs.Answer.{first, accepted}
 use Rattle.error.specs.Outcomes.{says}

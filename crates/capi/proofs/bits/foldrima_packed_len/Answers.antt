@@ -1,6 +1,5 @@
 -- `capi::bits::foldrima_packed_len` meets its contract. Assumes nothing.
 use Rattle.capi_answers.proofs.Tell.{told-as, left_as}
-use borrow.Author.Rules.{rules}
 use Rattle.capi.proofs.bits.foldrima_packed_len.Goals as goal
 
 pub returns : goal.returns

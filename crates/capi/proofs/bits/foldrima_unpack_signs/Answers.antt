@@ -1,6 +1,5 @@
 -- `capi::bits::foldrima_unpack_signs` meets its contract. Assumes nothing.
 use Rattle.capi_answers.proofs.Tell.{told-as}
-use borrow.Author.Rules.{rules}
 use Rattle.capi.proofs.bits.foldrima_unpack_signs.Goals as goal
 
 pub returns : goal.returns

@@ -1,6 +1,5 @@
 -- `capi::bits::foldrima_validate_padding_zero` meets its contract. Assumes nothing.
 use Rattle.capi_answers.proofs.Tell.{told-as}
-use borrow.Author.Rules.{rules}
 use Rattle.capi.proofs.bits.foldrima_validate_padding_zero.Goals as goal
 
 pub returns : goal.returns

@@ -1,6 +1,5 @@
 -- `capi::books::foldrima_dequantize_angle` meets its contract. Assumes nothing.
 use Rattle.capi_answers.proofs.Tell.{told-as, left_as}
-use borrow.Author.Rules.{rules}
 use Rattle.capi.proofs.books.foldrima_dequantize_angle.Goals as goal
 
 pub returns : goal.returns

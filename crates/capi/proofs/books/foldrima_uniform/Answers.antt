@@ -1,6 +1,5 @@
 -- `capi::books::foldrima_uniform` meets its contract. Assumes nothing.
 use Rattle.capi_answers.proofs.Tell.{told-as}
-use borrow.Author.Rules.{rules}
 use Rattle.capi.proofs.books.foldrima_uniform.Goals as goal
 
 pub returns : goal.returns

@@ -6,7 +6,6 @@ use Rattle.radius.specs.Codec.{compress_range_of, compress_bytes_of}
 use Rattle.capi_answers.specs.Codes.{min_of, max_of}
 use mathlib.Core.Path.{ap, ◌∙◌}
 use Rattle.capi_answers.proofs.Tell.{told-as, part-as}
-use borrow.Author.Rules.{rules}
 use Rattle.capi.proofs.radii.foldrima_compress.Goals as goal
 
 pub returns : goal.returns

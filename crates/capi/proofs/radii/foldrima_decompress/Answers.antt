@@ -6,7 +6,6 @@ use Rattle.radius.specs.Codec.{decompress_of}
 use Rattle.capi_answers.specs.Codes.{range_from}
 use mathlib.Core.Path.{ap, ◌∙◌}
 use Rattle.capi_answers.proofs.Tell.{told-as}
-use borrow.Author.Rules.{rules}
 use Rattle.capi.proofs.radii.foldrima_decompress.Goals as goal
 
 pub returns : goal.returns

@@ -1,7 +1,6 @@
 -- `capi::records::foldrima_read_record` meets its contract. Assumes nothing.
 use Rattle.capi_answers.specs.Codes.{header_mode, header_profile, header_dim, header_bits, header_projections, header_min, header_max, header_has_norm, header_norm}
 use Rattle.capi_answers.proofs.Tell.{told-as, part-as}
-use borrow.Author.Rules.{rules}
 use Rattle.capi.proofs.records.foldrima_read_record.Goals as goal
 
 pub returns : goal.returns

@@ -1,6 +1,5 @@
 -- `capi::records::foldrima_read_signs` meets its contract. Assumes nothing.
 use Rattle.capi_answers.proofs.Tell.{told-as}
-use borrow.Author.Rules.{rules}
 use Rattle.capi.proofs.records.foldrima_read_signs.Goals as goal
 
 pub returns : goal.returns

@@ -3,7 +3,6 @@ use mathlib.Core.Path.{ap, ◌∙◌}
 use lib.Ieee.{of_bits}
 use Rattle.packed_size.specs.Size.{record_size_of}
 use Rattle.capi_answers.proofs.Tell.{told-as, left_as}
-use borrow.Author.Rules.{rules}
 use Rattle.capi.proofs.records.foldrima_record_size.Goals as goal
 
 pub returns : goal.returns

@@ -1,6 +1,5 @@
 -- `capi::records::foldrima_signs_part` meets its contract: the start and the length of the part that the library hands back. Assumes nothing.
 use Rattle.packed_parts.proofs.Handed.{signs-payload, payload-told}
-use borrow.Author.Rules.{rules}
 use Rattle.capi.proofs.records.foldrima_signs_part.Goals as goal
 
 pub returns : goal.returns

@@ -7,7 +7,6 @@ use Rattle.error.specs.Answer.{Answer, done, after}
 use Rattle.packed.specs.declared.Code.{Code}
 use Rattle.packed_writing.specs.Writing.{write_record_of}
 use Rattle.capi_answers.proofs.Tell.{told-as}
-use borrow.Author.Rules.{rules}
 use Rattle.capi.proofs.records.foldrima_write_record.Goals as goal
 
 pub returns : goal.returns

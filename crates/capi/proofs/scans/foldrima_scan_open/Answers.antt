@@ -1,6 +1,5 @@
 -- `capi::scans::foldrima_scan_open` meets its contract. Assumes nothing.
 use Rattle.capi_answers.proofs.Tell.{told-as}
-use borrow.Author.Rules.{rules}
 use Rattle.capi.proofs.scans.foldrima_scan_open.Goals as goal
 
 pub returns : goal.returns

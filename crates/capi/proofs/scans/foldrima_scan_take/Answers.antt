@@ -7,7 +7,6 @@ use Rattle.scan.specs.Scans.{scan_of}
 use Rattle.scan.specs.Events.{Event, take_of, after_taking}
 use Rattle.scan_taking.specs.Taking.{by_query, event_of}
 use Rattle.capi_answers.proofs.Tell.{told-as, left_as}
-use borrow.Author.Rules.{rules}
 use Rattle.capi.proofs.scans.foldrima_scan_take.Goals as goal
 
 pub returns : goal.returns

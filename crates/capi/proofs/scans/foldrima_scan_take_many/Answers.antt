@@ -6,7 +6,6 @@ use Rattle.scan.specs.declared.Scan.{Scan}
 use Rattle.scan.specs.Scans.{scan_of}
 use Rattle.scan_many.specs.Many.{take_many_of}
 use Rattle.capi_answers.proofs.Tell.{told-as, left_as}
-use borrow.Author.Rules.{rules}
 use Rattle.capi.proofs.scans.foldrima_scan_take_many.Goals as goal
 
 pub returns : goal.returns

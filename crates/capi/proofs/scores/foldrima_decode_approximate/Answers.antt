@@ -6,7 +6,6 @@ use Rattle.setup.specs.Lent.{lent}
 use Rattle.setup.specs.declared.Setup.{Setup}
 use Rattle.turbo_decode.specs.Decode.{decode_approximate_of}
 use Rattle.capi_answers.proofs.Tell.{told-as}
-use borrow.Author.Rules.{rules}
 use Rattle.capi.proofs.scores.foldrima_decode_approximate.Goals as goal
 
 pub returns : goal.returns

@@ -4,7 +4,6 @@ use Rattle.setup.specs.Lent.{lent}
 use Rattle.setup.specs.declared.Setup.{Setup}
 use Rattle.turbo_phased.specs.Estimates.{inner_product_estimate_of}
 use Rattle.capi_answers.proofs.Tell.{told-as, left_as}
-use borrow.Author.Rules.{rules}
 use Rattle.capi.proofs.scores.foldrima_inner_product_estimate.Goals as goal
 
 pub returns : goal.returns

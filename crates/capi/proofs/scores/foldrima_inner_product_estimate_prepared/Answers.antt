@@ -3,7 +3,6 @@ use mathlib.Core.Path.{ap, ◌∙◌}
 use Rattle.setup.specs.declared.Setup.{Setup}
 use Rattle.turbo_phased.specs.Estimates.{inner_product_estimate_prepared_of}
 use Rattle.capi_answers.proofs.Tell.{told-as, left_as}
-use borrow.Author.Rules.{rules}
 use Rattle.capi.proofs.scores.foldrima_inner_product_estimate_prepared.Goals as goal
 
 pub returns : goal.returns

@@ -6,7 +6,6 @@ use Rattle.setup.specs.Lent.{lent}
 use Rattle.setup.specs.declared.Setup.{Setup}
 use Rattle.turbo_query.specs.Query.{prepare_rotated_of, prepare_projected_of}
 use Rattle.capi_answers.proofs.Tell.{told-as}
-use borrow.Author.Rules.{rules}
 use Rattle.capi.proofs.scores.foldrima_prepare_query.Goals as goal
 
 pub returns : goal.returns

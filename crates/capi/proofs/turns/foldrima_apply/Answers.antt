@@ -1,6 +1,5 @@
 -- `capi::turns::foldrima_apply` meets its contract. Assumes nothing.
 use Rattle.capi_answers.proofs.Tell.{told-as}
-use borrow.Author.Rules.{rules}
 use Rattle.capi.proofs.turns.foldrima_apply.Goals as goal
 
 pub returns : goal.returns

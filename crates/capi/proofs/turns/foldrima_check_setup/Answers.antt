@@ -5,7 +5,6 @@ use Rattle.setup.specs.declared.Setup.{Setup}
 use Rattle.setup_tables.specs.Checks.{setup_checks}
 use mathlib.Core.Path.{ap, ◌∙◌}
 use Rattle.capi_answers.proofs.Tell.{told-as}
-use borrow.Author.Rules.{rules}
 use Rattle.capi.proofs.turns.foldrima_check_setup.Goals as goal
 
 pub returns : goal.returns

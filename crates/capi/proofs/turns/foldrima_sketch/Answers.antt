@@ -6,7 +6,6 @@ use Rattle.setup.specs.declared.Setup.{Setup}
 use Rattle.qjl.specs.Sketch.{sketch_of}
 use mathlib.Core.Path.{ap, ◌∙◌}
 use Rattle.capi_answers.proofs.Tell.{told-as}
-use borrow.Author.Rules.{rules}
 use Rattle.capi.proofs.turns.foldrima_sketch.Goals as goal
 
 pub returns : goal.returns

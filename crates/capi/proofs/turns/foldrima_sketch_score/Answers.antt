@@ -4,7 +4,6 @@ use Rattle.setup.specs.declared.Setup.{Setup}
 use Rattle.qjl.specs.Score.{sketch_score_of}
 use mathlib.Core.Path.{ap, ◌∙◌}
 use Rattle.capi_answers.proofs.Tell.{told-as, left_as}
-use borrow.Author.Rules.{rules}
 use Rattle.capi.proofs.turns.foldrima_sketch_score.Goals as goal
 
 pub returns : goal.returns

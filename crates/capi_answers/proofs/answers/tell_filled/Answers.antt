@@ -2,7 +2,6 @@
 use mathlib.Core.Path.{ap}
 use Rattle.error.specs.Outcomes.{says_filled}
 use Rattle.capi_answers.proofs.Tell.{told-withdrawn}
-use borrow.Author.Rules.{rules}
 use Rattle.capi_answers.proofs.answers.tell_filled.Goals as goal
 
 pub returns-in-Withdrawn : goal.returns-in-Withdrawn

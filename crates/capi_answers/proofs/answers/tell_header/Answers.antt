@@ -3,7 +3,6 @@ use mathlib.Core.Path.{ap, ◌∙◌}
 use Rattle.packed.specs.Reading.{says_reading}
 use Rattle.capi_answers.specs.Codes.{header_mode, header_profile, header_dim, header_bits, header_projections, header_min, header_max, header_has_norm, header_norm}
 use Rattle.capi_answers.proofs.Tell.{part-value, part-refused, part-withdrawn}
-use borrow.Author.Rules.{rules}
 use Rattle.capi_answers.proofs.answers.tell_header.Goals as goal
 
 pub returns-in-Read : goal.returns-in-Read

@@ -4,7 +4,6 @@ use Rattle.error.specs.Answer.{after}
 use Rattle.turbo_phased.specs.declared.Phased.{Phased}
 use Rattle.turbo_phased.specs.Estimates.{says_phased, joined}
 use Rattle.capi_answers.specs.Told.{told}
-use borrow.Author.Rules.{rules}
 use Rattle.capi_answers.proofs.answers.tell_phased.Goals as goal
 
 pub returns-in-Withdrawn : goal.returns-in-Withdrawn

@@ -3,7 +3,6 @@ use mathlib.Core.Path.{ap}
 use Rattle.radius_writing.specs.Says.{says_range}
 use Rattle.capi_answers.specs.Codes.{min_of, max_of}
 use Rattle.capi_answers.proofs.Tell.{told-value, told-refused, part-value, part-refused}
-use borrow.Author.Rules.{rules}
 use Rattle.capi_answers.proofs.answers.tell_range.Goals as goal
 
 pub returns-in-Made : goal.returns-in-Made

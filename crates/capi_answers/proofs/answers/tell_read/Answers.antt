@@ -2,7 +2,6 @@
 use mathlib.Core.Path.{ap}
 use Rattle.packed.specs.Reading.{says_reading}
 use Rattle.capi_answers.proofs.Tell.{told-withdrawn}
-use borrow.Author.Rules.{rules}
 use Rattle.capi_answers.proofs.answers.tell_read.Goals as goal
 
 pub returns-in-Withdrawn : goal.returns-in-Withdrawn

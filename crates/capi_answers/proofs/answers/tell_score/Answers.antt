@@ -4,7 +4,6 @@ use lib.Ieee.{Float}
 use Rattle.error.specs.Answer.{Answer, after}
 use Rattle.error.specs.Outcomes.{says_score}
 use Rattle.capi_answers.proofs.Tell.{told-withdrawn}
-use borrow.Author.Rules.{rules}
 use Rattle.capi_answers.proofs.answers.tell_score.Goals as goal
 
 pub returns-in-Withdrawn : goal.returns-in-Withdrawn

@@ -1,5 +1,4 @@
 -- `capi_answers::codes::code` meets its contract. Assumes nothing.
-use borrow.Author.Rules.{rules}
 use Rattle.capi_answers.proofs.codes.code.Goals as goal
 
 pub returns : goal.returns

@@ -1,5 +1,4 @@
 -- `capi_answers::codes::setup` meets its contract. Assumes nothing.
-use borrow.Author.Rules.{rules}
 use Rattle.capi_answers.proofs.codes.setup.Goals as goal
 
 pub returns : goal.returns

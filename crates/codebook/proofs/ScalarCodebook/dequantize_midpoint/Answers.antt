@@ -1,13 +1,11 @@
 -- `codebook::ScalarCodebook::dequantize_midpoint` meets its contract: it says what the check says, then 15, then the midpoint. Assumes nothing.
-use mathlib.Core.Path.{◌≡◌, sym, ap, ◌∙◌}
-use mathlib.Core.List.{[], ◌∷◌}
+use mathlib.Core.Path.{sym, ap, ◌∙◌}
+use mathlib.Core.List.{◌∷◌}
 use native.Mathlib.Omega.{arith}
-use borrow.Author.Rules.{rules}
 use borrow.Author.Tests.{le-leb, lt-leb}
 use Rattle.error.specs.Answer.{value, first}
 use Rattle.error.specs.Outcomes.{says}
 use Rattle.codebook.specs.Codebook.{middle_of, dequantize_midpoint_of}
-use Rattle.codebook.specs.Inner.{check_of}
 use Rattle.error.specs.Checks.{wrong_index}
 use Rattle.codebook.proofs.Checks.{check-refused, check-passed, check-narrow}
 use Rattle.float.proofs.Levels.{levels-most, levels-in_float}

@@ -1,7 +1,6 @@
 -- `codebook::ScalarCodebook::levels` meets its contract: it says what the check says, or the power of two. Assumes nothing.
 use Prim.Native.Nat.{◌^◌}
 use mathlib.Core.Path.{sym, ap, ◌∙◌}
-use borrow.Author.Rules.{rules}
 use Rattle.error.specs.Answer.{value}
 use Rattle.error.specs.Outcomes.{says}
 use Rattle.codebook.specs.Codebook.{levels_of}

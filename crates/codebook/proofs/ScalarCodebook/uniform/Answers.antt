@@ -1,6 +1,5 @@
 -- `codebook::ScalarCodebook::uniform` meets its contract: it says what the check says. Assumes nothing.
 use mathlib.Core.Path.{sym, ap, ◌∙◌}
-use borrow.Author.Rules.{rules}
 use Rattle.error.specs.Answer.{value}
 use Rattle.error.specs.Outcomes.{says}
 use Rattle.codebook.specs.Codebook.{uniform_of}

@@ -1,5 +1,5 @@
 -- `replay::frame::sign_view` ends and stays within the case. Assumes nothing.
-use Rattle.std.proofs.Common.{◌-◌, ◌≤◌, rules}
+use Rattle.std.proofs.Common.{◌-◌, ◌≤◌}
 use Rattle.replay.proofs.frame.sign_view.Given as goal
 
 abbrev pub invariant-loop-i : goal.invariant-loop-i

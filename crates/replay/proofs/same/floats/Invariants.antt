@@ -1,5 +1,5 @@
 -- `replay::same::floats` ends and stays within its lists. Assumes nothing.
-use Rattle.std.proofs.Common.{◌-◌, ◌≤◌, length, rules}
+use Rattle.std.proofs.Common.{◌-◌, ◌≤◌, length}
 use Rattle.replay.proofs.same.floats.Given as goal
 
 abbrev pub invariant-loop-i : goal.invariant-loop-i

@@ -1,7 +1,6 @@
 -- `worked::show::numbers` ends and stays within the list. Assumes nothing.
 use Prim.Native.Nat.{◌≤◌, ◌-◌}
 use lib.ListN.{length}
-use borrow.Author.Rules.{rules}
 use Rattle.worked.proofs.show.numbers.Given as goal
 
 abbrev pub invariant-loop-i : goal.invariant-loop-i

@@ -1,6 +1,5 @@
 -- `worked::show::text` ends: each turn leaves one byte less to copy. Assumes nothing.
 use Prim.Native.Nat.{◌≤◌}
-use borrow.Author.Rules.{rules}
 use Rattle.worked.proofs.show.text.Given as goal
 
 abbrev pub invariant-loop-left : goal.invariant-loop-left
