@@ -1,7 +1,7 @@
 -- `scan_many::enter_many` meets its contract: each record that enters leaves those behind it. Assumes nothing.
 use Prim.Native.Nat.{◌-◌, ◌≤◌}
 use mathlib.Core.Path.{◌≡◌}
-use mathlib.Core.List.{◌∷◌}
+use mathlib.Core.List.{[], ◌∷◌}
 use lib.ListN.{length, drop}
 use Rattle.error.specs.Answer.{first, accepted}
 use Rattle.setup.specs.Checks.{scalar_checks}

@@ -1,6 +1,6 @@
 -- `setup_tables::check_tables` meets its contract: the checks of the lengths, and then those of the rotation and the directions. Assumes nothing.
 use mathlib.Core.Path.{◌≡◌, sym, ap, ◌∙◌}
-use mathlib.Core.List.{◌∷◌}
+use mathlib.Core.List.{[], ◌∷◌}
 use Rattle.error.specs.Answer.{first, each, accepted}
 use Rattle.error.specs.Outcomes.{says}
 use Rattle.error.proofs.Chains.{append-passed, append-refused}

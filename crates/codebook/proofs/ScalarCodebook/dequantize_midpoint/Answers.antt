@@ -1,6 +1,6 @@
 -- `codebook::ScalarCodebook::dequantize_midpoint` meets its contract: it says what the check says, then 15, then the midpoint. Assumes nothing.
 use mathlib.Core.Path.{sym, ap, ◌∙◌}
-use mathlib.Core.List.{◌∷◌}
+use mathlib.Core.List.{[], ◌∷◌}
 use native.Mathlib.Omega.{arith}
 use borrow.Author.Tests.{le-leb, lt-leb}
 use Rattle.error.specs.Answer.{value, first}
