@@ -14,4 +14,4 @@ returns c = let a = c.args in
     let w = c.write_record in
     let written : Code → Answer (List ℕ) = λ x. write_record_of x a.radii.now a.indices.now a.signs.now (length a.out.now) in
     let e = ap written c.code-code.ensures in
-    record { answer = told-as c.tell.ensures (w.ensures.0 ∙ ap done e); left = w.ensures.1 ∙ ap (λ (x : Answer (List ℕ)). after x a.out.now) e }
+    record { answer = told-as c.tell.ensures (w.ensures.said ∙ ap done e); left = w.ensures.left ∙ ap (λ (x : Answer (List ℕ)). after x a.out.now) e }

@@ -13,4 +13,4 @@ pub returns : goal.returns
 returns c = let a = c.args in
     let w = c.take_within-taken.ensures in
     let e = ap (λ (s : Setup). event_of (by_query s (lent a.rotation.now a.directions.now a.matrix.now) a.query.now a.bytes.now)) c.setup-setup.ensures in
-    let j = ap joined (w.0 ∙ ap (λ (x : Event). take_of a.tally.taken x) e) in record { answer = told-as c.tell_phased.ensures.answer j; value = left_as a.value.now c.tell_phased.ensures.left j; left = w.1.0 ∙ ap (λ (x : Event). after_taking (scan_of a.tally a.numbers.now a.scores.now) x) e }
+    let j = ap joined (w.said ∙ ap (λ (x : Event). take_of a.tally.taken x) e) in record { answer = told-as c.tell_phased.ensures.answer j; value = left_as a.value.now c.tell_phased.ensures.left j; left = w.left ∙ ap (λ (x : Event). after_taking (scan_of a.tally a.numbers.now a.scores.now) x) e }

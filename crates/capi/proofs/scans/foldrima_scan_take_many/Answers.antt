@@ -13,4 +13,4 @@ returns c = let a = c.args in
     let w = c.take_many_within-many.ensures in
     let scan = scan_of a.tally a.numbers.now a.scores.now in
     let e = ap (λ (s : Setup). take_many_of scan s a.directions.now a.rotated.now a.projected.now a.bytes.now a.ends.now) c.setup-setup.ensures in
-    record { answer = told-as c.tell.ensures (w.0 ∙ ap (λ (x : Answer Scan). done x) e); left = left_as scan w.1.0 e }
+    record { answer = told-as c.tell.ensures (w.said ∙ ap (λ (x : Answer Scan). done x) e); left = left_as scan w.left e }
