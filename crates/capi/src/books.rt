@@ -77,7 +77,7 @@ pub extern "C" fn foldrima_dequantize_midpoint(
     tell_midpoint(book.dequantize_midpoint(index), number, place, value);
 }
 
-// IEEE 754's square_root.
+// IEEE 754's squareRoot.
 #[unsafe(no_mangle)]
 pub extern "C" fn foldrima_sqrt(x: f32) -> f32
     ensures { result ≡ square_root x }

@@ -1,5 +1,5 @@
 -- The square root of an f32 stands here twice. `NearestRoot x r` says what it is: r is the f32 nearest to the root of x, by comparing integer squares. `square_root`
--- works it out for every float. Document 01: 'The root of any f32 is IEEE 754 square_root, shown by comparing integer squares: −0.0 gives −0.0, below zero gives
+-- works it out for every float. Document 01: 'The root of any f32 is IEEE 754 squareRoot, shown by comparing integer squares: −0.0 gives −0.0, below zero gives
 -- NaN.' Assumes nothing.
 use Rattle.std.specs.Prelude.{ℕ, zero, suc, ◌+◌, ◌-◌, ◌*◌, ◌/◌, ◌^◌, ◌<◌, false, cond, T, from_bits, nat_le, nat_lt, Float}
 use Rattle.std.specs.Float.{nan, inf, fin, binary32}
@@ -40,7 +40,7 @@ unfoldable pub root_pattern : ℕ → ℕ
 unfolding nearest_root dropped
 root_pattern n = dropped n * 2 ^ 23 + nearest_root (n / 2 ^ (2 * dropped n))
 
--- This is IEEE 754's square_root: a zero is its own root, with its sign, and what is below zero gives NaN.
+-- This is IEEE 754's squareRoot: a zero is its own root, with its sign, and what is below zero gives NaN.
 unfoldable pub square_root : Float → Float
 unfolding root_pattern mag unit
 square_root nan = nan

@@ -87,7 +87,7 @@ pub fn floor_u32(x: f32) -> u32
     0
 }
 
-// IEEE 754's square_root: the nearest `f32`. Each zero is its own root; NaN and what is below zero give NaN.
+// IEEE 754's squareRoot: the nearest `f32`. Each zero is its own root; NaN and what is below zero give NaN.
 pub fn sqrt(x: f32) -> f32
     ensures value { result ≡ square_root x }
     ensures nearest { T (non_negative x) → 0 < mag x → NearestRoot x result }

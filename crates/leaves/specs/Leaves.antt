@@ -49,7 +49,7 @@ pub record Leaves : Type 0 where
   -- A float comes back from its four bytes, and they from it; a NaN's pattern is not kept.
   pub float_back : (x : Float) → T (fits binary32 x) → of_le_bytes (to_le_bytes x) ≡ x
   pub bytes_back : (bytes : List ℕ) → AreBytes bytes → length bytes ≡ 4 → T (not (is_nan (of_le_bytes bytes))) → to_le_bytes (of_le_bytes bytes) ≡ bytes
-  -- 'The root of any f32 is IEEE 754 square_root, shown by comparing integer squares: −0.0 gives −0.0, below zero gives NaN.'
+  -- 'The root of any f32 is IEEE 754 squareRoot, shown by comparing integer squares: −0.0 gives −0.0, below zero gives NaN.'
   pub root_nearest : (x : Float) → T (fits binary32 x) → T (non_negative x) → 0 < mag x → NearestRoot x (square_root x)
   pub root_unique : (x r s : Float) → NearestRoot x r → NearestRoot x s → r ≡ s
   pub root_zero : (s : Bool) (e : ℤ) → square_root (fin s 0 e) ≡ fin s 0 e

@@ -2,8 +2,8 @@
 #![tactic(auto)]
 
 // A record among the best of a scan: its number, and the score that it got.
-#[repr(C)]
 #[derive(Clone, Copy)]
+#[repr(C)]
 pub struct Hit {
     pub number: u32,
     pub score: f32,

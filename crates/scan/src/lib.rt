@@ -20,8 +20,8 @@ pub const MOST_RECORDS: u32 = 4294967295;
 
 // What a scan counts: how many hits it keeps at most, how many it has, and how many records it has taken, refused and found withdrawn; the last two are among
 // those taken. A new score is compared with the hits from the last upward and stops at the first that it does not beat: `comparisons` counts all that were made.
-#[repr(C)]
 #[derive(Clone, Copy)]
+#[repr(C)]
 pub struct Tally {
     pub length: usize,
     pub kept: usize,
@@ -32,8 +32,8 @@ pub struct Tally {
 }
 
 // A scan: its counts, and its hits in their order, the number and the score of each.
-#[repr(C)]
 #[derive(Clone, Copy)]
+#[repr(C)]
 pub struct Scan {
     pub tally: Tally,
     pub numbers: [u32; 64],
