@@ -2,7 +2,7 @@
  * Packs three indices, writes a record, scores it, is refused once, meets a withdrawn position, scores a record with a norm, and one of a board of six
  * under a stored rotation.
  *
- *     rt lib capi
+ *     (cd crates/capi && rt lib)
  *     cc -I include host/c/example.c crates/capi/out/libcapi.a -o example && ./example
  */
 #include <stdio.h>

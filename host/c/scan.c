@@ -2,7 +2,7 @@
  * The best three of nine records: taken singly by a query, singly by a prepared one, and many at once; with one refused, one withdrawn, and a query that is
  * refused and numbers nothing. A copy is shortened. The scan is closed into a list of hits, which is printed.
  *
- *     rt lib capi
+ *     (cd crates/capi && rt lib)
  *     cc -I include host/c/scan.c crates/capi/out/libcapi.a -o scan && ./scan
  *
  * Ends with 1 where an answer is not the expected one.
