@@ -70,7 +70,7 @@ module _ (packed : List ℕ) (bits room : ℕ) (asked : Unpackable packed bits r
     eights-read = omega (arith, mul-le-mul_right bits inv.within, asked.enough)
 
     module _ (narrow : bits ≤ 8) (more : k < room / 8) where
-      pub eights-room : 8 * k + 4 + 4 ≤ room
+      eights-room : 8 * k + 4 + 4 ≤ room
       eights-room = omega (arith, more)
 
       eights-more : k * bits + bits ≤ length packed
@@ -100,10 +100,6 @@ module _ (packed : List ℕ) (bits room : ℕ) (asked : Unpackable packed bits r
                 ∙ ap (λ (m : ℕ). take m out'' ++ digits base (room - m) (y / base ^ 4 / base ^ 4)) at
                 ∙ ap (λ (m : ℕ). take (8 * (k + 1)) out'' ++ digits base (room - 8 * (k + 1)) m) last;
           }
-
--- what is asked of the rest
-pub eights-rest : (packed : List ℕ) (bits room : ℕ) (out : List ℕ) (k : ℕ) → Unpackable packed bits room → Eights packed bits room out k → (Unpackable packed bits (length out)) × (Eights packed bits (length out) out k)
-eights-rest packed bits room out k asked eights = (rw eights.sized asked, rw eights.sized eights)
 
 -- ---- a width by another name
 

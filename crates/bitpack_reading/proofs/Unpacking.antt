@@ -2,7 +2,7 @@
 use Prim.Native.Nat.{ℕ, ◌+◌, ◌-◌, ◌*◌, ◌/◌, ◌%◌, ◌^◌, ◌≤◌, ◌<◌}
 use mathlib.Core.Path.{◌≡◌, refl, sym, ap, ◌∙◌}
 use mathlib.Core.List.{List, ◌++◌}
-use native.Mathlib.Nat.{zero-add, one-mul, mul-le-mul_right}
+use native.Mathlib.Nat.{zero-add, one-mul}
 use native.Mathlib.Omega.{arith}
 use lib.ListN.{length, get_or, take, drop, set, length-set}
 use Rattle.digits.specs.Digits.{number, digits}
@@ -73,18 +73,8 @@ module _ (packed : List ℕ) (bits room : ℕ) (asked : Unpackable packed bits r
   }
 
   module _ (out : List ℕ) (acc held at i : ℕ) (inv : Unpacked packed bits room out acc held at i) (more : i < room) where
-    all : (i + 1) * bits ≤ room * bits
-    all = mul-le-mul_right bits (omega (arith, more))
-
     taken : (i + 1) * bits ≡ i * bits + bits
     taken = omega arith
-
-    pub unpack-asks : Refillable packed bits acc held at
-    unpack-asks = record {
-      window = inv.window;
-      narrow = asked.narrow;
-      enough = omega (arith, all, taken, inv.count, asked.enough);
-    }
 
     pub unpack-turn : (acc' held' at' v : ℕ) → Refilled packed bits acc held at acc' held' at' → v ≡ acc' % 2 ^ bits → Unpacked packed bits room (set out i v) (acc' / 2 ^ bits) (held' - bits) at' (i + 1)
     unpack-turn acc' held' at' v full e =

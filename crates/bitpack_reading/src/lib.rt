@@ -1,4 +1,4 @@
-// Unpacking of indices. Ported from turbo-quant/src/bitpack.rs and changed: the output is lent, refusals are numbers, and groups of eight indices are read from
+// Unpacking of indices. Ported from turbo-quant/src/bitpack.rs and changed: the output is lent, refusals are a number and a place, and groups of eight indices are read from
 // whole words.
 #![tactic(auto)]
 
@@ -10,7 +10,7 @@ ghost use Rattle.digits.specs.Inner.{four_at};
 ghost use Rattle.bitpack.specs.Packing.{unpack_indices_of};
 ghost use Rattle.bitpack_reading.specs.Inner.{Unpackable, Eights, Refillable, Refilled};
 
-use error::{Length, OUTPUT_LENGTH, Outcome};
+use error::Refusal;
 
 // Bits that were read and not yet handed out, and the next byte to read.
 #[derive(Clone, Copy)]
@@ -21,25 +21,18 @@ struct Window {
 }
 
 // Unpacks `count` indices of `bits` bits each.
-pub fn unpack_indices(packed: &[u8], count: usize, bits: u8, out: &mut [u16]) -> Outcome
+pub fn unpack_indices(packed: &[u8], count: usize, bits: u8, out: &mut [u16]) -> Result<(), Refusal>
     ensures said { says result ≡ done (unpack_indices_of packed.now count bits (length out.old)) }
     ensures left { out.new ≡ after (unpack_indices_of packed.now count bits (length out.old)) out.old }
 {
-    if let Length::Refused { number, place } = bitpack::packed_len(count, bits) {
-        return Outcome::Refused { number, place };
-    }
+    bitpack::packed_len(count, bits)?;
     let used = count * bits as usize;
-    if let Outcome::Refused { number, place } = bitpack::validate_padding_zero(packed, used) {
-        return Outcome::Refused { number, place };
-    }
+    bitpack::validate_padding_zero(packed, used)?;
     if out.len() != count {
-        return Outcome::Refused {
-            number: OUTPUT_LENGTH,
-            place: count,
-        };
+        return Err(Refusal::OutputLength(count));
     }
     unpack_words(packed, bits, out);
-    Outcome::Done
+    Ok(())
 }
 
 // Unpacks indices from bytes that hold enough of them: in groups of eight first, then one by one.
@@ -53,14 +46,12 @@ fn unpack_words(packed: &[u8], bits: u8, out: &mut [u16])
     let mut acc: u64 = 0;
     let mut held: u64 = 0;
     let mut at = eights * bits as usize;
-    let mut i = 8 * eights;
-    while i < out.len() {
+    for i in 8 * eights..out.len() {
         let filled = refill(packed, width, acc, held, at);
         out[i] = (filled.acc & mask) as u16;
         acc = filled.acc >> width;
         held = filled.held - width;
         at = filled.at;
-        i += 1;
     }
 }
 
@@ -93,8 +84,7 @@ fn unpack_eights(packed: &[u8], bits: u8, out: &mut [u16]) -> usize
     let width = bits as u64;
     let step = bits as usize;
     let full = out.len() / 8;
-    let mut k = 0;
-    while k < full {
+    for k in 0..full {
         let at = k * step;
         if packed.len() - at < 8 {
             return k;
@@ -102,9 +92,8 @@ fn unpack_eights(packed: &[u8], bits: u8, out: &mut [u16]) -> usize
         let word = get_long(packed, at);
         put_four(out, 8 * k, word, width);
         put_four(out, 8 * k + 4, word >> (4 * width), width);
-        k += 1;
     }
-    k
+    full
 }
 
 // Writes four indices at `at`, from the lowest four times `width` bits of `word`.
@@ -165,6 +154,7 @@ fn refill_bytes(packed: &[u8], width: u64, had: u64, before: u64, from: usize) -
     let mut acc = had;
     let mut held = before;
     let mut at = from;
+    // Kept: the loop ends by how many bits are held, which no range or slice counts.
     while held < width {
         acc += (packed[at] as u64) << held;
         held += 8;

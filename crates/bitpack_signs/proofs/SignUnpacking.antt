@@ -2,7 +2,7 @@
 use Prim.Native.Nat.{ℕ, ◌+◌, ◌-◌, ◌*◌, ◌/◌, ◌%◌, ◌^◌, ◌≤◌, ◌<◌}
 use mathlib.Core.Path.{◌≡◌, sym, ap, ◌∙◌}
 use mathlib.Core.List.{List, ◌++◌, map, map-append, append_assoc, append-nil}
-use native.Mathlib.Nat.{add-mul-div_left, sub-zero}
+use native.Mathlib.Nat.{add-mul-div_left}
 use native.Mathlib.Omega.{arith}
 use lib.IntN.{ℤ}
 use lib.ListN.{length, get_or, take, drop, set, length-map}
@@ -59,15 +59,12 @@ pub record SignsUnpacked (packed : List ℕ) (room : ℕ) (out : List ℤ) (k : 
   pub rest : map sign_of_bit (digits 2 room (number 256 packed)) ≡ take (8 * k) out ++ map sign_of_bit (digits 2 (room - 8 * k) (number 256 (drop k packed)))
 
 module _ (packed : List ℕ) (room : ℕ) (enough : room ≤ 8 * length packed) where
-  pub unsigns-start : (out : List ℤ) → length out ≡ room → SignsUnpacked packed room out 0
-  unsigns-start out h = record { sized = h; within = omega arith; rest = simp sub-zero }
-
   module _ (out : List ℤ) (k : ℕ) (inv : SignsUnpacked packed room out k) where
     module _ (more : k < room / 8) where
-      pub unsigns-byte : k < length packed
+      unsigns-byte : k < length packed
       unsigns-byte = omega (arith, more, enough)
 
-      pub unsigns-room : 8 * k + 4 + 4 ≤ room
+      unsigns-room : 8 * k + 4 + 4 ≤ room
       unsigns-room = omega (arith, more)
 
       pub unsigns-turn : (out' out'' : List ℤ) → get_or packed k 0 < 256 → out' ≡ take (8 * k) out ++ map sign_of_bit (digits 2 4 (get_or packed k 0)) ++ drop (8 * k + 4) out → out'' ≡ take (8 * k + 4) out' ++ map sign_of_bit (digits 2 4 (get_or packed k 0 / 16)) ++ drop (8 * k + 4 + 4) out' → SignsUnpacked packed room out'' (k + 1)

@@ -1,18 +1,18 @@
 // The first number that is no sign, and laws about signs and their bits. Ported from turbo-quant/src/bitpack.rs and changed: the search is a function of its own.
 #![tactic(auto)]
 
-ghost use Rattle.std.specs.Prelude.{◌≡◌, cond};
-ghost use Rattle.error.specs.Answer.{clear};
+ghost use Rattle.std.specs.Prelude.{◌≡◌, cond, length};
+ghost use Rattle.error.specs.Answer.{clear, found};
 ghost use Rattle.bitpack.specs.Signs.{bad_sketch_sign, first_bad_sketch_sign_of};
 
-// The place of the first number that is neither -1 nor 1, or how many numbers there are where each is one of them.
-pub fn first_bad_sketch_sign(signs: &[i8]) -> usize
-    ensures { result ≡ first_bad_sketch_sign_of signs.now }
+// The place of the first number that is neither -1 nor 1, if there is one.
+pub fn first_bad_sketch_sign(signs: &[i8]) -> Option<usize>
+    ensures { result ≡ found (first_bad_sketch_sign_of signs.now) (length signs.now) }
 {
     if all_signs(signs) {
-        return signs.len();
+        return None;
     }
-    find_no_sign(signs)
+    signs.iter().position(|sign| no_sign(*sign))
 }
 
 // Whether a number is neither -1 nor 1.
@@ -41,26 +41,10 @@ fn all_signs(signs: &[i8]) -> bool
     ensures { result ≡ clear bad_sketch_sign signs.now }
 {
     let mut ok = true;
-    let mut i = 0;
-    while i < signs.len() {
-        if stray(signs[i]) != 0 {
+    for sign in signs {
+        if stray(*sign) != 0 {
             ok = false;
         }
-        i += 1;
     }
     ok
-}
-
-// The place of the first number that is neither -1 nor 1, found one by one, or how many numbers there are.
-fn find_no_sign(signs: &[i8]) -> usize
-    ensures { result ≡ first_bad_sketch_sign_of signs.now }
-{
-    let mut i = 0;
-    while i < signs.len() {
-        if no_sign(signs[i]) {
-            return i;
-        }
-        i += 1;
-    }
-    i
 }

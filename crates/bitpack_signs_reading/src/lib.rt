@@ -1,4 +1,4 @@
-// Signs unpacked from bytes. Ported from turbo-quant/src/bitpack.rs and changed: outputs are lent, refusals are numbers.
+// Signs unpacked from bytes. Ported from turbo-quant/src/bitpack.rs and changed: outputs are lent, refusals are a number and a place.
 // Packing order is little-endian within each byte: the first sign is bit 0 of byte 0.
 #![tactic(auto)]
 
@@ -9,24 +9,19 @@ ghost use Rattle.digits.specs.Digits.{number, digits};
 ghost use Rattle.bitpack.specs.Signs.{sign_of_bit, unpack_signs_of};
 
 use bitpack::validate_padding_zero;
-use error::{OUTPUT_LENGTH, Outcome};
+use error::Refusal;
 
 // Unpacks `count` signs.
-pub fn unpack_signs(packed: &[u8], count: usize, out: &mut [i8]) -> Outcome
+pub fn unpack_signs(packed: &[u8], count: usize, out: &mut [i8]) -> Result<(), Refusal>
     ensures said { says result ≡ done (unpack_signs_of packed.now count (length out.old)) }
     ensures left { out.new ≡ after (unpack_signs_of packed.now count (length out.old)) out.old }
 {
-    if let Outcome::Refused { number, place } = validate_padding_zero(packed, count) {
-        return Outcome::Refused { number, place };
-    }
+    validate_padding_zero(packed, count)?;
     if out.len() != count {
-        return Outcome::Refused {
-            number: OUTPUT_LENGTH,
-            place: count,
-        };
+        return Err(Refusal::OutputLength(count));
     }
     unpack_sign_bytes(packed, out);
-    Outcome::Done
+    Ok(())
 }
 
 // The sign of a bit.
@@ -42,15 +37,13 @@ fn unpack_sign_bytes(packed: &[u8], out: &mut [i8])
     ensures { out.new ≡ map sign_of_bit (digits 2 (length out.old) (number 256 packed.now)) }
 {
     let full = out.len() / 8;
-    let mut k = 0;
-    while k < full {
+    for k in 0..full {
         let byte = packed[k];
         put_signs(out, 8 * k, byte);
         put_signs(out, 8 * k + 4, byte / 16);
-        k += 1;
     }
-    if 8 * k < out.len() {
-        put_last_signs(out, 8 * k, packed[k]);
+    if 8 * full < out.len() {
+        put_last_signs(out, 8 * full, packed[full]);
     }
 }
 
@@ -71,10 +64,8 @@ fn put_last_signs(out: &mut [i8], from: usize, last: u8)
     ensures { out.new ≡ take from out.old ++ map sign_of_bit (digits 2 (length out.old - from) last) }
 {
     let mut bits = last;
-    let mut i = from;
-    while i < out.len() {
-        out[i] = sign(bits % 2);
+    for x in out[from..].iter_mut() {
+        *x = sign(bits % 2);
         bits = bits / 2;
-        i += 1;
     }
 }

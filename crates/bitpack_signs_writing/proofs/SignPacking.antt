@@ -2,7 +2,7 @@
 use Prim.Native.Nat.{ℕ, suc, ◌+◌, ◌-◌, ◌*◌, ◌/◌, ◌^◌, ◌≤◌, ◌<◌}
 use mathlib.Core.Path.{◌≡◌, sym, ap, ◌∙◌}
 use mathlib.Core.List.{List, ◌++◌, append-nil}
-use native.Mathlib.Nat.{add-mul-mod_self_left, add-mul-div_left, mod-eq_of_lt, div-eq_of_lt, lt_of_lt_of_le, sub-zero, zero-add, pow-succ'}
+use native.Mathlib.Nat.{add-mul-mod_self_left, add-mul-div_left, mod-eq_of_lt, div-eq_of_lt, lt_of_lt_of_le, zero-add, pow-succ'}
 use native.Mathlib.Omega.{arith}
 use lib.Pow.{pow_mono}
 use lib.ListN.{length, get_or, take, drop, set, length-set, length-drop}
@@ -44,9 +44,6 @@ module _ (bits : List ℕ) where
 -- ---- the loop that packs
 
 module _ (bits : List ℕ) (n room : ℕ) (counted : length bits ≡ n) (exact : room ≡ bytes_for n) where
-  pub signs_start_lem : (out : List ℕ) → length out ≡ room → SignsPacked bits room out 0
-  signs_start_lem out h = record { sized = h; within = omega arith; rest = simp sub-zero }
-
   module _ (out : List ℕ) (k : ℕ) (inv : SignsPacked bits room out k) where
     -- a byte is written whose bits are the next ones
     step : (v next : ℕ) → k < room → v < 256 → number 2 (drop (8 * k) bits) ≡ v + 256 * next → digits 256 room (number 2 bits) ≡ take (k + 1) (set out k v) ++ digits 256 (room - (k + 1)) next
@@ -58,10 +55,10 @@ module _ (bits : List ℕ) (n room : ℕ) (counted : length bits ≡ n) (exact :
         (store-next out k v (digits 256 (room - (k + 1)) next) (omega (arith, inv.sized, more)))
 
     module _ (more : k < n / 8) where
-      pub signs-inside : 8 * k + 4 + 4 ≤ n
+      signs-inside : 8 * k + 4 + 4 ≤ n
       signs-inside = omega (arith, more)
 
-      pub signs-room : k < room
+      signs-room : k < room
       signs-room = omega (arith, more, exact)
 
       -- the next byte has the next eight bits
@@ -86,7 +83,7 @@ module _ (bits : List ℕ) (n room : ℕ) (counted : length bits ≡ n) (exact :
 
     -- the last byte, or none
     module _ (done : n / 8 ≤ k) where
-      pub signs-left : n < 8 * k + 8
+      signs-left : n < 8 * k + 8
       signs-left = omega (arith, done)
 
       pub signs-last : (v : ℕ) → k < length out → v ≡ number 2 (drop (8 * k) bits) → v < 256 → set out k v ≡ digits 256 room (number 2 bits)

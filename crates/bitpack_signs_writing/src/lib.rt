@@ -1,4 +1,4 @@
-// Signs packed into bytes. Ported from turbo-quant/src/bitpack.rs and changed: outputs are lent, refusals are numbers.
+// Signs packed into bytes. Ported from turbo-quant/src/bitpack.rs and changed: outputs are lent, refusals are a number and a place.
 // Packing order is little-endian within each byte: the first sign is bit 0 of byte 0.
 #![tactic(auto)]
 
@@ -10,29 +10,22 @@ ghost use Rattle.bitpack.specs.Padding.{bytes_for};
 ghost use Rattle.bitpack.specs.Signs.{bit_of_sign, pack_signs_of};
 ghost use Rattle.bitpack_signs_writing.specs.Inner.{Block, SignsPacked};
 
-use error::{MALFORMED_SIGN, OUTPUT_LENGTH, Outcome};
+use error::Refusal;
 
 // Packs signs, each -1 or 1, into exactly the bytes that they need: bit 1 is +1, bit 0 is -1.
-pub fn pack_signs(signs: &[i8], out: &mut [u8]) -> Outcome
+pub fn pack_signs(signs: &[i8], out: &mut [u8]) -> Result<(), Refusal>
     ensures said { says result ≡ done (pack_signs_of signs.now (length out.old)) }
     ensures left { out.new ≡ after (pack_signs_of signs.now (length out.old)) out.old }
 {
-    let stray = bitpack_signs::first_bad_sketch_sign(signs);
-    if stray < signs.len() {
-        return Outcome::Refused {
-            number: MALFORMED_SIGN,
-            place: stray,
-        };
+    if let Some(stray) = bitpack_signs::first_bad_sketch_sign(signs) {
+        return Err(Refusal::MalformedSign(stray));
     }
-    let bytes = signs.len() / 8 + (signs.len() % 8 + 7) / 8;
+    let bytes = signs.len().div_ceil(8);
     if out.len() != bytes {
-        return Outcome::Refused {
-            number: OUTPUT_LENGTH,
-            place: bytes,
-        };
+        return Err(Refusal::OutputLength(bytes));
     }
     pack_sign_bytes(signs, out);
-    Outcome::Done
+    Ok(())
 }
 
 // The bit of a sign.
@@ -48,13 +41,11 @@ fn pack_sign_bytes(signs: &[i8], out: &mut [u8])
     ensures { out.new ≡ digits 256 (length out.old) (number 2 (map bit_of_sign signs.now)) }
 {
     let full = signs.len() / 8;
-    let mut k = pack_blocks(signs, out);
-    while k < full {
+    for k in pack_blocks(signs, out)..full {
         out[k] = get_signs(signs, 8 * k) + 16 * get_signs(signs, 8 * k + 4);
-        k += 1;
     }
-    if k < out.len() {
-        out[k] = get_last_signs(signs, 8 * k);
+    if full < out.len() {
+        out[full] = get_last_signs(signs, 8 * full);
     }
 }
 
@@ -63,17 +54,14 @@ fn pack_blocks(signs: &[i8], out: &mut [u8]) -> usize
     requires { length out.old ≡ bytes_for (length signs.now) }
     ensures { SignsPacked (map bit_of_sign signs.now) (length out.old) out.new result }
 {
-    let mut k = 0;
-    while 256 <= signs.len() - 8 * k {
-        let bits = block_bits(signs, 8 * k);
-        let mut j = 0;
-        while j < 32 {
-            out[k + j] = bits_byte(&bits, 8 * j);
-            j += 1;
+    let blocks = signs.len() / 256;
+    for block in 0..blocks {
+        let bits = block_bits(signs, 256 * block);
+        for j in 0..32 {
+            out[32 * block + j] = bits_byte(&bits, 8 * j);
         }
-        k += 32;
     }
-    k
+    32 * blocks
 }
 
 // The bits of the 256 signs at `at`.
@@ -81,20 +69,11 @@ fn block_bits(signs: &[i8], at: usize) -> [u8; 256]
     requires { at + 256 ≤ length signs.now }
     ensures { result ≡ take 256 (drop at (map bit_of_sign signs.now)) }
 {
-    let mut bits = no_bits();
-    let mut i = 0;
-    while i < 256 {
-        bits[i] = bit(signs[at + i]);
-        i += 1;
+    let mut bits = [0u8; 256];
+    for (i, x) in bits.iter_mut().enumerate() {
+        *x = bit(signs[at + i]);
     }
     bits
-}
-
-// A block of bits that are all 0.
-fn no_bits() -> [u8; 256]
-    ensures { length result ≡ 256 }
-{
-    [0u8; 256]
 }
 
 // The eight bits at `at`, as a byte. One product moves the bits of four bytes side by side, here those of two words at once.
@@ -125,9 +104,7 @@ fn get_last_signs(signs: &[i8], from: usize) -> u8
     ensures { result ≡ number 2 (drop from (map bit_of_sign signs.now)) }
 {
     let mut bits: u8 = 0;
-    let mut i = signs.len();
-    while from < i {
-        i -= 1;
+    for i in (from..signs.len()).rev() {
         bits = 2 * bits + bit(signs[i]);
     }
     bits

@@ -3,7 +3,7 @@
 use Prim.Native.Nat.{ℕ, ◌+◌, ◌-◌, ◌*◌, ◌/◌, ◌%◌, ◌^◌, ◌≤◌, ◌<◌}
 use mathlib.Core.Path.{◌≡◌, sym, ap, ◌∙◌}
 use mathlib.Core.List.{List, [], ◌∷◌, ◌++◌, append_assoc}
-use native.Mathlib.Nat.{sub-zero, zero-mul, zero-add, add-zero, mul_assoc, mod-lt, mul-mod_left, mul-le-mul_right, add-mul-div_left, div-eq_of_lt}
+use native.Mathlib.Nat.{zero-add, add-zero, mul_assoc, mod-lt, mul-mod_left, mul-le-mul_right, add-mul-div_left, div-eq_of_lt}
 use native.Mathlib.Omega.{arith}
 use lib.ListN.{length, take, drop, length-append}
 use lib.Seq.{length-take-le, take_at, take-take}
@@ -170,16 +170,13 @@ module _ (width : ℕ) (narrow : width ≤ 16) (low high : ℕ) (below : low < 2
 -- ---- the loop
 
 module _ (indices : List ℕ) (bits room : ℕ) (asked : Packable indices bits room) where
-  pub gathered-start : (out : List ℕ) → length out ≡ room → Gathered indices bits room out 0
-  gathered-start out h = record { sized = h; within = omega arith; rest = simp (zero-mul, sub-zero) }
-
   module _ (out : List ℕ) (k : ℕ) (inv : Gathered indices bits room out k) where
     -- the bytes of the eights that are taken in are there
     pub gathered-within : k * bits ≤ room
     gathered-within = omega (arith, mul-le-mul_right bits inv.within, asked.exact)
 
     module _ (more : k < length indices / 8) where
-      pub gathered-more : 8 * k + 4 + 4 ≤ length indices
+      gathered-more : 8 * k + 4 + 4 ≤ length indices
       gathered-more = omega (arith, more)
 
       gathered-room : k * bits + bits ≤ room
@@ -223,7 +220,3 @@ module _ (indices : List ℕ) (bits room : ℕ) (asked : Packable indices bits r
                   ∙ ap (λ (ds : List ℕ). ds ++ rest) (sym placed.front)
                   ∙ ap (λ (m : ℕ). take m out' ++ rest) behind;
             }
-
--- what is asked of the rest
-pub gathered-rest : (indices : List ℕ) (bits room : ℕ) (out : List ℕ) (k : ℕ) → Packable indices bits room → Gathered indices bits room out k → (Packable indices bits (length out)) × (Gathered indices bits (length out) out k)
-gathered-rest indices bits room out k asked gathered = (rw gathered.sized asked, rw gathered.sized gathered)

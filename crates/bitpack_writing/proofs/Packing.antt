@@ -2,12 +2,12 @@
 use Prim.Native.Nat.{ℕ, ◌+◌, ◌-◌, ◌*◌, ◌/◌, ◌^◌, ◌≤◌, ◌<◌}
 use mathlib.Core.Path.{◌≡◌, sym, ap, ◌∙◌}
 use mathlib.Core.List.{List, ◌++◌, append_assoc}
-use native.Mathlib.Nat.{add-zero, mul-zero, zero-add, one-mul, mul-le-mul_right}
+use native.Mathlib.Nat.{add-zero, mul-zero, mul-le-mul_right}
 use native.Mathlib.Omega.{arith}
 use lib.ListN.{length, get_or, take, drop}
 use Rattle.digits.specs.Digits.{number, digits}
 use Rattle.digits.proofs.Laws.{length_digits}
-use Rattle.bitpack_writing.specs.Inner.{Packable, Gathered}
+use Rattle.bitpack_writing.specs.Inner.{Packable}
 use Rattle.lists.proofs.Stores.{length-store, take-store}
 use Rattle.digits.proofs.Digits.{number-drop, number-end}
 use Rattle.digits.proofs.Windows.{shift_in, shift_in-fits, shift-out-fits, word_out}
@@ -22,17 +22,6 @@ pub record Packed (indices : List ℕ) (bits room : ℕ) (out : List ℕ) (acc h
   pub rest : digits 256 room (number (2 ^ bits) indices) ≡ take k out ++ digits 256 (room - k) (acc + 2 ^ held * number (2 ^ bits) (drop i indices))
 
 module _ (indices : List ℕ) (bits room : ℕ) (asked : Packable indices bits room) where
-  -- k groups of eight are packed, and nothing is held
-  pub pack-start : (out : List ℕ) (k : ℕ) → Gathered indices bits room out k → Packed indices bits room out 0 0 (8 * k) (k * bits)
-  pack-start out k eights = record {
-    sized = eights.sized;
-    within = eights.within;
-    small = omega arith;
-    fits = omega arith;
-    count = omega arith;
-    rest = eights.rest ∙ simp (zero-add, one-mul);
-  }
-
   module _ (out : List ℕ) (acc held i k : ℕ) (inv : Packed indices bits room out acc held i k) (more : i < length indices) where
     taken : (i + 1) * bits ≡ i * bits + bits
     taken = omega arith
@@ -85,10 +74,6 @@ module _ (indices : List ℕ) (bits room : ℕ) (asked : Packable indices bits r
               ∙ ap (λ (ds : List ℕ). ds ++ digits 256 (room - k - 4) next) (sym shape)
               ∙ ap (λ (m : ℕ). take (k + 4) out' ++ digits 256 m next) left;
         }
-
-  -- no more bytes are written than there is room for
-  pub pack-within : (out : List ℕ) (acc held i k : ℕ) → Packed indices bits room out acc held i k → k ≤ length out
-  pack-within out acc held i k inv = omega (arith, mul-le-mul_right bits inv.within, inv.count, inv.sized, asked.exact)
 
   -- all indices are taken in: what is held is what is left to write
   pub pack-end : (out : List ℕ) (acc held i k : ℕ) → Packed indices bits room out acc held i k → length indices ≤ i → digits 256 room (number (2 ^ bits) indices) ≡ take k out ++ digits 256 (length out - k) acc

@@ -1,4 +1,4 @@
-// Bit packing of indices. Ported from turbo-quant/src/bitpack.rs and changed: the output is lent, refusals are numbers, and groups of eight indices are written in
+// Bit packing of indices. Ported from turbo-quant/src/bitpack.rs and changed: the output is lent, refusals are a number and a place, and groups of eight indices are written in
 // whole words.
 #![tactic(auto)]
 
@@ -9,34 +9,22 @@ ghost use Rattle.digits.specs.Digits.{number, digits};
 ghost use Rattle.bitpack.specs.Packing.{pack_indices_of};
 ghost use Rattle.bitpack_writing.specs.Inner.{Packable, Gathered, Readable, Placed};
 
-use error::{Length, MALFORMED_INDEX, OUTPUT_LENGTH, Outcome};
+use error::Refusal;
 
 // Packs the indices, each of which must fit in `bits` bits, into exactly the bytes that they need.
-pub fn pack_indices(indices: &[u16], bits: u8, out: &mut [u8]) -> Outcome
+pub fn pack_indices(indices: &[u16], bits: u8, out: &mut [u8]) -> Result<(), Refusal>
     ensures said { says result ≡ done (pack_indices_of indices.now bits (length out.old)) }
     ensures left { out.new ≡ after (pack_indices_of indices.now bits (length out.old)) out.old }
 {
-    let need = match bitpack::packed_len(indices.len(), bits) {
-        Length::Bytes(n) => n,
-        Length::Refused { number, place } => {
-            return Outcome::Refused { number, place };
-        }
-    };
-    let bad = bitpack::first_bad_index(indices, bits);
-    if bad < indices.len() {
-        return Outcome::Refused {
-            number: MALFORMED_INDEX,
-            place: bad,
-        };
+    let need = bitpack::packed_len(indices.len(), bits)?;
+    if let Some(bad) = bitpack::first_bad_index(indices, bits) {
+        return Err(Refusal::MalformedIndex(bad));
     }
     if out.len() != need {
-        return Outcome::Refused {
-            number: OUTPUT_LENGTH,
-            place: need,
-        };
+        return Err(Refusal::OutputLength(need));
     }
     pack_words(indices, bits, out);
-    Outcome::Done
+    Ok(())
 }
 
 // Writes indices that have passed every check: in groups of eight first, then one by one. The bits of those are gathered in `acc`, lowest first, and leave it four
@@ -49,12 +37,10 @@ fn pack_words(indices: &[u16], bits: u8, out: &mut [u8])
     let width = bits as u64;
     let mut acc: u64 = 0;
     let mut held: u64 = 0;
-    let mut i = 8 * eights;
     let mut k = eights * bits as usize;
-    while i < indices.len() {
+    for i in 8 * eights..indices.len() {
         acc += (indices[i] as u64) << held;
         held += width;
-        i += 1;
         if 32 <= held {
             digits::put_word(out, k, acc);
             k += 4;
@@ -73,10 +59,9 @@ fn pack_eights(indices: &[u16], bits: u8, out: &mut [u8]) -> usize
 {
     let width = bits as u64;
     let step = bits as usize;
-    let spare = (step + 7) / 8 * 8;
+    let spare = step.div_ceil(8) * 8;
     let full = indices.len() / 8;
-    let mut k = 0;
-    while k < full {
+    for k in 0..full {
         let at = k * step;
         if out.len() - at < spare {
             return k;
@@ -84,9 +69,8 @@ fn pack_eights(indices: &[u16], bits: u8, out: &mut [u8]) -> usize
         let low = four_of(indices, 8 * k, width);
         let high = four_of(indices, 8 * k + 4, width);
         put_eight(out, at, low, high, width);
-        k += 1;
     }
-    k
+    full
 }
 
 // The four indices at `at`, as one number.
@@ -138,10 +122,8 @@ fn put_rest(out: &mut [u8], from: usize, rest: u64)
     ensures { out.new ≡ take from out.old ++ digits 256 (length out.old - from) rest }
 {
     let mut acc = rest;
-    let mut k = from;
-    while k < out.len() {
+    for k in from..out.len() {
         out[k] = (acc % 256) as u8;
         acc = acc / 256;
-        k += 1;
     }
 }

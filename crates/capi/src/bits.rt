@@ -6,7 +6,7 @@ ghost use Rattle.bitpack.specs.Padding.{validate_padding_zero_of};
 ghost use Rattle.bitpack.specs.Signs.{pack_signs_of, unpack_signs_of};
 ghost use Rattle.capi_answers.specs.Told.{said, told};
 
-use capi_answers::answers::{tell, tell_length};
+use capi_answers::answers::{tell, tell_value};
 
 // The number of bytes that `count` indices of `bits` bits each take.
 #[unsafe(no_mangle)]
@@ -20,7 +20,7 @@ pub extern "C" fn foldrima_packed_len(
     ensures answer { said number.new place.new ≡ told (packed_len_of count bits) }
     ensures left { value.new ≡ after (packed_len_of count bits) value.old }
 {
-    tell_length(bitpack::packed_len(count, bits), number, place, value);
+    tell_value(bitpack::packed_len(count, bits), number, place, value);
 }
 
 // Packs the indices into exactly the bytes that they need.

@@ -7,7 +7,7 @@ ghost use Rattle.polar.specs.Angle.{dequantize_angle_of};
 ghost use Rattle.setup.specs.Seeds.{hadamard_seed_of, matrix_seed_of};
 ghost use Rattle.capi_answers.specs.Told.{said, told};
 
-use capi_answers::answers::{tell_angle, tell_index, tell_levels, tell_made, tell_midpoint};
+use capi_answers::answers::{tell, tell_value};
 use codebook::ScalarCodebook;
 
 // Whether these bits and bounds make a codebook.
@@ -21,7 +21,7 @@ pub extern "C" fn foldrima_uniform(
 )
     ensures { said number.new place.new ≡ told (uniform_of bits min max) }
 {
-    tell_made(ScalarCodebook::uniform(bits, min, max), number, place);
+    tell(ScalarCodebook::uniform(bits, min, max), number, place);
 }
 
 // How many levels a codebook has.
@@ -38,7 +38,7 @@ pub extern "C" fn foldrima_levels(
     ensures left { value.new ≡ after (levels_of bits min max) value.old }
 {
     let book = ScalarCodebook { bits, min, max };
-    tell_levels(book.levels(), number, place, value);
+    tell_value(book.levels(), number, place, value);
 }
 
 // The level that a value falls into.
@@ -56,7 +56,7 @@ pub extern "C" fn foldrima_quantize(
     ensures left { value.new ≡ after (quantize_of bits min max x) value.old }
 {
     let book = ScalarCodebook { bits, min, max };
-    tell_index(book.quantize(x), number, place, value);
+    tell_value(book.quantize(x), number, place, value);
 }
 
 // The middle of a level.
@@ -74,7 +74,7 @@ pub extern "C" fn foldrima_dequantize_midpoint(
     ensures left { value.new ≡ after (dequantize_midpoint_of bits min max index) value.old }
 {
     let book = ScalarCodebook { bits, min, max };
-    tell_midpoint(book.dequantize_midpoint(index), number, place, value);
+    tell_value(book.dequantize_midpoint(index), number, place, value);
 }
 
 // IEEE 754's squareRoot.
@@ -97,7 +97,7 @@ pub extern "C" fn foldrima_dequantize_angle(
     ensures answer { said number.new place.new ≡ told (dequantize_angle_of bits index) }
     ensures left { value.new ≡ after (dequantize_angle_of bits index) value.old }
 {
-    tell_angle(polar::dequantize_angle(bits, index), number, place, value);
+    tell_value(polar::dequantize_angle(bits, index), number, place, value);
 }
 
 // The seed of the host's generator of rotation signs.

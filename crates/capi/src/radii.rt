@@ -5,7 +5,7 @@ ghost use Rattle.radius.specs.Codec.{compress_range_of, compress_bytes_of, decom
 ghost use Rattle.capi_answers.specs.Told.{said, told, part};
 ghost use Rattle.capi_answers.specs.Codes.{profile_from, range_from, min_of, max_of};
 
-use capi_answers::answers::{tell, tell_length, tell_range};
+use capi_answers::answers::{tell, tell_range, tell_value};
 use capi_answers::codes;
 use radius::Range;
 
@@ -72,5 +72,5 @@ pub extern "C" fn foldrima_encoded_bytes(
     ensures left { value.new ≡ after (encoded_bytes_of (profile_from profile) payload.now) value.old }
 {
     let chosen = codes::profile(profile);
-    tell_length(radius::encoded_bytes(chosen, payload), number, place, value);
+    tell_value(radius::encoded_bytes(chosen, payload), number, place, value);
 }

@@ -9,7 +9,7 @@ ghost use Rattle.packed_writing.specs.Writing.{write_record_of};
 ghost use Rattle.capi_answers.specs.Told.{said, told, part};
 ghost use Rattle.capi_answers.specs.Codes.{code_from, header_mode, header_profile, header_dim, header_bits, header_projections, header_min, header_max, header_has_norm, header_norm};
 
-use capi_answers::answers::{tell, tell_filled, tell_header, tell_length, tell_read};
+use capi_answers::answers::{tell, tell_header, tell_unless_withdrawn, tell_value};
 use capi_answers::codes;
 
 // Reads a record: its header, where nothing offends. A record of no bytes is withdrawn.
@@ -40,7 +40,7 @@ pub extern "C" fn foldrima_read_record(
     ensures norm { norm.new ≡ after (part header_norm (read_record_of bytes.now)) norm.old }
 {
     let answer = packed_reading::read_record(bytes);
-    tell_read(answer, number, place);
+    tell_unless_withdrawn(answer, number, place);
     tell_header(
         answer,
         mode,
@@ -105,7 +105,7 @@ pub extern "C" fn foldrima_read_radii(
     ensures answer { said number.new place.new ≡ told (done (read_radii_of bytes.now (length out.old))) }
     ensures left { out.new ≡ after (read_radii_of bytes.now (length out.old)) out.old }
 {
-    tell_filled(packed_values::read_radii(bytes, out), number, place);
+    tell_unless_withdrawn(packed_values::read_radii(bytes, out), number, place);
 }
 
 // The indices of a record.
@@ -119,7 +119,7 @@ pub extern "C" fn foldrima_read_indices(
     ensures answer { said number.new place.new ≡ told (done (read_indices_of bytes.now (length out.old))) }
     ensures left { out.new ≡ after (read_indices_of bytes.now (length out.old)) out.old }
 {
-    tell_filled(packed_values::read_indices(bytes, out), number, place);
+    tell_unless_withdrawn(packed_values::read_indices(bytes, out), number, place);
 }
 
 // The signs of a record.
@@ -133,7 +133,7 @@ pub extern "C" fn foldrima_read_signs(
     ensures answer { said number.new place.new ≡ told (done (read_signs_of bytes.now (length out.old))) }
     ensures left { out.new ≡ after (read_signs_of bytes.now (length out.old)) out.old }
 {
-    tell_filled(packed_values::read_signs(bytes, out), number, place);
+    tell_unless_withdrawn(packed_values::read_signs(bytes, out), number, place);
 }
 
 // How many bytes a record takes. Without signs the projections are ignored; the value of a norm is not asked for.
@@ -153,7 +153,7 @@ pub extern "C" fn foldrima_record_size(
     ensures left { value.new ≡ after (record_size_of (code_from profile dim bits mode projections has_norm (one false))) value.old }
 {
     let code = codes::code(profile, dim, bits, mode, projections, has_norm, 1.0);
-    tell_length(packed_size::record_size(code), number, place, value);
+    tell_value(packed_size::record_size(code), number, place, value);
 }
 
 // Writes a record into exactly the bytes that it needs. Without signs the projections are ignored.

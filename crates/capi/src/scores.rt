@@ -10,7 +10,7 @@ ghost use Rattle.turbo_decode.specs.Decode.{decode_approximate_of};
 ghost use Rattle.capi_answers.specs.Told.{said, told};
 ghost use Rattle.capi_answers.specs.Codes.{setup_from};
 
-use capi_answers::answers::{tell, tell_filled, tell_score};
+use capi_answers::answers::{tell, tell_score, tell_unless_withdrawn};
 use capi_answers::codes;
 
 // A query rotated and projected once for many records; neither output is written unless both fit.
@@ -150,7 +150,7 @@ pub extern "C" fn foldrima_decode_approximate(
     ensures left { out.new ≡ after (decode_approximate_of (setup_from mode dim bits projections kind) (lent rotation.now directions.now matrix.now) bytes.now (length out.old)) out.old }
 {
     let scalars = codes::setup(mode, dim, bits, projections, kind);
-    tell_filled(
+    tell_unless_withdrawn(
         turbo_decode::decode_approximate(scalars, rotation, directions, matrix, bytes, out),
         number,
         place,

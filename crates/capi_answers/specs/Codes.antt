@@ -1,9 +1,7 @@
 -- On the C side numbers stand for the cases of an enum, and structs are passed as their fields. Assumes nothing.
-use Rattle.std.specs.Prelude.{ℕ, Bool, cond, eqb, Float}
+use Rattle.std.specs.Prelude.{ℕ, Bool, cond, eqb, Float, None, Option, Some}
 use Rattle.packed.specs.declared.Code.{Code}
 use Rattle.packed.specs.declared.Header.{Header}
-use Rattle.packed.specs.declared.SourceNorm.{SourceNorm}
-use Rattle.packed.specs.declared.SourceNorm.TheVariants.{Absent, Given}
 use Rattle.radius.specs.declared.Range.{Range}
 use Rattle.radius.specs.declared.RadiusCodecProfileV1.{RadiusCodecProfileV1}
 use Rattle.radius.specs.declared.RadiusCodecProfileV1.TheVariants.{F32, BlockLinearU16, BlockLogU8}
@@ -29,9 +27,9 @@ rotation_from code = cond (eqb code 0) FastHadamard Stored
 abbrev pub setup_from : ℕ → ℕ → ℕ → ℕ → ℕ → Setup
 setup_from mode dim bits projections kind = record { mode = mode_from mode; dim = dim; bits = bits; projections = projections; kind = rotation_from kind }
 
--- The number 0 is `Absent`, and every other number is `Given` with the norm beside it.
-unfoldable pub norm_from : ℕ → Float → SourceNorm
-norm_from code norm = cond (eqb code 0) Absent (Given norm)
+-- The number 0 is `None`, and every other number is `Some` with the norm beside it.
+unfoldable pub norm_from : ℕ → Float → Option Float
+norm_from code norm = cond (eqb code 0) None (Some norm)
 
 -- These are the scalars of a record, with numbers for its profile and its mode, and for whether a norm is given.
 abbrev pub code_from : ℕ → ℕ → ℕ → ℕ → ℕ → ℕ → Float → Code

@@ -1,8 +1,9 @@
 // The cases of an enum by their numbers on the C side, and structs by their fields.
+// Kept: the C interface passes a case as a number, and every number stands for one.
 ghost use Rattle.std.specs.Prelude.{◌≡◌};
 ghost use Rattle.capi_answers.specs.Codes.{mode_from, profile_from, rotation_from, setup_from, norm_from, code_from, mode_number, profile_number, norm_number};
 
-use packed::{Code, SourceNorm};
+use packed::Code;
 use radius::RadiusCodecProfileV1;
 use setup::{RotationKind, Setup, TurboMode};
 
@@ -54,14 +55,14 @@ pub fn setup(code: u8, dim: usize, bits: u8, projections: usize, kind: u8) -> Se
     }
 }
 
-// The norm of a number and a float: 0 is `Absent`, every other number `Given`.
-pub fn source_norm(has_norm: u8, norm: f32) -> SourceNorm
+// The norm of a number and a float: 0 is none, every other number the float.
+pub fn source_norm(has_norm: u8, norm: f32) -> Option<f32>
     ensures { result ≡ norm_from has_norm norm }
 {
     if has_norm == 0 {
-        return SourceNorm::Absent;
+        return None;
     }
-    SourceNorm::Given(norm)
+    Some(norm)
 }
 
 // The scalars of a record.

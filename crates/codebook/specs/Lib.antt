@@ -1,3 +1,2 @@
 pub mod Codebook
 pub mod Inner
-pub mod Says

@@ -6,3 +6,4 @@ pub mod Finite
 pub mod Differs
 pub mod AtOnce
 pub mod Clauses
+pub mod Passed

@@ -1,6 +1,6 @@
 -- The first item of a list that offends, found by a loop: before index i none offended, and what is left is the same question of the rest.
 -- A loop keeps `place bad xs ≡ i + place bad (drop i xs)`; `place-start` opens it, `place-skip` is one turn, `place_here` and `place_end` its two ends.
--- Assumes nothing.
+-- `place-position` and `found-position` are for a search by `position`. Assumes nothing.
 use Prim.Native.Nat.{ℕ, zero, suc, ◌+◌, ◌≤◌, ◌<◌, suc-le-suc}
 use mathlib.Core.Path.{◌≡◌, refl, sym, ap, ◌∙◌}
 use mathlib.Core.Bool.{Bool, true, false, cond}
@@ -8,11 +8,19 @@ use mathlib.Core.List.{List, [], ◌∷◌}
 use native.Mathlib.Nat.{zero-add, le_of_suc-le-suc, not-suc-le-zero}
 use native.Mathlib.Numerals.{add-one}
 use native.Mathlib.Omega.{arith}
-use borrow.Author.Tests.{lt-ltb, le-ltb, ltb-false}
+use borrow.Author.Tests.{lt-ltb, le-ltb, ltb-true, ltb-false}
 use lib.Dec.{ltb}
 use lib.ListN.{length, get_or, drop, drop_of_length-le}
 use lib.Seq.{drop-cons}
-use Rattle.error.specs.Answer.{place}
+use Rattle.std.proofs.Common.{Option, Some, None, MatchOption, unwrap_or, Bor, Iter}
+use Rattle.std.specs.Fn.{Called}
+use Rattle.std.specs.Iterator.{YieldsThen}
+use Rattle.std.specs.List.{FoldsTo, AllWithin, HoldsAt}
+use Rattle.std.specs.Slice.Iter.{iter_rest}
+use Rattle.std.proofs.iter.Yields.{fronts}
+use Rattle.std.proofs.lemmas.Iterator.{IsFirst-from_position, YieldsList-from_slice, index_from_first}
+use denote.Param.Members.{Mut}
+use Rattle.error.specs.Answer.{place, found}
 
 module _ {A : Type 0} where
   pub place-nil : (bad : A → Bool) → place bad [] ≡ 0
@@ -54,6 +62,35 @@ module _ {A : Type 0} where
   pub place_end : (bad : A → Bool) (xs : List A) (i : ℕ) → length xs ≤ i → place bad xs ≡ i + place bad (drop i xs) → place bad xs ≡ i
   place_end bad xs i h inv = let here = ap (place bad) (drop_of_length-le xs h) ∙ place-nil bad in omega (arith, inv, here)
 
+  -- ---- `position`, whose closure asks whether an item offends
+
+  pub place-position : (bad : A → Bool) (xs : List A) {F : Type 0} {g : Mut F (Bor A × Unit {0}) Bool} {s : Iter A} (u : Iter A) (f : F) {r : Option ℕ} {n : ℕ}
+      → n ≡ unwrap_or r (length xs)
+      → (ys : List (Bor A)) × (o : Option (Bor A)) × (j : F) × YieldsThen fronts s ys o u × FoldsTo (λ p x q. Called g p (x, tt) false q) f ys j
+      × MatchOption o (r ≡ None) (λ x. (r ≡ Some (length ys)) × ((h : F) × Called g j (x, tt) true h))
+      → iter_rest s ≡ xs
+      → ((x : Bor A) (q : F) → Called g f (x, tt) true q → bad x.now ≡ true)
+      → ((x : Bor A) (q : F) → Called g f (x, tt) false q → (q ≡ f) × (bad x.now ≡ false))
+      → n ≡ place bad xs
+  place-position bad xs u f {r} e ran rest hit miss =
+      let found = IsFirst-from_position u f r (λ x. bad x ≡ true) (λ x. bad x ≡ false) ran (YieldsList-from_slice xs rest) hit miss in
+      e ∙ sym (index_from_first (place bad) (λ x. bad x ≡ true) (λ x. bad x ≡ false) (place-nil bad) (place-bad bad) (λ x ys h. place-good bad x ys h ∙ sym (add-one _)) xs r found)
+
+  -- so it is found where an item offends
+  pub found-position : (bad : A → Bool) (xs : List A) {F : Type 0} {g : Mut F (Bor A × Unit {0}) Bool} {s : Iter A} (u : Iter A) (f : F) {r : Option ℕ}
+      → (ys : List (Bor A)) × (o : Option (Bor A)) × (j : F) × YieldsThen fronts s ys o u × FoldsTo (λ p x q. Called g p (x, tt) false q) f ys j
+      × MatchOption o (r ≡ None) (λ x. (r ≡ Some (length ys)) × ((h : F) × Called g j (x, tt) true h))
+      → iter_rest s ≡ xs
+      → ((x : Bor A) (q : F) → Called g f (x, tt) true q → bad x.now ≡ true)
+      → ((x : Bor A) (q : F) → Called g f (x, tt) false q → (q ≡ f) × (bad x.now ≡ false))
+      → r ≡ found (place bad xs) (length xs)
+  found-position bad xs u f {r} ran rest hit miss =
+      split r (IsFirst-from_position u f r (λ x. bad x ≡ true) (λ x. bad x ≡ false) ran (YieldsList-from_slice xs rest) hit miss) (place-position bad xs u f refl ran rest hit miss)
+    where
+      split : (o : Option ℕ) → MatchOption o (AllWithin (λ x. bad x ≡ false) xs 0 (length xs)) (λ i. (i < length xs) × HoldsAt (λ x. bad x ≡ true) xs i × AllWithin (λ x. bad x ≡ false) xs 0 i) → unwrap_or o (length xs) ≡ place bad xs → o ≡ found (place bad xs) (length xs)
+      split None h e = rw (le-ltb (place bad xs) (length xs) (omega (arith, e))) refl
+      split (Some i) h e = let here : place bad xs < length xs = omega (arith, e, h.0) in rw (lt-ltb (place bad xs) (length xs) here) (ap Some e)
+
   -- ---- what an accepted list has
 
   -- no item offends where the place is the length
@@ -67,6 +104,18 @@ module _ {A : Type 0} where
       split rest false f (suc j) g = rest (let z = place-good bad x xs f in omega (arith, z, e)) j (le_of_suc-le-suc g)
 
   -- ---- the check `each`, from what a search returned
+
+  -- a place is what is found, or how many items there are
+  pub found-or : (bad : A → Bool) (xs : List A) {r : Option ℕ} → r ≡ found (place bad xs) (length xs) → unwrap_or r (length xs) ≡ place bad xs
+  found-or bad xs e = ap (λ (o : Option ℕ). unwrap_or o (length xs)) e ∙ split (ltb (place bad xs) (length xs)) refl
+    where
+      split : (b : Bool) → ltb (place bad xs) (length xs) ≡ b → unwrap_or (cond b (Some (place bad xs)) None) (length xs) ≡ place bad xs
+      split true f = refl
+      split false f = let most = place-le bad xs in let least = ltb-false (place bad xs) (length xs) f in omega (arith, most, least)
+
+  -- a place past the end is none
+  pub found-end : (bad : A → Bool) (xs : List A) → length xs ≡ place bad xs → None ≡ found (place bad xs) (length xs)
+  found-end bad xs e = rw (le-ltb (place bad xs) (length xs) (omega (arith, e))) refl
 
   pub each-offends : (bad : A → Bool) (xs : List A) {i : ℕ} → i ≡ place bad xs → i < length xs → ltb (place bad xs) (length xs) ≡ true
   each-offends bad xs {i} e l = lt-ltb (place bad xs) (length xs) (omega (arith, e))
@@ -88,3 +137,20 @@ module _ {A : Type 0} where
   -- where no item offends, the check passes
   pub each_none : (bad : A → Bool) (xs : List A) (d : A) → ((i : ℕ) → i < length xs → bad (get_or xs i d) ≡ false) → ltb (place bad xs) (length xs) ≡ false
   each_none bad xs d h = le-ltb (place bad xs) (length xs) (place-all bad xs d h)
+
+-- ---- what a search found
+
+module _ {r : Option ℕ} {at long : ℕ} (e : r ≡ found at long) where
+  pub is_found : {i : ℕ} → r ≡ Some i → (i ≡ at) × (i < long)
+  is_found {i} f = split (ltb at long) refl (sym e ∙ f)
+    where
+      split : (b : Bool) → ltb at long ≡ b → cond b (Some at) None ≡ Some i → (i ≡ at) × (i < long)
+      split true h g = let same : at ≡ i = cc in (sym same, omega (arith, same, ltb-true at long h))
+      split false h g = absurd (cc)
+
+  pub is_none : r ≡ None → long ≤ at
+  is_none f = split (ltb at long) refl (sym e ∙ f)
+    where
+      split : (b : Bool) → ltb at long ≡ b → cond b (Some at) None ≡ None → long ≤ at
+      split true h g = absurd (cc)
+      split false h g = ltb-false at long h

@@ -8,7 +8,8 @@ use native.Mathlib.Omega.{arith}
 use borrow.Author.Tests.{ltb-false, not-true, not-false, lt-ltb, le-ltb}
 use lib.Dec.{ltb}
 use lib.ListN.{length, get_or, drop}
-use Rattle.error.specs.Answer.{place, clear}
+use Rattle.std.proofs.Common.{None}
+use Rattle.error.specs.Answer.{place, clear, found}
 use Rattle.error.proofs.Places.{place-le, place-start, place-skip, place_here, place_end}
 
 -- the first i items are through, and the flag says whether none of them offends
@@ -55,6 +56,10 @@ module _ {A : Type 0} (bad : A → Bool) (xs : List A) where
       let least = ltb-false (place bad xs) (length xs) (not-true _ e) in
       let most = place-le bad xs in
       omega (arith, least, most)
+
+  -- where no item offends, none is found
+  pub clear-found : clear bad xs ≡ true → None ≡ found (place bad xs) (length xs)
+  clear-found e = rw (not-true _ e) refl
 
   pub clear-passes : {ok : Bool} → ok ≡ clear bad xs → ok ≡ true → ltb (place bad xs) (length xs) ≡ false
   clear-passes e t = not-true _ (sym e ∙ t)

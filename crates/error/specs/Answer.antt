@@ -1,6 +1,6 @@
 -- A call answers a value, a refusal of a number and a place, or that a position is withdrawn; lent memory then holds the whole result, or what it held. The order of
 -- document 01's checks is the order of a list: 'Where several items offend, the first one counts.' Assumes nothing.
-use Rattle.std.specs.Prelude.{ℕ, suc, Bool, true, false, cond, not, List, [], ◌∷◌, ltb, length}
+use Rattle.std.specs.Prelude.{ℕ, suc, Bool, true, false, cond, not, List, [], ◌∷◌, ltb, length, Option, Some, None}
 
 -- 'An answer is a value or a refusal of a number and a place.' Document 02 adds, in request b), that a position may be withdrawn, which is neither.
 pub data Answer (A : Type 0) : Type 0 where
@@ -26,6 +26,10 @@ first (c ∷ cs) a = unless c (first cs a)
 unfoldable pub place : {A : Type 0} → (A → Bool) → List A → ℕ
 place bad [] = 0
 place bad (x ∷ xs) = cond (bad x) 0 (suc (place bad xs))
+
+-- A place among so many items is found where it is that of an item, and is none where it is past the end.
+abbrev pub found : ℕ → ℕ → Option ℕ
+found at long = cond (ltb at long) (Some at) None
 
 -- No item offends: the place of the first that does is past the end.
 abbrev pub clear : {A : Type 0} → (A → Bool) → List A → Bool

@@ -1,5 +1,5 @@
 pub mod Answer
 pub mod Checks
-pub mod Lengths
+pub mod Refusals
 pub mod Outcomes
 pub mod Inner

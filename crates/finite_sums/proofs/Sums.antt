@@ -32,9 +32,6 @@ among-clear values all = ap not (each_none bad_value values nan (λ i l. finite-
 -- ---- one sum
 
 module _ (values : List Float) (from : ℕ) where
-  pub ran-start : (sum : Float) → Ran values from from sum sum
-  ran-start sum = record { told = λ t. (t, λ k l h. absurd (omega arith)) }
-
   pub ran-more : {to : ℕ} {old new : Float} → Ran values from to old new → Ran values from (to + 1) old (add binary32 new (get_or values to nan))
   ran-more {to} {old} {new} r = record {
     told = λ t.

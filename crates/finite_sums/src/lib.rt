@@ -3,7 +3,7 @@
 #![tactic(auto)]
 
 ghost use Rattle.std.specs.Prelude.{◌≡◌, true, ◌+◌, ◌≤◌, length};
-ghost use Rattle.error.specs.Answer.{clear};
+ghost use Rattle.error.specs.Answer.{clear, found};
 ghost use Rattle.error.specs.Checks.{bad_value, first_non_finite_of};
 ghost use Rattle.finite_sums.specs.Inner.{Took, Ran};
 
@@ -17,12 +17,12 @@ pub fn all_finite(values: &[f32]) -> bool
     error::all_finite(values)
 }
 
-// The index of the first value that is not finite, or how many values there are where each is finite.
-pub fn first_non_finite(values: &[f32]) -> usize
-    ensures { result ≡ first_non_finite_of values.now }
+// The index of the first value that is not finite, if there is one.
+pub fn first_non_finite(values: &[f32]) -> Option<usize>
+    ensures { result ≡ found (first_non_finite_of values.now) (length values.now) }
 {
     if is_sum_finite(values) {
-        return values.len();
+        return None;
     }
     error::first_non_finite(values)
 }
@@ -31,8 +31,10 @@ pub fn first_non_finite(values: &[f32]) -> usize
 fn is_sum_finite(values: &[f32]) -> bool
     ensures { result ≡ true → clear bad_value values.now ≡ true }
 {
-    let mut sums = no_sums();
+    let mut sums = [0.0f32; 32];
     let mut at = 0;
+    // Kept: the index goes on by 32, and the values after the last 32 are added from where it stops. With `chunks_exact` the two functions below would be told
+    // index 0 each time.
     while 32 <= values.len() - at {
         sums = add_lanes(values, at, sums);
         at += 32;
@@ -47,10 +49,8 @@ fn add_lanes(values: &[f32], at: usize, sums: [f32; 32]) -> [f32; 32]
     ensures { Took values.now at (at + 32) sums result }
 {
     let mut more = sums;
-    let mut i = 0;
-    while i < 32 {
+    for i in 0..32 {
         more[i] = more[i] + values[at + i];
-        i += 1;
     }
     more
 }
@@ -61,15 +61,8 @@ fn add_up(values: &[f32], from: usize, begun: f32) -> f32
     ensures { Ran values.now from (length values.now) begun result }
 {
     let mut sum = begun;
-    let mut i = from;
-    while i < values.len() {
-        sum = sum + values[i];
-        i += 1;
+    for x in &values[from..] {
+        sum = sum + *x;
     }
     sum
-}
-
-// Sums of nothing.
-fn no_sums() -> [f32; 32] {
-    [0.0f32; 32]
 }

@@ -27,7 +27,7 @@ pub fn is_finite(x: f32) -> bool
 pub fn is_nan(x: f32) -> bool
     ensures { result ≡ is_nan x }
 {
-    x != x
+    x.is_nan()
 }
 
 // The float of a pattern; every NaN's pattern gives a NaN.
@@ -45,7 +45,7 @@ pub fn from_bits(bits: u32) -> f32
 pub fn to_bits(x: f32) -> u32
     ensures { result ≡ to_bits binary32 x }
 {
-    if is_nan(x) {
+    if x.is_nan() {
         0x7FC0_0000
     } else {
         f32::to_bits(x)
@@ -111,11 +111,7 @@ pub fn copy_into(input: &[f32], output: &mut [f32])
     if input.len() != output.len() {
         return;
     }
-    let mut i = 0;
-    while i < input.len() {
-        output[i] = input[i];
-        i += 1;
-    }
+    output.copy_from_slice(input);
 }
 
 // The significand of a pattern with a clear sign, which stands for significand * 2^shift units of 2^-149.
@@ -168,9 +164,7 @@ fn integer_root(m: u64) -> u64
     ensures { result ≡ root_bits 24 0 m }
 {
     let mut r: u64 = 0;
-    let mut j: u32 = 24;
-    while 0 < j {
-        j -= 1;
+    for j in (0u32..24).rev() {
         let t = r + (1u64 << j);
         if t * t <= m {
             r = t;

@@ -1,5 +1,4 @@
--- Lists of parts of one length: what each part is, how a loop that goes part by part adds one, and that cutting and joining undo each other.
--- Assumes nothing.
+-- Lists of parts of one length: what each part is, how joined parts grow by one, and that cutting and joining undo each other. Assumes nothing.
 use Prim.Native.Nat.{ℕ, zero, suc, ◌+◌, ◌*◌, ◌<◌, suc-le-suc}
 use mathlib.Core.Path.{◌≡◌, refl, sym, ap, ◌∙◌}
 use mathlib.Core.List.{List, [], ◌∷◌, ◌++◌, map, flat_map, append_assoc, append-nil}
@@ -29,18 +28,6 @@ module _ {A B : Type 0} (f : List A → B) where
   unfolding chunks
   length-chunks w zero items = refl
   length-chunks w (suc n) items = ap suc (length-chunks w n (drop w items))
-
-  -- one part more
-  pub chunks-more : (w n : ℕ) (items : List A) → map f (chunks w (suc n) items) ≡ map f (chunks w n items) ++ (f (take w (drop (w * n) items)) ∷ [])
-  unfolding chunks
-  chunks-more w zero items = ap (λ (x : List A). f x ∷ []) (part-first w items)
-  chunks-more w (suc n) items =
-      ap (λ (l : List B). f (take w items) ∷ l)
-      (chunks-more w n (drop w items) ∙ ap (λ (l : List A). map f (chunks w n (drop w items)) ++ (f (take w l) ∷ [])) (part-next w n items))
-
-  pub chunks-none : (w : ℕ) (items : List A) → map f (chunks w 0 items) ≡ []
-  unfolding chunks
-  chunks-none w items = refl
 
 -- ---- joined parts
 

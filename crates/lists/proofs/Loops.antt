@@ -1,18 +1,14 @@
--- Loops over a list, each with its start, one turn and its end: one that fills a list from an index on (`Filled`), one that writes w entries for each item
--- (`Written`), and one that reads an item from each part of w entries (`Gathered`). Assumes nothing.
+-- A loop that fills a list from an index on (`Filled`): its start, one turn and its end. And places in a list that are w apart. Assumes nothing.
 use Prim.Native.Nat.{ℕ, ◌+◌, ◌*◌, ◌≤◌, ◌<◌}
 use mathlib.Core.Path.{◌≡◌, refl, sym, ap, ◌∙◌}
-use mathlib.Core.List.{List, [], ◌∷◌, ◌++◌, map, flat_map}
-use native.Mathlib.Nat.{add_assoc, mul-zero, mul-suc, mul-le-mul_left}
+use mathlib.Core.List.{List}
+use native.Mathlib.Nat.{add_assoc, mul-suc, mul-le-mul_left}
 use native.Mathlib.Decide.{dec_lt}
 use native.Mathlib.Numerals.{add-one}
 use native.Mathlib.Omega.{arith}
-use lib.ListN.{length, get_or, take, drop, set, length-set}
-use lib.Seq.{take_all, get_or-set_same, get_or-set_other, ext_get_or}
-use Rattle.lists.specs.Chunks.{chunks}
+use lib.ListN.{length, get_or, set, length-set}
+use lib.Seq.{get_or-set_same, get_or-set_other, ext_get_or}
 use Rattle.lists.specs.Inner.{Filled}
-use Rattle.lists.proofs.Chunks.{chunks-more, chunks-none, joined-more, joined-none}
-use Rattle.lists.proofs.Stores.{length-store, take-store, take_set_next}
 
 -- ---- a list filled from an index on
 
@@ -70,67 +66,3 @@ next_place w i at e = rw (add-one, mul-suc) (ap (λ (k : ℕ). k + w) e)
 -- the w entries at the i-th place are within the n places
 pub place-within : (w i n at : ℕ) → at ≡ w * i → i < n → at + w ≤ w * n
 place-within w i n at e h = let more = mul-le-mul_left w h in let next = mul-suc w i in omega (arith, e, more, next)
-
--- ---- parts written: after i items, what stands before `at` are their parts
-
-pub record Written {A B : Type 0} (g : B → List A) (w : ℕ) (xs : List B) (out : List A) (i at : ℕ) : Type 0 where
-  pub within : i ≤ length xs
-  pub place : at ≡ w * i
-  pub long : length out ≡ w * length xs
-  pub front : take at out ≡ flat_map g (take i xs)
-
-module _ {A B : Type 0} (g : B → List A) (w : ℕ) (xs : List B) where
-  pub written_start : (out : List A) → length out ≡ w * length xs → Written g w xs out 0 0
-  written_start out l = record { within = omega arith; place = sym (mul-zero w); long = l; front = sym (joined-none g) }
-
-  pub written_next : (sized : (x : B) → length (g x) ≡ w) (d : B) (out out' : List A) (i at : ℕ) → i < length xs → Written g w xs out i at → out' ≡ take at out ++ g (get_or xs i d) ++ drop (at + w) out → Written g w xs out' (i + 1) (at + w)
-  written_next sized d out out' i at h inv e =
-      let x = get_or xs i d in
-      let fits : at + w ≤ length out = rw inv.long (place-within w i (length xs) at inv.place h) in
-      record {
-        within = omega arith;
-        place = next_place w i at inv.place;
-        long = ap length e ∙ length-store out (g x) at w (sized x) fits ∙ inv.long;
-        front =
-            ap (take (at + w)) e
-            ∙ take-store out (g x) at w (sized x) fits
-            ∙ ap (λ (front : List A). front ++ g x) inv.front
-            ∙ sym (joined-more g xs i d h);
-      }
-
-  pub written-end : (out : List A) (i at : ℕ) → length xs ≤ i → Written g w xs out i at → out ≡ flat_map g xs
-  written-end out i at h inv =
-      sym (take_all at out (omega (arith, inv.long, inv.place, mul-le-mul_left w h)))
-      ∙ inv.front
-      ∙ ap (flat_map g) (take_all i xs h)
-
--- ---- items read: after i parts, the first i items are theirs
-
-pub record Gathered {A B : Type 0} (f : List A → B) (w : ℕ) (items : List A) (count : ℕ) (out : List B) (i at : ℕ) : Type 0 where
-  pub within : i ≤ count
-  pub place : at ≡ w * i
-  pub long : length out ≡ count
-  pub front : take i out ≡ map f (chunks w i items)
-
-module _ {A B : Type 0} (f : List A → B) (w : ℕ) (items : List A) (count : ℕ) where
-  pub gathered-start : (out : List B) → length out ≡ count → Gathered f w items count out 0 0
-  gathered-start out l = record { within = omega arith; place = sym (mul-zero w); long = l; front = sym (chunks-none f w items) }
-
-  pub gathered_next : (out : List B) (x : B) (i at : ℕ) → i < count → Gathered f w items count out i at → x ≡ f (take w (drop at items)) → Gathered f w items count (set out i x) (i + 1) (at + w)
-  gathered_next out x i at h inv e =
-      record {
-        within = omega arith;
-        place = next_place w i at inv.place;
-        long = length-set out i x ∙ inv.long;
-        front =
-            take_set_next out i x (rw inv.long h)
-            ∙ ap (λ (front : List B). front ++ (x ∷ [])) inv.front
-            ∙ ap (λ (y : B). map f (chunks w i items) ++ (y ∷ [])) (e ∙ ap (λ (k : ℕ). f (take w (drop k items))) inv.place)
-            ∙ sym (chunks-more f w i items)
-            ∙ ap (λ (k : ℕ). map f (chunks w k items)) (sym (add-one i));
-      }
-
-  pub gathered-end : (out : List B) (i at : ℕ) → count ≤ i → Gathered f w items count out i at → out ≡ map f (chunks w count items)
-  gathered-end out i at h inv =
-      let all : i ≡ count = omega (arith, inv.within) in
-      sym (take_all i out (omega (arith, inv.long))) ∙ inv.front ∙ ap (λ (k : ℕ). map f (chunks w k items)) all

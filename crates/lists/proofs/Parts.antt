@@ -26,7 +26,3 @@ module _ {A : Type 0} (m : ℕ) (xs : List A) (h : m ≤ length xs) where
     -- the array is still long enough
     pub part-enough : m ≤ length (ys ++ zs)
     part-enough = omega (arith, length-append ys zs, l, part-long)
-
-    -- what a call writes that goes by the length of what it is lent is what it writes to m entries
-    pub part_filled : (f : ℕ → List A) → ys ≡ f (length (take (m - 0) xs)) → take (m - 0) (ys ++ zs) ≡ f m
-    part_filled f e = part-read ∙ e ∙ ap f part-long

@@ -18,14 +18,6 @@ use Rattle.packed.specs.Fields.{map_of, has_signs, has_norm, profile_of, mode_of
 use Rattle.packed.specs.Layout.{header_length, pairs_of, indices_used, record_length, radii_bytes, indices_bytes, signs_bytes, header_of}
 use Rattle.packed.specs.Radii.{bad_bounds_for}
 use Rattle.packed.specs.declared.Header.{Header}
-use Rattle.packed.specs.declared.Reading.{Reading}
-use Rattle.packed.specs.declared.Reading.TheVariants.{Read, Refused, Withdrawn}
-
--- A `Reading` says a header, a refusal, or that the position is withdrawn.
-abbrev pub says_reading : Reading → Answer Header
-says_reading (Read header) = value header
-says_reading (Refused n p) = refused n p
-says_reading Withdrawn = withdrawn
 
 -- ---- a withdrawn position
 

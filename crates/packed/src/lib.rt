@@ -1,5 +1,5 @@
-// The record: what a code, a header and an answer of the reader are, and the fields of a header with their checks.
-// Ported from turbo-quant/src/packed.rs and changed: the byte layout is this port's own, and refusals are numbers.
+// The record: what a code and a header are, and the fields of a header with their checks.
+// Ported from turbo-quant/src/packed.rs and changed: the byte layout is this port's own, and refusals are a number and a place.
 #![tactic(auto)]
 
 ghost use Rattle.std.specs.Prelude.{◌≡◌};
@@ -10,18 +10,11 @@ ghost use Rattle.packed.specs.Layout.{header_length};
 ghost use Rattle.packed.specs.Radii.{bad_bounds, bad_bounds_for};
 ghost use Rattle.packed.specs.Reading.{bad_map, bad_record_dimension, bad_polar_bits, shape_checks};
 
-use error::{INVALID_BIT_WIDTH, ODD_DIMENSION, Outcome, ROTATION_FAILED, ZERO_DIMENSION};
+use error::Refusal;
 use radius::{RadiusCodecProfileV1, Range};
 use setup::TurboMode;
 
-// The norm that a record is written with: none, or one that is stored.
-#[derive(Clone, Copy)]
-pub enum SourceNorm {
-    Absent,
-    Given(f32),
-}
-
-// The scalars that a record is written with. Without signs the projections are ignored.
+// The scalars that a record is written with, its norm among them where one is stored. Without signs the projections are ignored.
 #[derive(Clone, Copy)]
 pub struct Code {
     pub profile: RadiusCodecProfileV1,
@@ -29,11 +22,12 @@ pub struct Code {
     pub dim: usize,
     pub bits: u8,
     pub projections: usize,
-    pub norm: SourceNorm,
+    pub norm: Option<f32>,
 }
 
 // What a record says before its payloads, and where these start in its bytes: each goes on to where the next one starts, the signs to `end`. Where
 // no norm stands it is 1.0.
+// Kept: `has_norm` beside `norm` is what `header_of` and the C interface tell, and scoring reads 1.0 where none stands.
 #[derive(Clone, Copy)]
 pub struct Header {
     pub mode: TurboMode,
@@ -50,43 +44,23 @@ pub struct Header {
     pub end: usize,
 }
 
-// The header of an accepted record, a refusal, or a withdrawn position.
-#[derive(Clone, Copy)]
-pub enum Reading {
-    Read(Header),
-    Refused { number: u32, place: usize },
-    Withdrawn,
-}
-
 // The checks of a dimension and of polar bits, in reading and in writing.
-pub fn check_shape(mode: TurboMode, dim: usize, bits: u8) -> Outcome
+pub fn check_shape(mode: TurboMode, dim: usize, bits: u8) -> Result<(), Refusal>
     ensures { says result ≡ first (shape_checks mode dim bits) accepted }
 {
     if dim == 0 {
-        return Outcome::Refused {
-            number: ZERO_DIMENSION,
-            place: 0,
-        };
+        return Err(Refusal::ZeroDimension(0));
     }
     if dim % 2 == 1 {
-        return Outcome::Refused {
-            number: ODD_DIMENSION,
-            place: dim,
-        };
+        return Err(Refusal::OddDimension(dim));
     }
     if outside_dimension(dim) {
-        return Outcome::Refused {
-            number: ROTATION_FAILED,
-            place: dim,
-        };
+        return Err(Refusal::RotationFailed(dim));
     }
     if outside_bits(mode, bits) {
-        return Outcome::Refused {
-            number: INVALID_BIT_WIDTH,
-            place: bits as usize,
-        };
+        return Err(Refusal::InvalidBitWidth(bits as usize));
     }
-    Outcome::Done
+    Ok(())
 }
 
 // The header's length, by bits 0, 1 and 2 of the map byte; the other bits are not looked at.

@@ -6,6 +6,7 @@ use mathlib.Core.Bool.{true, false}
 use mathlib.Core.List.{List, [], ◌∷◌, map, flat_map}
 use lib.Count.{ones, ones_in}
 use lib.Ieee.{binary32, of_bits, add, sub, mul, div, lt, of_int}
+use Rattle.std.specs.Prelude.{None}
 use Rattle.error.specs.Answer.{value, refused, place}
 use Rattle.digits.specs.Digits.{number, digits}
 use Rattle.float.specs.Bytes.{of_le_bytes}
@@ -18,7 +19,6 @@ use Rattle.radius.specs.Linear.{span_of, quantize_radius_of, linear_bytes, radiu
 use Rattle.radius.specs.Firsts.{read_back}
 use Rattle.radius.specs.declared.RadiusCodecProfileV1.TheVariants.{BlockLinearU16}
 use Rattle.setup.specs.declared.TurboMode.TheVariants.{PolarOnly}
-use Rattle.packed.specs.declared.SourceNorm.TheVariants.{Absent}
 use Rattle.packed.specs.Fields.{bounds_of, projections_of, norm_of}
 use Rattle.packed.specs.Layout.{radii_bytes, indices_bytes, signs_bytes, header_of}
 use Rattle.packed.specs.Reading.{radii_of, indices_of, read_record_of}
@@ -33,7 +33,7 @@ pub linear-read : read_record_of linear_bytes_read ≡ value (record { mode = Po
 unfolding read_record_of header_of radii_of radii_bytes indices_bytes signs_bytes bounds_of projections_of norm_of number place chunks of_le_bytes of_bits lt bad_padding radius_of linear_radius add sub mul div of_int
 linear-read = refl
 
-pub linear-again : write_record_of (record { profile = BlockLinearU16; mode = PolarOnly; dim = 4; bits = 1; projections = 0; norm = Absent }) (radii_of linear_bytes_read) (indices_of linear_bytes_read) [] 19 ≡ refused 16 1
+pub linear-again : write_record_of (record { profile = BlockLinearU16; mode = PolarOnly; dim = 4; bits = 1; projections = 0; norm = None }) (radii_of linear_bytes_read) (indices_of linear_bytes_read) [] 19 ≡ refused 16 1
 unfolding write_record_of read_back place chunks flat_map number digits of_bits of_le_bytes lt least greatest range_of round_unsigned clamped span_of quantize_radius_of linear_bytes radius_of linear_radius add sub mul div of_int radii_of radii_bytes bounds_of indices_of indices_bytes
 linear-again = refl
 

@@ -9,6 +9,7 @@ use lib.Ieee.{Float, binary32, fits}
 use borrow.Author.Tests.{lt-leb}
 use lib.IntN.{pos}
 use lib.ListN.{length, get_or}
+use Rattle.std.specs.Prelude.{None, Some}
 use Rattle.error.specs.Answer.{value}
 use Rattle.error.specs.Checks.{wrong_room, bad_index}
 use Rattle.error.proofs.Chains.{first-all, first-accepts}
@@ -22,7 +23,6 @@ use Rattle.radius.proofs.RoundTrip.{Floats}
 use Rattle.setup.specs.declared.TurboMode.TheVariants.{PolarOnly, PolarWithQjl}
 use Rattle.packed.specs.declared.Header.{Header}
 use Rattle.packed.specs.Fields.{map_of, has_range, has_signs, has_norm, profile_of, mode_of, bits_of, bounds_of, projections_of, norm_of}
-use Rattle.packed.specs.declared.SourceNorm.TheVariants.{Absent, Given}
 use Rattle.float.specs.Constants.{one}
 use Rattle.radius.specs.Radii.{bad_radius}
 use Rattle.packed.specs.Layout.{radii_bytes, header_of}
@@ -51,7 +51,7 @@ counted-again : (bytes : List ℕ) → counted (mode_of (map_of bytes)) (project
 unfolding projections_of
 counted-again bytes = either-counted (has_signs (map_of bytes)) _
 
-either-norm : (t : Bool) (x : Float) → norm_value (cond t (Given (cond t x (one false))) Absent) ≡ cond t x (one false)
+either-norm : (t : Bool) (x : Float) → norm_value (cond t (Some (cond t x (one false))) None) ≡ cond t x (one false)
 either-norm true x = refl
 either-norm false x = refl
 
@@ -60,7 +60,7 @@ norm_value-again : (bytes : List ℕ) → norm_value (norm_as bytes) ≡ norm_of
 unfolding norm_of
 norm_value-again bytes = either-norm (has_norm (map_of bytes)) _
 
-either-beside : (n s : Bool) (x : Float) → (n ≡ true → s ≡ true) → bad_norm_alone (cond s PolarWithQjl PolarOnly) (cond n (Given x) Absent) ≡ false
+either-beside : (n s : Bool) (x : Float) → (n ≡ true → s ≡ true) → bad_norm_alone (cond s PolarWithQjl PolarOnly) (cond n (Some x) None) ≡ false
 either-beside true s x h = rw (h refl)
 either-beside false true x h = refl
 either-beside false false x h = refl

@@ -10,6 +10,7 @@ use lib.Dec.{eqb}
 use lib.ListN.{length, get_or, take, drop}
 use lib.Seq.{take-add}
 use lib.Ieee.{Float, nan, lt}
+use Rattle.std.specs.Prelude.{None, Some}
 use Rattle.error.specs.Answer.{value}
 use Rattle.error.proofs.Chains.{or-false}
 use Rattle.digits.specs.Digits.{digits}
@@ -33,7 +34,6 @@ use Rattle.packed.proofs.Headers.{product-most}
 use Rattle.packed.proofs.Parts.{length-radii, length-indices, length-signs}
 use Rattle.packed.proofs.Payloads.{length-radii_of}
 use Rattle.packed.specs.declared.Code.{Code}
-use Rattle.packed.specs.declared.SourceNorm.TheVariants.{Absent, Given}
 use Rattle.packed_laws.specs.RoundTrips.{norm_as, code_as, norm_part}
 use Rattle.packed_laws.proofs.Parts.{part-below, part-two, word-again, float-again, four-parts, six-bytes, header-parts}
 
@@ -42,7 +42,7 @@ abbrev pub code_of : List ℕ → Code
 code_of bytes = code_as (profile_of (map_of bytes)) bytes
 
 -- the map byte is made again from what it tells
-pub map-again : (map : ℕ) (x : Float) → map ≤ 7 → map_for (profile_of map) (mode_of map) (cond (has_norm map) (Given x) Absent) ≡ map
+pub map-again : (map : ℕ) (x : Float) → map ≤ 7 → map_for (profile_of map) (mode_of map) (cond (has_norm map) (Some x) None) ≡ map
 map-again zero x h = refl
 map-again (suc zero) x h = refl
 map-again (suc (suc zero)) x h = refl

@@ -9,6 +9,7 @@ use borrow.Author.Tests.{lt-ltb, le-ltb, ltb-true, ltb-false, eqb-false}
 use lib.Dec.{ltb}
 use lib.IntN.{ℤ}
 use lib.Ieee.{Float}
+use Rattle.std.specs.Prelude.{None}
 use Rattle.digits.specs.Digits.{digits}
 use Rattle.error.specs.Answer.{Answer, value, first}
 use Rattle.float.specs.Constants.{one}
@@ -20,7 +21,6 @@ use Rattle.setup.specs.declared.TurboMode.TheVariants.{PolarOnly, PolarWithQjl}
 use Rattle.bitpack.specs.Packing.{index_bytes}
 use Rattle.bitpack.specs.Signs.{sign_bytes}
 use Rattle.packed.specs.declared.Code.{Code}
-use Rattle.packed.specs.declared.SourceNorm.TheVariants.{Absent}
 use Rattle.packed.specs.Fields.{map_of, norm_bit, has_norm, float_at, norm_start, norm_of}
 use Rattle.packed.specs.Layout.{header_length, header_of}
 use Rattle.packed.specs.Reading.{bad_map, unless_withdrawn, record_checks, read_record_of}
@@ -62,14 +62,14 @@ module _ (bytes : List ℕ) (none : has_norm (map_of bytes) ≡ false) where
 
 -- ---- writing
 
-former-long : (profile : RadiusCodecProfileV1) (mode : TurboMode) → header_length (map_for profile mode Absent) ≡ former_header_length (former_map_for profile mode)
-former-long profile mode = length_same (map_for profile mode Absent) (map-tells profile mode Absent).given ∙ ap former_header_length (add-zero (former_map_for profile mode))
+former-long : (profile : RadiusCodecProfileV1) (mode : TurboMode) → header_length (map_for profile mode None) ≡ former_header_length (former_map_for profile mode)
+former-long profile mode = length_same (map_for profile mode None) (map-tells profile mode None).given ∙ ap former_header_length (add-zero (former_map_for profile mode))
 
-former-beside : (mode : TurboMode) → bad_norm_alone mode Absent ≡ false
+former-beside : (mode : TurboMode) → bad_norm_alone mode None ≡ false
 former-beside PolarOnly = refl
 former-beside PolarWithQjl = refl
 
-module _ (code : Code) (absent : code.norm ≡ Absent) where
+module _ (code : Code) (absent : code.norm ≡ None) where
   needed-same : needed_for code ≡ former_needed_for code
   needed-same = rw (absent, former-long code.profile code.mode)
 

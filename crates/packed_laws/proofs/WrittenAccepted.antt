@@ -9,6 +9,7 @@ use lib.Dec.{T, ltb, eqb}
 use lib.IntN.{ℤ}
 use lib.ListN.{length, get_or}
 use lib.Ieee.{Float, nan, binary32, fits}
+use Rattle.std.specs.Prelude.{Option}
 use Rattle.error.proofs.Chains.{or-false}
 use Rattle.radius.specs.Codec.{bad_profile, range_for}
 use Rattle.radius.specs.Radii.{bad_radius}
@@ -18,7 +19,6 @@ use Rattle.radius.proofs.RoundTrip.{Floats}
 use Rattle.setup.specs.declared.TurboMode.{TurboMode}
 use Rattle.setup.specs.declared.TurboMode.TheVariants.{PolarOnly, PolarWithQjl}
 use Rattle.packed.specs.declared.Code.{Code}
-use Rattle.packed.specs.declared.SourceNorm.{SourceNorm}
 use Rattle.packed.specs.Fields.{map_of, has_range, has_signs, has_norm}
 use Rattle.packed.specs.Layout.{header_length}
 use Rattle.packed.specs.Radii.{bad_bounds}
@@ -35,14 +35,14 @@ use Rattle.packed_laws.proofs.Fields.{map-written, dim-written, bits-written, pr
 use Rattle.packed_laws.proofs.Payloads.{radii-written, indices-clean, signs-clean}
 
 -- without signs the map byte says so
-no_signs : (profile : RadiusCodecProfileV1) (norm : SourceNorm) → has_signs (map_for profile PolarOnly norm) ≡ false
+no_signs : (profile : RadiusCodecProfileV1) (norm : Option Float) → has_signs (map_for profile PolarOnly norm) ≡ false
 no_signs profile norm = (map-tells profile PolarOnly norm).signs
 
-signs-bits : (profile : RadiusCodecProfileV1) (mode : TurboMode) (norm : SourceNorm) (b : ℕ) → bad_polar_bits mode b ≡ false → has_signs (map_for profile mode norm) ≡ true → b ≤ 15
+signs-bits : (profile : RadiusCodecProfileV1) (mode : TurboMode) (norm : Option Float) (b : ℕ) → bad_polar_bits mode b ≡ false → has_signs (map_for profile mode norm) ≡ true → b ≤ 15
 signs-bits profile PolarOnly norm b e s = absurd (true≢false (sym s ∙ no_signs profile norm))
 signs-bits profile PolarWithQjl norm b e s = ltb-false 15 b (or-false (ltb b 1) (ltb 15 b) e).1
 
-signs-counted : (profile : RadiusCodecProfileV1) (mode : TurboMode) (norm : SourceNorm) (m : ℕ) → bad_projections mode m ≡ false → has_signs (map_for profile mode norm) ≡ true → (0 < counted mode m) × (counted mode m ≤ 4096)
+signs-counted : (profile : RadiusCodecProfileV1) (mode : TurboMode) (norm : Option Float) (m : ℕ) → bad_projections mode m ≡ false → has_signs (map_for profile mode norm) ≡ true → (0 < counted mode m) × (counted mode m ≤ 4096)
 signs-counted profile PolarOnly norm m e s = absurd (true≢false (sym s ∙ no_signs profile norm))
 signs-counted profile PolarWithQjl norm m e s =
     let both = or-false (eqb m 0) (ltb 4096 m) e in
@@ -50,12 +50,12 @@ signs-counted profile PolarWithQjl norm m e s =
     (omega (arith, above), ltb-false 4096 m both.1)
 
 -- a norm that is given stands beside signs
-norm-signs : (profile : RadiusCodecProfileV1) (mode : TurboMode) (norm : SourceNorm) → bad_norm_alone mode norm ≡ false → has_norm (map_for profile mode norm) ≡ true → has_signs (map_for profile mode norm) ≡ true
+norm-signs : (profile : RadiusCodecProfileV1) (mode : TurboMode) (norm : Option Float) → bad_norm_alone mode norm ≡ false → has_norm (map_for profile mode norm) ≡ true → has_signs (map_for profile mode norm) ≡ true
 norm-signs profile PolarOnly norm e t = absurd (true≢false (sym t ∙ (map-tells profile PolarOnly norm).given ∙ e))
 norm-signs profile PolarWithQjl norm e t = (map-tells profile PolarWithQjl norm).signs
 
 -- the range of linear radii is one that a record may hold
-range-passes : (profile : RadiusCodecProfileV1) (mode : TurboMode) (norm : SourceNorm) (radii : List Float) → bad_profile profile ≡ false → ((i : ℕ) → i < length radii → bad_radius (get_or radii i nan) ≡ false)
+range-passes : (profile : RadiusCodecProfileV1) (mode : TurboMode) (norm : Option Float) (radii : List Float) → bad_profile profile ≡ false → ((i : ℕ) → i < length radii → bad_radius (get_or radii i nan) ≡ false)
     → has_range (map_for profile mode norm) ≡ true → bad_bounds (range_for profile radii) ≡ false
 range-passes F32 mode norm radii e h t = absurd (true≢false (sym t ∙ (map-tells F32 mode norm).linear))
 range-passes BlockLinearU16 mode norm radii e h t = range-good radii h

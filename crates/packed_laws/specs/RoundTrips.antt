@@ -1,6 +1,6 @@
 -- These are the promises of acceptance and of a record's round trips: the header that inputs are written with, the fields that come back, and what a linear record
 -- keeps. Document 01: 'Writing a record, F32 or linear'; 'In `PolarOnly` m counts as 0'. Assumes nothing.
-use Rattle.std.specs.Prelude.{ℕ, ◌+◌, ◌*◌, ◌/◌, ◌≡◌, true, false, cond, List, ℤ, length, T, Float}
+use Rattle.std.specs.Prelude.{ℕ, ◌+◌, ◌*◌, ◌/◌, ◌≡◌, true, false, cond, List, ℤ, length, T, Float, None, Option, Some}
 use Rattle.std.specs.Float.{binary32}
 use Rattle.std.specs.Float.Ieee.{fits}
 use Rattle.digits.specs.Digits.{AreBytes}
@@ -12,8 +12,6 @@ use Rattle.radius.specs.Radii.{range_of}
 use Rattle.radius.specs.declared.RadiusCodecProfileV1.{RadiusCodecProfileV1}
 use Rattle.radius.specs.declared.RadiusCodecProfileV1.TheVariants.{F32, BlockLinearU16}
 use Rattle.packed.specs.declared.Code.{Code}
-use Rattle.packed.specs.declared.SourceNorm.{SourceNorm}
-use Rattle.packed.specs.declared.SourceNorm.TheVariants.{Absent, Given}
 use Rattle.packed.specs.declared.Header.{Header}
 use Rattle.packed.specs.Fields.{map_of, norm_bit, has_range, has_norm, profile_of, mode_of, dim_of, bits_of, bounds_of, projections_of, norm_start, norm_of}
 use Rattle.packed.specs.Layout.{header_length, part_at, indices_bytes, signs_bytes, header_of}
@@ -25,8 +23,8 @@ use Rattle.setup.specs.Setups.{counted}
 use Rattle.radius.specs.Firsts.{read_back}
 
 -- This is the norm as a record's bytes tell it: given exactly where one stands.
-abbrev pub norm_as : List ℕ → SourceNorm
-norm_as bytes = cond (has_norm (map_of bytes)) (Given (norm_of bytes)) Absent
+abbrev pub norm_as : List ℕ → Option Float
+norm_as bytes = cond (has_norm (map_of bytes)) (Some (norm_of bytes)) None
 
 -- These are the scalars that a record's bytes tell, under a given profile.
 abbrev pub code_as : RadiusCodecProfileV1 → List ℕ → Code

@@ -1,7 +1,7 @@
 -- Request c) of document 02 moves what is answered of records with a norm, and nothing else. The checks, the header's length and the bytes stand here as document 01
 -- has them, with what requests b) and h) moved: b)'s withdrawn stands before them, and 4 is h)'s. A record whose map byte has no bit 2, and one that is written without
 -- a norm, are answered by these. Assumes nothing.
-use Rattle.std.specs.Prelude.{ℕ, ◌+◌, ◌*◌, ◌/◌, ◌≡◌, false, List, [], ◌∷◌, ◌++◌, ltb, ℤ, length, Float}
+use Rattle.std.specs.Prelude.{ℕ, ◌+◌, ◌*◌, ◌/◌, ◌≡◌, false, List, [], ◌∷◌, ◌++◌, ltb, ℤ, length, Float, None}
 use Rattle.digits.specs.Digits.{digits}
 use Rattle.error.specs.Answer.{Answer, value, Check, check, first, each}
 use Rattle.error.specs.Checks.{differs, wrong_room}
@@ -17,7 +17,6 @@ use Rattle.setup.specs.Checks.{wrong_projections}
 use Rattle.setup.specs.Setups.{by_mode, counted}
 use Rattle.setup.specs.declared.TurboMode.{TurboMode}
 use Rattle.packed.specs.declared.Code.{Code}
-use Rattle.packed.specs.declared.SourceNorm.TheVariants.{Absent}
 use Rattle.packed.specs.Fields.{map_of, range_bit, signs_bit, has_norm, profile_of, mode_of, dim_of, bits_of, bounds_of, projections_of, norm_of}
 use Rattle.packed.specs.Layout.{radii_start, radii_length, indices_length, signs_length, header_of}
 use Rattle.packed.specs.Radii.{bad_bounds_for}
@@ -94,6 +93,6 @@ pub record WithoutNorm : Type 1 where
   pub start_kept : (bytes : List ℕ) → has_norm (map_of bytes) ≡ false → radii_start bytes ≡ former_header_length (map_of bytes)
   pub norm_one : (bytes : List ℕ) → has_norm (map_of bytes) ≡ false → norm_of bytes ≡ one false
   -- Where no norm is given, a record has document 01's length and bytes, and these checks.
-  pub size_kept : (code : Code) → code.norm ≡ Absent → record_size_of code ≡ first (former_code_checks code) (value (former_needed_for code))
-  pub write_kept : (code : Code) (radii : List Float) (indices : List ℕ) (signs : List ℤ) (room : ℕ) → code.norm ≡ Absent
+  pub size_kept : (code : Code) → code.norm ≡ None → record_size_of code ≡ first (former_code_checks code) (value (former_needed_for code))
+  pub write_kept : (code : Code) (radii : List Float) (indices : List ℕ) (signs : List ℤ) (room : ℕ) → code.norm ≡ None
       → write_record_of code radii indices signs room ≡ first (former_write_checks code radii indices signs room) (value (former_record_of code radii indices signs))

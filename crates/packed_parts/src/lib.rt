@@ -7,8 +7,6 @@ ghost use Rattle.std.specs.Prelude.{◌≡◌};
 ghost use Rattle.packed.specs.Reading.{radii_part_of, indices_part_of, signs_part_of};
 ghost use Rattle.packed_parts.specs.Parts.{nowhere, locate_of, bad_places, cut_of, cut_start, Inside};
 
-use packed::Reading;
-
 // Where the payloads of a record stand: each from its own place to the next one, the signs to `end`.
 #[derive(Clone, Copy)]
 pub struct Places {
@@ -50,17 +48,14 @@ pub fn locate(bytes: &[u8]) -> Places
     ensures { result ≡ locate_of bytes.now }
 {
     match packed_reading::read_record(bytes) {
-        Reading::Read(header) => Places {
+        Ok(Some(header)) => Places {
             radii: header.radii_start,
             indices: header.indices_start,
             signs: header.signs_start,
             end: header.end,
         },
-        Reading::Refused {
-            number: _,
-            place: _,
-        } => no_places(),
-        Reading::Withdrawn => no_places(),
+        Ok(None) => no_places(),
+        Err(_) => no_places(),
     }
 }
 

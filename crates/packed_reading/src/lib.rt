@@ -4,110 +4,75 @@
 
 ghost use Rattle.std.specs.Prelude.{◌+◌, ◌≤◌, ◌≡◌, length};
 ghost use Rattle.error.specs.Answer.{first, accepted};
-ghost use Rattle.error.specs.Outcomes.{says};
+ghost use Rattle.error.specs.Outcomes.{says, says_unless_withdrawn};
 ghost use Rattle.digits.specs.Digits.{number};
 ghost use Rattle.digits.specs.Inner.{four_at};
 ghost use Rattle.float.specs.Bytes.{of_le_bytes};
 ghost use Rattle.packed.specs.Fields.{map_of, bounds_of, projections_of, norm_of};
 ghost use Rattle.packed.specs.Layout.{header_length, header_of};
-ghost use Rattle.packed.specs.Reading.{says_reading, header_checks, padding_checks, read_record_of};
+ghost use Rattle.packed.specs.Reading.{header_checks, padding_checks, read_record_of};
 ghost use Rattle.packed.specs.Peeking.{frame_checks, radii_checks, read_frame_of, peek_record_of};
 ghost use Rattle.packed.specs.Inner.{Whole};
 
-use error::{
-    MALFORMED_LENGTH, MALFORMED_NORM, MALFORMED_RADIUS, MALFORMED_RANGE, Outcome,
-    UNDEFINED_PROFILE, ZERO_PROJECTION_COUNT,
-};
-use packed::{Header, Reading};
+use error::Refusal;
+use packed::Header;
 use radius::Range;
 
 // Reads a record: its header, where nothing offends. A record of no bytes is a withdrawn position.
-pub fn read_record(bytes: &[u8]) -> Reading
-    ensures { says_reading result ≡ read_record_of bytes.now }
+pub fn read_record(bytes: &[u8]) -> Result<Option<Header>, Refusal>
+    ensures { says_unless_withdrawn result ≡ read_record_of bytes.now }
 {
-    match read_frame(bytes) {
-        Reading::Read(header) => {
-            if let Outcome::Refused { number, place } = check_payloads(bytes, header) {
-                return Reading::Refused { number, place };
-            }
-            Reading::Read(header)
-        }
-        Reading::Refused { number, place } => Reading::Refused { number, place },
-        Reading::Withdrawn => Reading::Withdrawn,
-    }
+    let Some(header) = read_frame(bytes)? else {
+        return Ok(None);
+    };
+    check_payloads(bytes, header)?;
+    Ok(Some(header))
 }
 
 // Reads a record with no look at its radii: the answer is the reader's where no radius offends.
-pub fn peek_record(bytes: &[u8]) -> Reading
-    ensures { says_reading result ≡ peek_record_of bytes.now }
+pub fn peek_record(bytes: &[u8]) -> Result<Option<Header>, Refusal>
+    ensures { says_unless_withdrawn result ≡ peek_record_of bytes.now }
 {
-    match read_frame(bytes) {
-        Reading::Read(header) => {
-            if let Outcome::Refused { number, place } = check_padding(bytes, header) {
-                return Reading::Refused { number, place };
-            }
-            Reading::Read(header)
-        }
-        Reading::Refused { number, place } => Reading::Refused { number, place },
-        Reading::Withdrawn => Reading::Withdrawn,
-    }
+    let Some(header) = read_frame(bytes)? else {
+        return Ok(None);
+    };
+    check_padding(bytes, header)?;
+    Ok(Some(header))
 }
 
 // The header of a record, where nothing offends but perhaps a payload.
-fn read_frame(bytes: &[u8]) -> Reading
-    ensures { says_reading result ≡ read_frame_of bytes.now }
+fn read_frame(bytes: &[u8]) -> Result<Option<Header>, Refusal>
+    ensures { says_unless_withdrawn result ≡ read_frame_of bytes.now }
 {
     if bytes.len() == 0 {
-        return Reading::Withdrawn;
+        return Ok(None);
     }
-    if let Outcome::Refused { number, place } = check_header(bytes) {
-        return Reading::Refused { number, place };
-    }
+    check_header(bytes)?;
     let found = header_of(bytes);
-    if let Outcome::Refused { number, place } = check_frame(bytes, found) {
-        return Reading::Refused { number, place };
-    }
-    Reading::Read(found)
+    check_frame(bytes, found)?;
+    Ok(Some(found))
 }
 
 // The checks of the header but for its range and its norm.
-fn check_header(bytes: &[u8]) -> Outcome
+fn check_header(bytes: &[u8]) -> Result<(), Refusal>
     ensures { says result ≡ first (header_checks bytes.now) accepted }
 {
     if bytes.len() < 6 {
-        return Outcome::Refused {
-            number: MALFORMED_LENGTH,
-            place: bytes.len(),
-        };
+        return Err(Refusal::MalformedLength(bytes.len()));
     }
     let map = bytes[0];
     if packed::outside_map(map) {
-        return Outcome::Refused {
-            number: UNDEFINED_PROFILE,
-            place: map as usize,
-        };
+        return Err(Refusal::UndefinedProfile(map as usize));
     }
-    if let Outcome::Refused { number, place } = packed::check_shape(
-        packed::mode_of(map),
-        get_u32(bytes, 1),
-        bytes[5],
-    ) {
-        return Outcome::Refused { number, place };
-    }
+    packed::check_shape(packed::mode_of(map), get_u32(bytes, 1), bytes[5])?;
     if bytes.len() < packed::header_length(map) {
-        return Outcome::Refused {
-            number: MALFORMED_LENGTH,
-            place: bytes.len(),
-        };
+        return Err(Refusal::MalformedLength(bytes.len()));
     }
     let projections = projections_of(bytes);
     if setup::outside_projections(packed::mode_of(map), projections) {
-        return Outcome::Refused {
-            number: ZERO_PROJECTION_COUNT,
-            place: projections,
-        };
+        return Err(Refusal::ZeroProjectionCount(projections));
     }
-    Outcome::Done
+    Ok(())
 }
 
 // The header of a record whose header has passed its checks.
@@ -122,8 +87,8 @@ fn header_of(bytes: &[u8]) -> Header
     let profile = packed::profile_of(map);
     let radii = packed::header_length(map);
     let indices = radii + radius::width_of(profile) * (dim / 2);
-    let signs = indices + (dim / 2 * (bits as usize) + 7) / 8;
-    let end = signs + (projections + 7) / 8;
+    let signs = indices + (dim / 2 * (bits as usize)).div_ceil(8);
+    let end = signs + projections.div_ceil(8);
     let mode = packed::mode_of(map);
     let range = bounds_of(bytes);
     let has_norm = packed::norm_stands(map);
@@ -145,37 +110,28 @@ fn header_of(bytes: &[u8]) -> Header
 }
 
 // The checks of the whole length, the range and the norm.
-fn check_frame(bytes: &[u8], header: Header) -> Outcome
+fn check_frame(bytes: &[u8], header: Header) -> Result<(), Refusal>
     requires { header ≡ header_of bytes.now }
     ensures { says result ≡ first (frame_checks bytes.now) accepted }
 {
     if bytes.len() != header.end {
-        return Outcome::Refused {
-            number: MALFORMED_LENGTH,
-            place: bytes.len(),
-        };
+        return Err(Refusal::MalformedLength(bytes.len()));
     }
     let profile = header.profile;
     let range = header.range;
     let bad_range = packed::bad_bounds_for(profile, range);
     let bad_norm = radius::is_bad_radius(header.norm);
     if bad_range {
-        return Outcome::Refused {
-            number: MALFORMED_RANGE,
-            place: 0,
-        };
+        return Err(Refusal::MalformedRange(0));
     }
     if bad_norm {
-        return Outcome::Refused {
-            number: MALFORMED_NORM,
-            place: 0,
-        };
+        return Err(Refusal::MalformedNorm(0));
     }
-    Outcome::Done
+    Ok(())
 }
 
 // The checks of the payloads: the radii, then the padding.
-fn check_payloads(bytes: &[u8], header: Header) -> Outcome
+fn check_payloads(bytes: &[u8], header: Header) -> Result<(), Refusal>
     requires { Whole bytes.now header }
     ensures { says result ≡ first (radii_checks bytes.now) accepted }
 {
@@ -185,16 +141,13 @@ fn check_payloads(bytes: &[u8], header: Header) -> Outcome
     let range = header.range;
     let bad = radius_reading::first_bad_payload(&bytes[radii..indices], profile, range);
     if bad < header.dim / 2 {
-        return Outcome::Refused {
-            number: MALFORMED_RADIUS,
-            place: bad,
-        };
+        return Err(Refusal::MalformedRadius(bad));
     }
     check_padding(bytes, header)
 }
 
 // The checks of the padding behind the indices and behind the signs, in a record of the right length.
-fn check_padding(bytes: &[u8], header: Header) -> Outcome
+fn check_padding(bytes: &[u8], header: Header) -> Result<(), Refusal>
     requires { Whole bytes.now header }
     ensures { says result ≡ first (padding_checks bytes.now) accepted }
 {
@@ -202,16 +155,7 @@ fn check_padding(bytes: &[u8], header: Header) -> Outcome
     let signs = header.signs_start;
     let end = header.end;
     let used = header.dim / 2 * header.bits as usize;
-    if let Outcome::Refused {
-        number,
-        place: byte,
-    } = bitpack::validate_padding_zero(&bytes[indices..signs], used)
-    {
-        return Outcome::Refused {
-            number,
-            place: byte,
-        };
-    }
+    bitpack::validate_padding_zero(&bytes[indices..signs], used)?;
     bitpack::validate_padding_zero(&bytes[signs..end], header.projections)
 }
 

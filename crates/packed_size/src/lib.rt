@@ -4,23 +4,20 @@
 
 ghost use Rattle.std.specs.Prelude.{◌≤◌, ◌≡◌};
 ghost use Rattle.error.specs.Answer.{first, accepted};
-ghost use Rattle.error.specs.Lengths.{says_length};
 ghost use Rattle.error.specs.Outcomes.{says};
 ghost use Rattle.setup.specs.Setups.{by_mode};
 ghost use Rattle.packed_size.specs.Size.{by_profile, by_norm, is_given, map_for, bad_norm_alone, code_checks, record_size_of};
 
-use error::{Length, Outcome, UNDEFINED_PROFILE, ZERO_PROJECTION_COUNT};
-use packed::{Code, SourceNorm};
+use error::Refusal;
+use packed::Code;
 use radius::RadiusCodecProfileV1;
 use setup::TurboMode;
 
 // How many bytes a record takes. Without signs the projections are ignored; the value of a norm is not judged here.
-pub fn record_size(code: Code) -> Length
-    ensures { says_length result ≡ record_size_of code }
+pub fn record_size(code: Code) -> Result<usize, Refusal>
+    ensures { says result ≡ record_size_of code }
 {
-    if let Outcome::Refused { number, place } = check_code(code) {
-        return Length::Refused { number, place };
-    }
+    check_code(code)?;
     let profile = code.profile;
     let mode = code.mode;
     let dim = code.dim;
@@ -29,14 +26,14 @@ pub fn record_size(code: Code) -> Length
     let norm = code.norm;
     let head = packed::header_length(map_for(profile, mode, norm));
     let body = radius::width_of(profile) * (dim / 2);
-    let codes = (dim / 2 * (bits as usize) + 7) / 8;
-    let marks = (signs + 7) / 8;
+    let codes = (dim / 2 * (bits as usize)).div_ceil(8);
+    let marks = signs.div_ceil(8);
     let total = head + body + codes + marks;
-    Length::Bytes(total)
+    Ok(total)
 }
 
 // The checks of the scalars that a record is written with.
-fn check_code(code: Code) -> Outcome
+fn check_code(code: Code) -> Result<(), Refusal>
     ensures { says result ≡ first (code_checks code) accepted }
 {
     let profile = code.profile;
@@ -44,31 +41,20 @@ fn check_code(code: Code) -> Outcome
     let norm = code.norm;
     let projections = code.projections;
     if radius::is_bad_profile(profile) {
-        return Outcome::Refused {
-            number: UNDEFINED_PROFILE,
-            place: 0,
-        };
+        return Err(Refusal::UndefinedProfile(0));
     }
     if norm_alone(mode, norm) {
-        return Outcome::Refused {
-            number: UNDEFINED_PROFILE,
-            place: 0,
-        };
+        return Err(Refusal::UndefinedProfile(0));
     }
-    if let Outcome::Refused { number, place } = packed::check_shape(mode, code.dim, code.bits) {
-        return Outcome::Refused { number, place };
-    }
+    packed::check_shape(mode, code.dim, code.bits)?;
     if setup::outside_projections(mode, projections) {
-        return Outcome::Refused {
-            number: ZERO_PROJECTION_COUNT,
-            place: projections,
-        };
+        return Err(Refusal::ZeroProjectionCount(projections));
     }
-    Outcome::Done
+    Ok(())
 }
 
 // Whether a norm is given without signs.
-fn norm_alone(mode: TurboMode, norm: SourceNorm) -> bool
+fn norm_alone(mode: TurboMode, norm: Option<f32>) -> bool
     ensures { result ≡ bad_norm_alone mode norm }
 {
     match mode {
@@ -78,17 +64,17 @@ fn norm_alone(mode: TurboMode, norm: SourceNorm) -> bool
 }
 
 // Whether a norm is given.
-fn is_given(norm: SourceNorm) -> bool
+fn is_given(norm: Option<f32>) -> bool
     ensures { result ≡ is_given norm }
 {
     match norm {
-        SourceNorm::Absent => false,
-        SourceNorm::Given(_) => true,
+        None => false,
+        Some(_) => true,
     }
 }
 
 // The map byte: bit 0 for linear radii, bit 1 for signs, bit 2 for a norm. BlockLogU8, which is refused, counts as F32 here.
-pub fn map_for(profile: RadiusCodecProfileV1, mode: TurboMode, norm: SourceNorm) -> u8
+pub fn map_for(profile: RadiusCodecProfileV1, mode: TurboMode, norm: Option<f32>) -> u8
     ensures { result ≡ map_for profile mode norm }
 {
     linear_bit(profile) + signs_bit(mode) + norm_bit(norm)
@@ -116,11 +102,11 @@ fn signs_bit(mode: TurboMode) -> u8
 }
 
 // Bit 2 of the map byte.
-fn norm_bit(norm: SourceNorm) -> u8
+fn norm_bit(norm: Option<f32>) -> u8
     ensures { (result ≡ by_norm norm 0 (λ x. 4)) × (result ≤ 4) }
 {
     match norm {
-        SourceNorm::Absent => 0,
-        SourceNorm::Given(_) => 4,
+        None => 0,
+        Some(_) => 4,
     }
 }

@@ -1,15 +1,13 @@
--- The values of a record, read by its header into the first entries of lent scratch: there is room for them, and they are then what those entries hold.
--- Assumes nothing.
-use Prim.Native.Nat.{ℕ, ◌-◌, ◌/◌, ◌≤◌, ◌<◌}
+-- The values of a record, read by its header into lent scratch: there is room for them, and they are then what it holds. Assumes nothing.
+use Prim.Native.Nat.{ℕ, ◌/◌, ◌≤◌, ◌<◌}
 use mathlib.Core.Path.{◌≡◌, refl, ap, ◌∙◌}
 use mathlib.Core.Bool.{Bool, true, false, cond}
-use mathlib.Core.List.{List, [], ◌∷◌, ◌++◌}
+use mathlib.Core.List.{List, [], ◌∷◌}
 use native.Mathlib.Omega.{arith}
 use borrow.Author.Tests.{eq-eqb}
 use lib.IntN.{ℤ}
-use lib.ListN.{length, take}
+use lib.ListN.{length}
 use lib.Ieee.{Float}
-use Rattle.lists.proofs.Parts.{part_filled}
 use Rattle.error.specs.Answer.{Answer, value, after}
 use Rattle.error.specs.Checks.{wrong_room}
 use Rattle.error.proofs.Answers.{after-value}
@@ -23,12 +21,6 @@ use Rattle.packed.proofs.Withdrawn.{unless-some, read-passed}
 use Rattle.packed.proofs.Parts.{header-pairs, header_projections_lem}
 use Rattle.packed_values.specs.AtHeader.{radii_at_of, indices_at_of, signs_at_of}
 use Rattle.packed_values.proofs.Values.{radii_at-read, indices_at-read, signs_at-read}
-
--- what a call has answered for exactly m entries stands in them
-part-answered : {A : Type 0} (m : ℕ) (xs : List A) → m ≤ length xs → (answer : ℕ → Answer (List A)) (v : List A) → answer m ≡ value v → (ys zs : List A)
-    → length ys ≡ length (take (m - 0) xs) → ys ≡ after (answer (length (take (m - 0) xs))) (take (m - 0) xs) → take (m - 0) (ys ++ zs) ≡ v
-part-answered {A} m xs h answer v e ys zs l f =
-    part_filled m xs h ys zs l (λ (k : ℕ). after (answer k) (take (m - 0) xs)) f ∙ after-value (answer m) (take (m - 0) xs) e
 
 -- ---- a record that is read
 
@@ -66,15 +58,15 @@ module _ (bytes : List ℕ) {header : Header} (read : read_record_of bytes ≡ v
   unfolding read_signs_of
   signs_at-value = signs_at-read bytes header.projections read ∙ ap (read_signs_of bytes) (header_projections_lem bytes (read-header bytes read)) ∙ filled (projections_of bytes) (signs_of bytes)
 
-  -- in the first entries of an array `xs`: `ys` is what they hold after the call, and `zs` the rest of the array
-  module _ (xs : List Float) (h : header.dim / 2 ≤ length xs) (ys zs : List Float) where
-    pub radii-lent : length ys ≡ length (take (header.dim / 2 - 0) xs) → ys ≡ after (radii_at_of bytes header (length (take (header.dim / 2 - 0) xs))) (take (header.dim / 2 - 0) xs) → take (header.dim / 2 - 0) (ys ++ zs) ≡ radii_of bytes
-    radii-lent = part-answered (header.dim / 2) xs h (radii_at_of bytes header) (radii_of bytes) radii_at-value ys zs
+  -- in scratch of just their number: `old` is what it held before the call, and `new` what it holds afterwards
+  module _ (old new : List Float) (long : length old ≡ header.dim / 2) where
+    pub radii-lent : new ≡ after (radii_at_of bytes header (length old)) old → new ≡ radii_of bytes
+    radii-lent e = e ∙ after-value _ old (ap (radii_at_of bytes header) long ∙ radii_at-value)
 
-  module _ (xs : List ℕ) (h : header.dim / 2 ≤ length xs) (ys zs : List ℕ) where
-    pub indices-lent : length ys ≡ length (take (header.dim / 2 - 0) xs) → ys ≡ after (indices_at_of bytes header (length (take (header.dim / 2 - 0) xs))) (take (header.dim / 2 - 0) xs) → take (header.dim / 2 - 0) (ys ++ zs) ≡ indices_of bytes
-    indices-lent = part-answered (header.dim / 2) xs h (indices_at_of bytes header) (indices_of bytes) indices_at-value ys zs
+  module _ (old new : List ℕ) (long : length old ≡ header.dim / 2) where
+    pub indices-lent : new ≡ after (indices_at_of bytes header (length old)) old → new ≡ indices_of bytes
+    indices-lent e = e ∙ after-value _ old (ap (indices_at_of bytes header) long ∙ indices_at-value)
 
-  module _ (xs : List ℤ) (h : header.projections ≤ length xs) (ys zs : List ℤ) where
-    pub signs-lent : length ys ≡ length (take (header.projections - 0) xs) → ys ≡ after (signs_at_of bytes header (length (take (header.projections - 0) xs))) (take (header.projections - 0) xs) → take (header.projections - 0) (ys ++ zs) ≡ signs_of bytes
-    signs-lent = part-answered header.projections xs h (signs_at_of bytes header) (signs_of bytes) signs_at-value ys zs
+  module _ (old new : List ℤ) (long : length old ≡ header.projections) where
+    pub signs-lent : new ≡ after (signs_at_of bytes header (length old)) old → new ≡ signs_of bytes
+    signs-lent e = e ∙ after-value _ old (ap (signs_at_of bytes header) long ∙ signs_at-value)

@@ -8,6 +8,7 @@ use native.Mathlib.Omega.{arith}
 use lib.IntN.{ℤ}
 use lib.Dec.{T}
 use lib.Ieee.{Float, binary32, fits}
+use Rattle.std.specs.Prelude.{None, Option, Some}
 use Rattle.digits.specs.Digits.{number, digits}
 use Rattle.digits.proofs.Laws.{number_digits}
 use Rattle.float.specs.Bytes.{to_le_bytes}
@@ -21,8 +22,6 @@ use Rattle.setup.specs.Setups.{counted}
 use Rattle.setup.specs.declared.TurboMode.{TurboMode}
 use Rattle.setup.specs.declared.TurboMode.TheVariants.{PolarOnly, PolarWithQjl}
 use Rattle.packed.specs.declared.Code.{Code}
-use Rattle.packed.specs.declared.SourceNorm.{SourceNorm}
-use Rattle.packed.specs.declared.SourceNorm.TheVariants.{Absent, Given}
 use Rattle.packed.specs.Fields.{map_of, norm_bit, dim_of, bits_of, bounds_of, projections_of, norm_start, norm_of}
 use Rattle.packed.specs.Layout.{part_at}
 use Rattle.packed_size.specs.Size.{norm_value, map_for, bad_norm_alone}
@@ -50,71 +49,71 @@ module _ (code : Code) (radii : List Float) (indices : List ℕ) (signs : List �
 
   -- ---- the projections that count, the range and the norm, by the profile, the mode and the norm
 
-  abbrev coded : RadiusCodecProfileV1 → TurboMode → SourceNorm → Code
+  abbrev coded : RadiusCodecProfileV1 → TurboMode → Option Float → Code
   coded p o n = record { profile = p; mode = o; dim = code.dim; bits = code.bits; projections = code.projections; norm = n }
 
   pub projections-back : counted code.mode code.projections < 2 ^ 32 → projections_of (record_of code radii indices signs) ≡ counted code.mode code.projections
   unfolding record_of header_bytes projections_of digits to_le_bytes
   projections-back = cases code.profile code.mode code.norm
     where
-      cases : (p : RadiusCodecProfileV1) (o : TurboMode) (n : SourceNorm) → counted o code.projections < 2 ^ 32 → projections_of (record_of (coded p o n) radii indices signs) ≡ counted o code.projections
-      cases F32 PolarOnly Absent h = refl
-      cases F32 PolarOnly (Given x) h = refl
-      cases F32 PolarWithQjl Absent h = word_back code.projections h
-      cases F32 PolarWithQjl (Given x) h = word_back code.projections h
-      cases BlockLinearU16 PolarOnly Absent h = refl
-      cases BlockLinearU16 PolarOnly (Given x) h = refl
-      cases BlockLinearU16 PolarWithQjl Absent h = word_back code.projections h
-      cases BlockLinearU16 PolarWithQjl (Given x) h = word_back code.projections h
-      cases BlockLogU8 PolarOnly Absent h = refl
-      cases BlockLogU8 PolarOnly (Given x) h = refl
-      cases BlockLogU8 PolarWithQjl Absent h = word_back code.projections h
-      cases BlockLogU8 PolarWithQjl (Given x) h = word_back code.projections h
+      cases : (p : RadiusCodecProfileV1) (o : TurboMode) (n : Option Float) → counted o code.projections < 2 ^ 32 → projections_of (record_of (coded p o n) radii indices signs) ≡ counted o code.projections
+      cases F32 PolarOnly None h = refl
+      cases F32 PolarOnly (Some x) h = refl
+      cases F32 PolarWithQjl None h = word_back code.projections h
+      cases F32 PolarWithQjl (Some x) h = word_back code.projections h
+      cases BlockLinearU16 PolarOnly None h = refl
+      cases BlockLinearU16 PolarOnly (Some x) h = refl
+      cases BlockLinearU16 PolarWithQjl None h = word_back code.projections h
+      cases BlockLinearU16 PolarWithQjl (Some x) h = word_back code.projections h
+      cases BlockLogU8 PolarOnly None h = refl
+      cases BlockLogU8 PolarOnly (Some x) h = refl
+      cases BlockLogU8 PolarWithQjl None h = word_back code.projections h
+      cases BlockLogU8 PolarWithQjl (Some x) h = word_back code.projections h
 
   pub bounds-back : bad_profile code.profile ≡ false → T (fits binary32 (range_of radii).min) → T (fits binary32 (range_of radii).max) → bounds_of (record_of code radii indices signs) ≡ range_for code.profile radii
   unfolding record_of header_bytes bounds_of digits to_le_bytes
   bounds-back = cases code.profile code.mode code.norm
     where
-      cases : (p : RadiusCodecProfileV1) (o : TurboMode) (n : SourceNorm) → bad_profile p ≡ false → T (fits binary32 (range_of radii).min) → T (fits binary32 (range_of radii).max) → bounds_of (record_of (coded p o n) radii indices signs) ≡ range_for p radii
-      cases F32 PolarOnly Absent e least greatest = refl
-      cases F32 PolarOnly (Given x) e least greatest = refl
-      cases F32 PolarWithQjl Absent e least greatest = refl
-      cases F32 PolarWithQjl (Given x) e least greatest = refl
-      cases BlockLinearU16 PolarOnly Absent e least greatest = range_same (of_le_bytes-to_le_bytes (range_of radii).min least) (of_le_bytes-to_le_bytes (range_of radii).max greatest)
-      cases BlockLinearU16 PolarOnly (Given x) e least greatest = range_same (of_le_bytes-to_le_bytes (range_of radii).min least) (of_le_bytes-to_le_bytes (range_of radii).max greatest)
-      cases BlockLinearU16 PolarWithQjl Absent e least greatest = range_same (of_le_bytes-to_le_bytes (range_of radii).min least) (of_le_bytes-to_le_bytes (range_of radii).max greatest)
-      cases BlockLinearU16 PolarWithQjl (Given x) e least greatest = range_same (of_le_bytes-to_le_bytes (range_of radii).min least) (of_le_bytes-to_le_bytes (range_of radii).max greatest)
+      cases : (p : RadiusCodecProfileV1) (o : TurboMode) (n : Option Float) → bad_profile p ≡ false → T (fits binary32 (range_of radii).min) → T (fits binary32 (range_of radii).max) → bounds_of (record_of (coded p o n) radii indices signs) ≡ range_for p radii
+      cases F32 PolarOnly None e least greatest = refl
+      cases F32 PolarOnly (Some x) e least greatest = refl
+      cases F32 PolarWithQjl None e least greatest = refl
+      cases F32 PolarWithQjl (Some x) e least greatest = refl
+      cases BlockLinearU16 PolarOnly None e least greatest = range_same (of_le_bytes-to_le_bytes (range_of radii).min least) (of_le_bytes-to_le_bytes (range_of radii).max greatest)
+      cases BlockLinearU16 PolarOnly (Some x) e least greatest = range_same (of_le_bytes-to_le_bytes (range_of radii).min least) (of_le_bytes-to_le_bytes (range_of radii).max greatest)
+      cases BlockLinearU16 PolarWithQjl None e least greatest = range_same (of_le_bytes-to_le_bytes (range_of radii).min least) (of_le_bytes-to_le_bytes (range_of radii).max greatest)
+      cases BlockLinearU16 PolarWithQjl (Some x) e least greatest = range_same (of_le_bytes-to_le_bytes (range_of radii).min least) (of_le_bytes-to_le_bytes (range_of radii).max greatest)
       cases BlockLogU8 o n e least greatest = let z : ◌≡◌ {A = ℕ} 0 1 = cc in absurd (omega arith)
 
   pub norm-back : bad_norm_alone code.mode code.norm ≡ false → T (fits binary32 (norm_value code.norm)) → norm_of (record_of code radii indices signs) ≡ norm_value code.norm
   unfolding record_of header_bytes norm_of digits to_le_bytes
   norm-back = cases code.profile code.mode code.norm
     where
-      cases : (p : RadiusCodecProfileV1) (o : TurboMode) (n : SourceNorm) → bad_norm_alone o n ≡ false → T (fits binary32 (norm_value n)) → norm_of (record_of (coded p o n) radii indices signs) ≡ norm_value n
-      cases F32 PolarOnly Absent e f = refl
-      cases F32 PolarWithQjl Absent e f = refl
-      cases F32 PolarWithQjl (Given x) e f = of_le_bytes-to_le_bytes x f
-      cases BlockLinearU16 PolarOnly Absent e f = refl
-      cases BlockLinearU16 PolarWithQjl Absent e f = refl
-      cases BlockLinearU16 PolarWithQjl (Given x) e f = of_le_bytes-to_le_bytes x f
-      cases BlockLogU8 PolarOnly Absent e f = refl
-      cases BlockLogU8 PolarWithQjl Absent e f = refl
-      cases BlockLogU8 PolarWithQjl (Given x) e f = of_le_bytes-to_le_bytes x f
-      cases p PolarOnly (Given x) e f = absurd (true≢false e)
+      cases : (p : RadiusCodecProfileV1) (o : TurboMode) (n : Option Float) → bad_norm_alone o n ≡ false → T (fits binary32 (norm_value n)) → norm_of (record_of (coded p o n) radii indices signs) ≡ norm_value n
+      cases F32 PolarOnly None e f = refl
+      cases F32 PolarWithQjl None e f = refl
+      cases F32 PolarWithQjl (Some x) e f = of_le_bytes-to_le_bytes x f
+      cases BlockLinearU16 PolarOnly None e f = refl
+      cases BlockLinearU16 PolarWithQjl None e f = refl
+      cases BlockLinearU16 PolarWithQjl (Some x) e f = of_le_bytes-to_le_bytes x f
+      cases BlockLogU8 PolarOnly None e f = refl
+      cases BlockLogU8 PolarWithQjl None e f = refl
+      cases BlockLogU8 PolarWithQjl (Some x) e f = of_le_bytes-to_le_bytes x f
+      cases p PolarOnly (Some x) e f = absurd (true≢false e)
 
   -- the norm's bytes
   pub norm_part-back : bad_norm_alone code.mode code.norm ≡ false → part_at (record_of code radii indices signs) (norm_start (map_for code.profile code.mode code.norm)) (4 * norm_bit (map_for code.profile code.mode code.norm)) ≡ norm_bytes code.norm
   unfolding record_of header_bytes digits to_le_bytes
   norm_part-back = cases code.profile code.mode code.norm
     where
-      cases : (p : RadiusCodecProfileV1) (o : TurboMode) (n : SourceNorm) → bad_norm_alone o n ≡ false → part_at (record_of (coded p o n) radii indices signs) (norm_start (map_for p o n)) (4 * norm_bit (map_for p o n)) ≡ norm_bytes n
-      cases F32 PolarOnly Absent e = refl
-      cases F32 PolarWithQjl Absent e = refl
-      cases F32 PolarWithQjl (Given x) e = refl
-      cases BlockLinearU16 PolarOnly Absent e = refl
-      cases BlockLinearU16 PolarWithQjl Absent e = refl
-      cases BlockLinearU16 PolarWithQjl (Given x) e = refl
-      cases BlockLogU8 PolarOnly Absent e = refl
-      cases BlockLogU8 PolarWithQjl Absent e = refl
-      cases BlockLogU8 PolarWithQjl (Given x) e = refl
-      cases p PolarOnly (Given x) e = absurd (true≢false e)
+      cases : (p : RadiusCodecProfileV1) (o : TurboMode) (n : Option Float) → bad_norm_alone o n ≡ false → part_at (record_of (coded p o n) radii indices signs) (norm_start (map_for p o n)) (4 * norm_bit (map_for p o n)) ≡ norm_bytes n
+      cases F32 PolarOnly None e = refl
+      cases F32 PolarWithQjl None e = refl
+      cases F32 PolarWithQjl (Some x) e = refl
+      cases BlockLinearU16 PolarOnly None e = refl
+      cases BlockLinearU16 PolarWithQjl None e = refl
+      cases BlockLinearU16 PolarWithQjl (Some x) e = refl
+      cases BlockLogU8 PolarOnly None e = refl
+      cases BlockLogU8 PolarWithQjl None e = refl
+      cases BlockLogU8 PolarWithQjl (Some x) e = refl
+      cases p PolarOnly (Some x) e = absurd (true≢false e)

@@ -7,6 +7,7 @@ use borrow.Author.Tests.{le-ltb, eq-eqb}
 use lib.Dec.{ltb}
 use lib.IntN.{ℤ}
 use lib.ListN.{length, length-append}
+use Rattle.std.specs.Prelude.{None, Option, Some}
 use Rattle.digits.proofs.Laws.{length_digits}
 use Rattle.float.specs.Bytes.{to_le_bytes}
 use Rattle.float.proofs.Bytes.{length-to_le_bytes}
@@ -26,8 +27,6 @@ use Rattle.setup.specs.declared.TurboMode.{TurboMode}
 use Rattle.setup.specs.declared.TurboMode.TheVariants.{PolarOnly, PolarWithQjl}
 use Rattle.setup.specs.Setups.{by_mode, counted}
 use Rattle.packed.specs.declared.Code.{Code}
-use Rattle.packed.specs.declared.SourceNorm.{SourceNorm}
-use Rattle.packed.specs.declared.SourceNorm.TheVariants.{Absent, Given}
 use Rattle.packed_size.specs.Size.{by_profile, by_norm, code_checks}
 use Rattle.packed_writing.specs.Writing.{range_bytes, projection_bytes, norm_bytes, length_checks, field_checks}
 
@@ -77,6 +76,6 @@ pub projection-long : (mode : TurboMode) (m : ℕ) → length (projection_bytes 
 projection-long PolarOnly m = refl
 projection-long PolarWithQjl m = length_digits 256 4 m
 
-pub norm-long : (norm : SourceNorm) → length (norm_bytes norm) ≡ by_norm norm 0 (λ x. 4)
-norm-long Absent = refl
-norm-long (Given x) = length-to_le_bytes x
+pub norm-long : (norm : Option Float) → length (norm_bytes norm) ≡ by_norm norm 0 (λ x. 4)
+norm-long None = refl
+norm-long (Some x) = length-to_le_bytes x

@@ -9,6 +9,7 @@ use lib.Dec.{ltb}
 use lib.IntN.{ℤ}
 use lib.ListN.{length}
 use lib.Ieee.{Float}
+use Rattle.std.specs.Prelude.{Option}
 use Rattle.error.specs.Answer.{value, refused, check, place, first, accepted}
 use Rattle.error.proofs.Chains.{first-all, append_left, append-refused, append-passed}
 use Rattle.error.specs.Checks.{wrong_room, bad_index}
@@ -24,7 +25,6 @@ use Rattle.radius.specs.declared.RadiusCodecProfileV1.{RadiusCodecProfileV1}
 use Rattle.radius.specs.declared.RadiusCodecProfileV1.TheVariants.{F32, BlockLinearU16, BlockLogU8}
 use Rattle.lists.proofs.Chunks.{length-chunks}
 use Rattle.packed.specs.declared.Code.{Code}
-use Rattle.packed.specs.declared.SourceNorm.{SourceNorm}
 use Rattle.packed.specs.Layout.{header_length}
 use Rattle.packed_size.specs.Size.{norm_value, map_for, needed_for, code_checks}
 use Rattle.packed_size.proofs.Scalars.{code-small}
@@ -99,11 +99,11 @@ length-read_back BlockLogU8 radii e = let z : ◌≡◌ {A = ℕ} 0 1 = cc in ab
 
 -- ---- the values' checks, from what each search returned
 
-pub values-norm : (profile : RadiusCodecProfileV1) (bits : ℕ) (norm : SourceNorm) (radii : List Float) (indices : List ℕ) (signs : List ℤ) → bad_radius (norm_value norm) ≡ true
+pub values-norm : (profile : RadiusCodecProfileV1) (bits : ℕ) (norm : Option Float) (radii : List Float) (indices : List ℕ) (signs : List ℤ) → bad_radius (norm_value norm) ≡ true
     → first (value_checks profile bits norm radii indices signs) accepted ≡ refused 23 0
 values-norm profile bits norm radii indices signs e = simp e
 
-module _ (profile : RadiusCodecProfileV1) (bits : ℕ) (norm : SourceNorm) (radii : List Float) (indices : List ℕ) (signs : List ℤ) (normal : bad_radius (norm_value norm) ≡ false) {bad : ℕ} (found : bad ≡ place bad_radius radii) where
+module _ (profile : RadiusCodecProfileV1) (bits : ℕ) (norm : Option Float) (radii : List Float) (indices : List ℕ) (signs : List ℤ) (normal : bad_radius (norm_value norm) ≡ false) {bad : ℕ} (found : bad ≡ place bad_radius radii) where
   pub values-radius : bad < length radii → first (value_checks profile bits norm radii indices signs) accepted ≡ refused 16 bad
   values-radius h = simp (normal, ← found, lt-ltb _ _ h)
 

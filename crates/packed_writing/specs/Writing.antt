@@ -1,7 +1,7 @@
 -- This is the writer: the bytes of a record, and its checks in document 01's order. 'Writing a record, F32 or linear: 18 for BlockLogU8, 2, 3, 4, 1 (16 is refused
 -- beside signs), 8, 5 for radii, indices and signs, 16 for bad radii, 16 for radii that would read as infinite, 15, 10.' Document 02: 'Writing stores a norm exactly
 -- when one is given', and '23 when the norm is not finite or below zero, checked .. in writing before 16'. Assumes nothing.
-use Rattle.std.specs.Prelude.{ℕ, ◌*◌, ◌/◌, ◌^◌, List, [], ◌∷◌, ◌++◌, ℤ, length, Float}
+use Rattle.std.specs.Prelude.{ℕ, ◌*◌, ◌/◌, ◌^◌, List, [], ◌∷◌, ◌++◌, ℤ, length, Float, Option}
 use Rattle.error.specs.Checks.{wrong_room, wrong_input, bad_index}
 use Rattle.error.specs.Answer.{Answer, value, Check, first, each}
 use Rattle.digits.specs.Digits.{digits}
@@ -16,7 +16,6 @@ use Rattle.radius.specs.declared.RadiusCodecProfileV1.{RadiusCodecProfileV1}
 use Rattle.setup.specs.declared.TurboMode.{TurboMode}
 use Rattle.setup.specs.Setups.{by_mode, counted}
 use Rattle.packed.specs.declared.Code.{Code}
-use Rattle.packed.specs.declared.SourceNorm.{SourceNorm}
 use Rattle.packed_size.specs.Size.{by_profile, by_norm, norm_value, map_for, needed_for, code_checks}
 
 -- ---- the bytes
@@ -30,7 +29,7 @@ abbrev pub projection_bytes : TurboMode → ℕ → List ℕ
 projection_bytes mode m = by_mode mode [] (digits 256 4 m)
 
 -- These are the bytes of the norm: 'an f32 norm after the projections', 'exactly when one is given'.
-abbrev pub norm_bytes : SourceNorm → List ℕ
+abbrev pub norm_bytes : Option Float → List ℕ
 norm_bytes norm = by_norm norm [] to_le_bytes
 
 -- 'Map byte, dimension u32, polar bits u8', then come range, projections and norm where they stand.
@@ -68,7 +67,7 @@ abbrev pub item_checks : ℕ → List ℕ → List ℤ → List Check
 item_checks bits indices signs = each (bad_index bits) 15 indices ∷ each bad_sketch_sign 10 signs ∷ []
 
 -- These are the checks of all values: 23 for the norm, '16 for bad radii, 16 for radii that would read as infinite, 15, 10'.
-abbrev pub value_checks : RadiusCodecProfileV1 → ℕ → SourceNorm → List Float → List ℕ → List ℤ → List Check
+abbrev pub value_checks : RadiusCodecProfileV1 → ℕ → Option Float → List Float → List ℕ → List ℤ → List Check
 value_checks profile bits norm radii indices signs =
     wrong_norm (norm_value norm)
     ∷ each bad_radius 16 radii

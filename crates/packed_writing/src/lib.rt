@@ -1,10 +1,9 @@
 // Writing the record that `packed_reading` reads: a polar code and, beside it, a residual sketch, as bytes. Ported from turbo-quant/src/packed.rs and
-// changed: the byte layout is this port's own, inputs and output are lent, refusals are numbers.
+// changed: the byte layout is this port's own, inputs and output are lent, refusals are a number and a place.
 #![tactic(auto)]
 
 ghost use Rattle.std.specs.Prelude.{◌+◌, ◌-◌, ◌≤◌, ◌≡◌, false, ◌++◌, length, take, drop};
 ghost use Rattle.error.specs.Answer.{value, first, accepted, done, after};
-ghost use Rattle.error.specs.Lengths.{says_length};
 ghost use Rattle.error.specs.Outcomes.{says};
 ghost use Rattle.bitpack.specs.Packing.{pack_indices_of, index_bytes};
 ghost use Rattle.bitpack.specs.Signs.{pack_signs_of, sign_bytes};
@@ -15,13 +14,9 @@ ghost use Rattle.packed_size.specs.Size.{by_profile, by_norm, norm_value, map_fo
 ghost use Rattle.packed_writing.specs.Writing.{item_checks, range_bytes, projection_bytes, norm_bytes, header_bytes, length_checks, field_checks, value_checks, write_record_of};
 ghost use Rattle.packed_writing.specs.Inner.{CodesReady, Payloads};
 
-use error::{
-    DIMENSION_MISMATCH, Length, MALFORMED_INDEX, MALFORMED_NORM, MALFORMED_RADIUS, MALFORMED_SIGN,
-    OUTPUT_LENGTH, Outcome,
-};
-use packed::{Code, SourceNorm};
+use error::Refusal;
+use packed::Code;
 use radius::{RadiusCodecProfileV1, Range};
-use radius_writing::Compressed;
 use setup::TurboMode;
 
 // Writes a record into exactly the bytes that it needs. Without signs the projections are ignored.
@@ -31,14 +26,12 @@ pub fn write_record(
     indices: &[u16],
     signs: &[i8],
     out: &mut [u8],
-) -> Outcome
+) -> Result<(), Refusal>
     ensures said { says result ≡ done (write_record_of code radii.now indices.now signs.now (length out.old)) }
     ensures left { out.new ≡ after (write_record_of code radii.now indices.now signs.now (length out.old)) out.old }
 {
-    match check_fields(code, radii.len(), indices.len(), signs.len()) {
-        Length::Bytes(need) => write_sized(code, need, radii, indices, signs, out),
-        Length::Refused { number, place } => Outcome::Refused { number, place },
-    }
+    let need = check_fields(code, radii.len(), indices.len(), signs.len())?;
+    write_sized(code, need, radii, indices, signs, out)
 }
 
 // The same for scalars and lengths that have passed, of a record that takes `need` bytes.
@@ -49,7 +42,7 @@ fn write_sized(
     indices: &[u16],
     signs: &[i8],
     out: &mut [u8],
-) -> Outcome
+) -> Result<(), Refusal>
     requires { (first (field_checks code (length radii.now) (length indices.now) (length signs.now)) accepted ≡ accepted) × (need ≡ needed_for code) }
     ensures said { says result ≡ done (write_record_of code radii.now indices.now signs.now (length out.old)) }
     ensures left { out.new ≡ after (write_record_of code radii.now indices.now signs.now (length out.old)) out.old }
@@ -58,38 +51,26 @@ fn write_sized(
     let mode = code.mode;
     let bits = code.bits;
     let norm = code.norm;
-    let checked = check_values(profile, bits, norm, radii, indices, signs);
-    if let Outcome::Refused { number, place } = checked {
-        return Outcome::Refused { number, place };
-    }
+    check_values(profile, bits, norm, radii, indices, signs)?;
     if out.len() != need {
-        return Outcome::Refused {
-            number: OUTPUT_LENGTH,
-            place: need,
-        };
+        return Err(Refusal::OutputLength(need));
     }
     let head = packed::header_length(packed_size::map_for(profile, mode, norm));
     let range = put_payloads(radii, profile, indices, bits, signs, &mut out[head..]);
     put_header(code, range, &mut out[0..head]);
-    Outcome::Done
+    Ok(())
 }
 
 // How many bytes the record takes, or the first check that offends but for those of the values: the scalars', then those of the lengths.
-fn check_fields(code: Code, radii: usize, indices: usize, signs: usize) -> Length
-    ensures { says_length result ≡ first (field_checks code radii indices signs) (value (needed_for code)) }
+fn check_fields(code: Code, radii: usize, indices: usize, signs: usize) -> Result<usize, Refusal>
+    ensures { says result ≡ first (field_checks code radii indices signs) (value (needed_for code)) }
 {
-    let size = packed_size::record_size(code);
-    if let Length::Refused { number, place } = size {
-        return Length::Refused { number, place };
-    }
+    let size = packed_size::record_size(code)?;
     let mode = code.mode;
     let dim = code.dim;
     let needed = setup::counted_in(mode, code.projections);
-    let lengths = check_lengths(dim / 2, needed, radii, indices, signs);
-    if let Outcome::Refused { number, place } = lengths {
-        return Length::Refused { number, place };
-    }
-    size
+    check_lengths(dim / 2, needed, radii, indices, signs)?;
+    Ok(size)
 }
 
 // The checks of the lengths of radii, indices and signs: a radius and an index for each pair, and a sign for each projection.
@@ -99,94 +80,67 @@ fn check_lengths(
     radii: usize,
     indices: usize,
     signs: usize,
-) -> Outcome
+) -> Result<(), Refusal>
     ensures { says result ≡ first (length_checks pairs projections radii indices signs) accepted }
 {
     if radii != pairs {
-        return Outcome::Refused {
-            number: DIMENSION_MISMATCH,
-            place: radii,
-        };
+        return Err(Refusal::DimensionMismatch(radii));
     }
     if indices != pairs {
-        return Outcome::Refused {
-            number: DIMENSION_MISMATCH,
-            place: indices,
-        };
+        return Err(Refusal::DimensionMismatch(indices));
     }
     if signs != projections {
-        return Outcome::Refused {
-            number: DIMENSION_MISMATCH,
-            place: signs,
-        };
+        return Err(Refusal::DimensionMismatch(signs));
     }
-    Outcome::Done
+    Ok(())
 }
 
 // The checks of the norm, of radii, as they are and as they would be read back, of indices and of signs.
 fn check_values(
     profile: RadiusCodecProfileV1,
     bits: u8,
-    norm: SourceNorm,
+    norm: Option<f32>,
     radii: &[f32],
     indices: &[u16],
     signs: &[i8],
-) -> Outcome
+) -> Result<(), Refusal>
     requires { bad_profile profile ≡ false }
     ensures { says result ≡ first (value_checks profile bits norm radii.now indices.now signs.now) accepted }
 {
     if radius::is_bad_radius(norm_value(norm)) {
-        return Outcome::Refused {
-            number: MALFORMED_NORM,
-            place: 0,
-        };
+        return Err(Refusal::MalformedNorm(0));
     }
-    let bad = radius::first_bad_radius(radii);
-    if bad < radii.len() {
-        return Outcome::Refused {
-            number: MALFORMED_RADIUS,
-            place: bad,
-        };
+    if let Some(bad) = radius::first_bad_radius(radii) {
+        return Err(Refusal::MalformedRadius(bad));
     }
     let lost = radius_writing::first_bad_read_back(radii, profile);
     if lost < radii.len() {
-        return Outcome::Refused {
-            number: MALFORMED_RADIUS,
-            place: lost,
-        };
+        return Err(Refusal::MalformedRadius(lost));
     }
     check_codes(bits, indices, signs)
 }
 
 // A norm that is given, or 1.0.
-fn norm_value(norm: SourceNorm) -> f32
+fn norm_value(norm: Option<f32>) -> f32
     ensures { result ≡ norm_value norm }
 {
     match norm {
-        SourceNorm::Absent => 1.0,
-        SourceNorm::Given(x) => x,
+        None => 1.0,
+        Some(x) => x,
     }
 }
 
 // The checks of indices and of signs.
-fn check_codes(bits: u8, indices: &[u16], signs: &[i8]) -> Outcome
+fn check_codes(bits: u8, indices: &[u16], signs: &[i8]) -> Result<(), Refusal>
     ensures { says result ≡ first (item_checks bits indices.now signs.now) accepted }
 {
-    let large = bitpack::first_bad_index(indices, bits);
-    if large < indices.len() {
-        return Outcome::Refused {
-            number: MALFORMED_INDEX,
-            place: large,
-        };
+    if let Some(large) = bitpack::first_bad_index(indices, bits) {
+        return Err(Refusal::MalformedIndex(large));
     }
-    let stray = bitpack_signs::first_bad_sketch_sign(signs);
-    if stray < signs.len() {
-        return Outcome::Refused {
-            number: MALFORMED_SIGN,
-            place: stray,
-        };
+    if let Some(stray) = bitpack_signs::first_bad_sketch_sign(signs) {
+        return Err(Refusal::MalformedSign(stray));
     }
-    Outcome::Done
+    Ok(())
 }
 
 // Writes radii, indices and signs that have passed their checks, one behind the other, and answers the range.
@@ -212,7 +166,7 @@ fn put_codes(indices: &[u16], bits: u8, signs: &[i8], out: &mut [u8])
     requires { CodesReady indices.now bits signs.now (length out.old) }
     ensures { out.new ≡ index_bytes bits indices.now ++ sign_bytes signs.now }
 {
-    let codes = (indices.len() * (bits as usize) + 7) / 8;
+    let codes = (indices.len() * (bits as usize)).div_ceil(8);
     put_signs(signs, &mut out[codes..]);
     put_indices(indices, bits, &mut out[0..codes]);
 }
@@ -224,11 +178,8 @@ fn put_radii(radii: &[f32], profile: RadiusCodecProfileV1, out: &mut [u8]) -> Ra
     ensures left { out.new ≡ payload_for profile radii.now }
 {
     match radius_writing::compress(radii, profile, out) {
-        Compressed::Made(range) => range,
-        Compressed::Refused {
-            number: _,
-            place: _,
-        } => Range { min: 0.0, max: 0.0 },
+        Ok(range) => range,
+        Err(_) => Range { min: 0.0, max: 0.0 },
     }
 }
 
@@ -237,7 +188,7 @@ fn put_indices(indices: &[u16], bits: u8, out: &mut [u8])
     requires { pack_indices_of indices.now bits (length out.old) ≡ value (index_bytes bits indices.now) }
     ensures { out.new ≡ index_bytes bits indices.now }
 {
-    bitpack_writing::pack_indices(indices, bits, out);
+    let _ = bitpack_writing::pack_indices(indices, bits, out);
 }
 
 // Writes signs that have passed their checks.
@@ -245,7 +196,7 @@ fn put_signs(signs: &[i8], out: &mut [u8])
     requires { pack_signs_of signs.now (length out.old) ≡ value (sign_bytes signs.now) }
     ensures { out.new ≡ sign_bytes signs.now }
 {
-    bitpack_signs_writing::pack_signs(signs, out);
+    let _ = bitpack_signs_writing::pack_signs(signs, out);
 }
 
 // Writes the header.
@@ -301,11 +252,11 @@ fn put_projections(out: &mut [u8], at: usize, mode: TurboMode, projections: usiz
 }
 
 // Writes a norm that is given in the last four bytes of a header.
-fn put_norm(out: &mut [u8], norm: SourceNorm)
+fn put_norm(out: &mut [u8], norm: Option<f32>)
     requires { by_norm norm 0 (λ x. 4) ≤ length out.old }
     ensures { out.new ≡ take (length out.old - by_norm norm 0 (λ x. 4)) out.old ++ norm_bytes norm }
 {
-    if let SourceNorm::Given(x) = norm {
+    if let Some(x) = norm {
         let at = out.len() - 4;
         float::put_f32(out, at, x);
     }

@@ -1,6 +1,6 @@
 -- Sums over start, start + 1, .. so many: how many terms there are, terms that are close one by one, and a bound on the sum from one on each term.
 -- Assumes nothing.
-use Rattle.std.proofs.Common.{◌≡◌, ℕ, zero, suc, ◌+◌, ◌*◌, ◌<◌, ◌≤◌, List, [], ◌∷◌, map, length, ◌∙◌, subst, suc-le-suc, zero-le, add-zero, arith}
+use Rattle.std.proofs.Common.{◌≡◌, ℕ, zero, suc, ◌+◌, ◌*◌, ◌<◌, ◌≤◌, List, [], ◌∷◌, map, length, subst, suc-le-suc, zero-le, add-zero, arith}
 use lib.Ieee.{Float}
 use Rattle.rounding.specs.Signed.{Diff}
 use Rattle.float.specs.Units.{mag}

@@ -2,11 +2,9 @@
 use Rattle.std.specs.Prelude.{ℕ, ◌^◌, [], ◌∷◌, pos, Float}
 use Rattle.std.specs.Float.{binary32}
 use Rattle.std.specs.Float.Ieee.{sub, mul, div, of_int}
-use Rattle.error.specs.Answer.{Answer, value, refused, first}
+use Rattle.error.specs.Answer.{Answer, value, first}
 use Rattle.error.specs.Checks.{wrong_bits, wrong_index}
 use Rattle.float.specs.Constants.{two, pi}
-use Rattle.polar.specs.declared.Angle.{Angle}
-use Rattle.polar.specs.declared.Angle.TheVariants.{Radians, Refused}
 
 -- This is 2 PI, the product of 2.0 and PI as an f32.
 unfoldable pub twice_pi : Float
@@ -19,8 +17,3 @@ radians bits index = sub binary32 (mul binary32 (div binary32 (of_int binary32 (
 -- This is what `dequantize_angle` answers.
 unfoldable pub dequantize_angle_of : ℕ → ℕ → Answer Float
 dequantize_angle_of bits index = first (wrong_bits bits ∷ wrong_index bits index ∷ []) (value (radians bits index))
-
--- An `Angle` says radians, or a refusal.
-abbrev pub says_angle : Angle → Answer Float
-says_angle (Radians x) = value x
-says_angle (Refused n p) = refused n p

@@ -6,58 +6,47 @@
 ghost use Rattle.std.specs.Prelude.{◌≡◌, ◌*◌, ◌<◌, length};
 ghost use Rattle.error.specs.Answer.{done, after};
 ghost use Rattle.error.specs.Outcomes.{says};
-ghost use Rattle.polar.specs.Angle.{dequantize_angle_of, says_angle};
+ghost use Rattle.polar.specs.Angle.{dequantize_angle_of};
 ghost use Rattle.polar.specs.Polar.{value_at, direction_at, term, polar_sum_of, decoded_pairs, polar_pairs_of};
 
-use error::{INVALID_BIT_WIDTH, MALFORMED_INDEX, OUTPUT_LENGTH, Outcome};
-
-// An angle in radians, or a refusal.
-#[derive(Clone, Copy)]
-pub enum Angle {
-    Radians(f32),
-    Refused { number: u32, place: usize },
-}
+use error::Refusal;
 
 // Rust's `std::f32::consts::PI`, 40490FDB.
 const PI: f32 = 3.14159274;
 
 // The angle of an index of `bits` bits; index 0 has the angle -PI.
-pub fn dequantize_angle(bits: u8, index: u16) -> Angle
-    ensures { says_angle result ≡ dequantize_angle_of bits index }
+pub fn dequantize_angle(bits: u8, index: u16) -> Result<f32, Refusal>
+    ensures { says result ≡ dequantize_angle_of bits index }
 {
     if bits < 1 || 16 < bits {
-        return Angle::Refused {
-            number: INVALID_BIT_WIDTH,
-            place: bits as usize,
-        };
+        return Err(Refusal::InvalidBitWidth(bits as usize));
     }
     let levels = 1u32 << bits;
     if levels <= index as u32 {
-        return Angle::Refused {
-            number: MALFORMED_INDEX,
-            place: 0,
-        };
+        return Err(Refusal::MalformedIndex(0));
     }
     let i = index as f32;
     let count = levels as f32;
-    Angle::Radians((i / count) * (2.0 * PI) - PI)
+    Ok((i / count) * (2.0 * PI) - PI)
 }
 
 // The pairs of a code before the inverse rotation: r × c and r × s of each, into the output.
 // A direction or an index that is missing counts as in `polar_sum`.
-pub fn polar_pairs(directions: &[f32], indices: &[u16], radii: &[f32], out: &mut [f32]) -> Outcome
+pub fn polar_pairs(
+    directions: &[f32],
+    indices: &[u16],
+    radii: &[f32],
+    out: &mut [f32],
+) -> Result<(), Refusal>
     ensures said { says result ≡ done (polar_pairs_of directions.now indices.now radii.now (length out.old)) }
     ensures left { out.new ≡ after (polar_pairs_of directions.now indices.now radii.now (length out.old)) out.old }
 {
     let needed = 2 * radii.len();
     if out.len() != needed {
-        return Outcome::Refused {
-            number: OUTPUT_LENGTH,
-            place: needed,
-        };
+        return Err(Refusal::OutputLength(needed));
     }
     fill_pairs(directions, indices, radii, out);
-    Outcome::Done
+    Ok(())
 }
 
 // The polar sum of a rotated query and a code: r × (qa × c + qb × s), added in pair order from +0.0, one pair for each radius.
@@ -66,10 +55,8 @@ pub fn polar_sum(rotated: &[f32], directions: &[f32], indices: &[u16], radii: &[
     ensures { result ≡ polar_sum_of rotated.now directions.now indices.now radii.now }
 {
     let mut sum = 0.0f32;
-    let mut i = 0;
-    while i < radii.len() {
+    for i in 0..radii.len() {
         sum = sum + pair_term(rotated, directions, indices, radii, i);
-        i += 1;
     }
     sum
 }
@@ -93,16 +80,13 @@ fn fill_pairs(directions: &[f32], indices: &[u16], radii: &[f32], out: &mut [f32
     requires { length out.old ≡ 2 * length radii.now }
     ensures { out.new ≡ decoded_pairs directions.now indices.now radii.now }
 {
-    let mut i = 0;
-    while i < radii.len() {
+    for (i, &r) in radii.iter().enumerate() {
         let pair = 2 * i;
         let direction = direction_at(indices, i);
         let c = value_at(directions, direction);
         let s = value_at(directions, direction + 1);
-        let r = radii[i];
         out[pair] = r * c;
         out[pair + 1] = r * s;
-        i += 1;
     }
 }
 

@@ -4,7 +4,11 @@ use mathlib.Core.Path.{◌≡◌, refl, sym, ap, ◌∙◌}
 use mathlib.Core.Bool.{Bool, true, false, cond, ◌&&◌}
 use mathlib.Core.List.{List, [], ◌∷◌, ◌++◌, map}
 use native.Mathlib.Nat.{mul-le-mul_left, mul-le-mul_right, add-zero, add-suc, suc-add, zero-add, sub-zero}
+use mathlib.Core.Logic.{◌⊎◌}
 use native.Mathlib.Omega.{arith}
+use Rattle.std.specs.Prelude.{None, Option, Some}
+use Rattle.std.proofs.Common.{inl, inr}
+use Rattle.std.proofs.lemmas.Bool.{cases_lt}
 use lib.ListN.{length, take, drop, take-append-drop, drop_of_length-le, length-drop}
 use lib.Seq.{get_or-take, get_or-drop, drop-drop, length-take-le}
 use lib.Ieee.{Float, binary32, add}
@@ -23,9 +27,7 @@ use Rattle.radius.specs.declared.Range.{Range}
 use Rattle.radius.specs.declared.RadiusCodecProfileV1.{RadiusCodecProfileV1}
 use Rattle.polar.specs.Polar.{value_at, term, polar_sum_of}
 use Rattle.polar_blocks.specs.Payload.{fits_payload, payload_sum_of}
-use Rattle.polar_blocks.specs.Inner.{pair_term, block_term, block_sum_from, Termed, Blocked, part_radii, Addable, added_block, Summable}
-use Rattle.polar_blocks.specs.declared.PayloadSum.{PayloadSum}
-use Rattle.polar_blocks.specs.declared.PayloadSum.TheVariants.{Sum, Otherwise}
+use Rattle.polar_blocks.specs.Inner.{pair_term, block_term, block_sum_from, Blocked, part_radii, Addable, added_block, Summable}
 use Rattle.polar_blocks.proofs.Indices.{index-digit}
 use Rattle.polar_blocks.proofs.Radii.{clear-append, radii_part, radii_long}
 
@@ -65,17 +67,6 @@ total-four f n i acc a b c d h e g k l inv =
     let third = rw three at (total-more f n (i + 2) _ c (omega arith) k second) in
     rw four at (total-more f n (i + 3) _ d (omega arith) l third)
 
--- ---- what is there for a block is there for each of its pairs
-
-module _ {directions rotated block : List Float} {indices : List ℕ} {bits start : ℕ} (b : Blocked directions rotated block indices bits start) where
-  pub pair-named : (i : ℕ) → i < length block → Termed directions rotated block bits start i
-  pair-named i h = record { within = h; narrow = b.narrow; query = omega (arith, b.query, h); table = b.table }
-
-  pub pair_read : (i : ℕ) → i ≤ length block → (bits ≤ 16) × (start + i ≤ 2048) × ((start + i) * bits ≤ 8 * length indices)
-  pair_read i h =
-      let here : start + i ≤ start + length block = omega (arith, h) in
-      (b.narrow, omega (arith, b.few, here), omega (arith, mul-le-mul_right bits here, b.enough))
-
 -- ---- what fits
 
 pub record Fitted (profile : RadiusCodecProfileV1) (radii indices : List ℕ) (bits pairs : ℕ) : Type 0 where
@@ -106,15 +97,15 @@ fits_told profile radii indices bits pairs e =
 -- ---- a block that is read and judged
 
 module _ (directions rotated : List Float) (profile : RadiusCodecProfileV1) (range : Range) (radii indices : List ℕ) (bits at count : ℕ) {block : List Float} (read : block ≡ part_radii profile range radii at count) where
-  abbrev given : Bool → Float → PayloadSum
-  given b sum = cond b (Sum (block_sum_from directions rotated (part_radii profile range radii at count) indices bits at 0 sum)) Otherwise
+  abbrev given : Bool → Float → Option Float
+  given b sum = cond b (Some (block_sum_from directions rotated (part_radii profile range radii at count) indices bits at 0 sum)) None
 
-  pub added-sum : (sum x : Float) → clear bad_radius block ≡ true → x ≡ block_sum_from directions rotated block indices bits at 0 sum → Sum x ≡ added_block directions rotated profile range radii indices bits at count sum
+  pub added-sum : (sum x : Float) → clear bad_radius block ≡ true → x ≡ block_sum_from directions rotated block indices bits at 0 sum → Some x ≡ added_block directions rotated profile range radii indices bits at count sum
   added-sum sum x good e =
-      ap Sum (e ∙ ap (λ (l : List Float). block_sum_from directions rotated l indices bits at 0 sum) read)
+      ap Some (e ∙ ap (λ (l : List Float). block_sum_from directions rotated l indices bits at 0 sum) read)
       ∙ sym (ap (λ (b : Bool). given b sum) (ap (clear bad_radius) (sym read) ∙ good))
 
-  pub added_none : (sum : Float) → clear bad_radius block ≡ false → Otherwise ≡ added_block directions rotated profile range radii indices bits at count sum
+  pub added_none : (sum : Float) → clear bad_radius block ≡ false → None ≡ added_block directions rotated profile range radii indices bits at count sum
   added_none sum bad = sym (ap (λ (b : Bool). given b sum) (ap (clear bad_radius) (sym read) ∙ bad))
 
 pub block-lent : {directions rotated : List Float} {profile : RadiusCodecProfileV1} {radii indices : List ℕ} {bits at count : ℕ} (block : List Float) → Addable directions rotated profile radii indices bits at count → length block ≡ count
@@ -124,10 +115,10 @@ block-lent block a e = record { aligned = a.aligned; narrow = a.narrow; few = rw
 -- ---- what is left from a pair on
 
 -- the radii from pair `at` on are still to be judged, and their terms to be added
-abbrev pub onward_from : List Float → List Float → RadiusCodecProfileV1 → Range → List ℕ → List ℕ → ℕ → ℕ → ℕ → Float → PayloadSum
+abbrev pub onward_from : List Float → List Float → RadiusCodecProfileV1 → Range → List ℕ → List ℕ → ℕ → ℕ → ℕ → Float → Option Float
 onward_from directions rotated profile range radii indices bits pairs at sum =
     let stored = radii_for profile pairs range radii in
-    cond (clear bad_radius (drop at stored)) (Sum (running sum (map (λ i. term rotated directions (indices_in bits pairs indices) stored i) (from at (pairs - at))))) Otherwise
+    cond (clear bad_radius (drop at stored)) (Some (running sum (map (λ i. term rotated directions (indices_in bits pairs indices) stored i) (from at (pairs - at))))) None
 
 module _ (directions rotated : List Float) (profile : RadiusCodecProfileV1) (range : Range) (radii indices : List ℕ) (bits pairs : ℕ) (s : Summable directions rotated profile radii indices bits pairs) where
   abbrev stored : List Float
@@ -136,7 +127,7 @@ module _ (directions rotated : List Float) (profile : RadiusCodecProfileV1) (ran
   abbrev terms : ℕ → ℕ → List Float
   terms at count = map (λ i. term rotated directions (indices_in bits pairs indices) stored i) (from at count)
 
-  abbrev onward : ℕ → Float → PayloadSum
+  abbrev onward : ℕ → Float → Option Float
   onward at sum = onward_from directions rotated profile range radii indices bits pairs at sum
 
   fitted : Fitted profile radii indices bits pairs
@@ -149,7 +140,7 @@ module _ (directions rotated : List Float) (profile : RadiusCodecProfileV1) (ran
   unfolding payload_sum_of polar_sum_of
   onward-start = rw (s.fits, le-leb pairs (length rotated / 2) s.query, le-leb (2 ^ bits) (length directions / 2) s.table, long, sub-zero pairs)
 
-  pub onward-end : (at : ℕ) (sum : Float) → pairs ≤ at → onward at sum ≡ Sum sum
+  pub onward-end : (at : ℕ) (sum : Float) → pairs ≤ at → onward at sum ≡ Some sum
   unfolding running place
   onward-end at sum h = let past : length stored ≤ at = rw (long) h in rw (drop_of_length-le stored past, from-none at pairs h)
 
@@ -183,29 +174,29 @@ module _ (directions rotated : List Float) (profile : RadiusCodecProfileV1) (ran
         ∙ ap (λ (l : List Float). clear bad_radius l && clear bad_radius (drop count (drop at stored))) (sym block-is)
         ∙ ap (λ (l : List Float). clear bad_radius block && clear bad_radius l) (drop-drop count at stored)
 
-    onward-block : (sum : Float) → onward at sum ≡ cond (clear bad_radius block) (onward (at + count) (block_sum_from directions rotated block indices bits at 0 sum)) Otherwise
+    onward-block : (sum : Float) → onward at sum ≡ cond (clear bad_radius block) (onward (at + count) (block_sum_from directions rotated block indices bits at 0 sum)) None
     onward-block sum =
-        ap (λ (b : Bool). cond b (Sum (running sum (terms at (pairs - at)))) Otherwise) judged
-        ∙ ap (λ (x : Float). cond (clear bad_radius block && clear bad_radius (drop (at + count) stored)) (Sum x) Otherwise)
+        ap (λ (b : Bool). cond b (Some (running sum (terms at (pairs - at)))) None) judged
+        ∙ ap (λ (x : Float). cond (clear bad_radius block && clear bad_radius (drop (at + count) stored)) (Some x) None)
         (ap (λ (l : List ℕ). running sum (map (λ i. term rotated directions (indices_in bits pairs indices) stored i) l)) (from-split at pairs count within) ∙ running-append sum _ (from at count) (from (at + count) (pairs - (at + count))) ∙ ap (λ (x : Float). running x (terms (at + count) (pairs - (at + count)))) (block-terms sum))
         ∙ split (clear bad_radius block) (clear bad_radius (drop (at + count) stored)) _
       where
-        split : (a b : Bool) (x : PayloadSum) → cond (a && b) x Otherwise ≡ cond a (cond b x Otherwise) Otherwise
+        split : (a b : Bool) (x : Option Float) → cond (a && b) x None ≡ cond a (cond b x None) None
         split true b x = refl
         split false b x = refl
 
     -- a block that is added, and one with a radius that is refused
-    pub onward-more : (sum more : Float) {whole : PayloadSum} → Sum more ≡ added_block directions rotated profile range radii indices bits at count sum → whole ≡ onward at sum → whole ≡ onward (at + count) more
+    onward-more : (sum more : Float) {whole : Option Float} → Some more ≡ added_block directions rotated profile range radii indices bits at count sum → whole ≡ onward at sum → whole ≡ onward (at + count) more
     onward-more sum more e inv = inv ∙ onward-block sum ∙ split (clear bad_radius block) _ e
       where
-        split : (b : Bool) (x : Float) → Sum more ≡ cond b (Sum x) Otherwise → cond b (onward (at + count) x) Otherwise ≡ onward (at + count) more
+        split : (b : Bool) (x : Float) → Some more ≡ cond b (Some x) None → cond b (onward (at + count) x) None ≡ onward (at + count) more
         split true x f = let same : x ≡ more = cc in ap (onward (at + count)) same
         split false x f = let z : ◌≡◌ {A = ℕ} 0 1 = cc in absurd (omega arith)
 
-    pub onward-none : (sum : Float) {whole : PayloadSum} → Otherwise ≡ added_block directions rotated profile range radii indices bits at count sum → whole ≡ onward at sum → Otherwise ≡ whole
+    pub onward-none : (sum : Float) {whole : Option Float} → None ≡ added_block directions rotated profile range radii indices bits at count sum → whole ≡ onward at sum → None ≡ whole
     onward-none sum e inv = sym (inv ∙ onward-block sum ∙ split (clear bad_radius block) _ _ e)
       where
-        split : (b : Bool) (x : Float) (y : PayloadSum) → Otherwise ≡ cond b (Sum x) Otherwise → cond b y Otherwise ≡ Otherwise
+        split : (b : Bool) (x : Float) (y : Option Float) → None ≡ cond b (Some x) None → cond b y None ≡ None
         split true x y f = let z : ◌≡◌ {A = ℕ} 0 1 = cc in absurd (omega arith)
         split false x y f = refl
 
@@ -224,3 +215,12 @@ module _ (directions rotated : List Float) (profile : RadiusCodecProfileV1) (ran
           query = omega (arith, within, s.query);
           table = omega (arith, s.table);
         }
+
+  -- a turn of the loop: a block has 64 pairs, or all that are left
+  pub onward-turn : (at count : ℕ) (within : at + count ≤ pairs) → count ≤ 64 → (count < pairs - at → count ≡ 64) → (sum more : Float) {whole : Option Float}
+      → Some more ≡ added_block directions rotated profile range radii indices bits at count sum → whole ≡ onward at sum → whole ≡ onward (at + 64) more
+  onward-turn at count within small full sum more e inv = onward-more at count within sum more e inv ∙ next (cases_lt count (pairs - at))
+    where
+      next : (count < pairs - at) ⊎ (pairs - at ≤ count) → onward (at + count) more ≡ onward (at + 64) more
+      next (inl h) = ap (λ (n : ℕ). onward (at + n) more) (full h)
+      next (inr h) = onward-end (at + count) more (omega arith) ∙ sym (onward-end (at + 64) more (omega arith))

@@ -7,6 +7,7 @@ use native.Mathlib.Omega.{arith}
 use borrow.Author.Tests.{le-leb, eq-eqb}
 use lib.ListN.{length}
 use lib.Ieee.{Float}
+use Rattle.std.specs.Prelude.{None, Some}
 use Rattle.error.specs.Answer.{clear}
 use Rattle.error.proofs.Chains.{and-true}
 use Rattle.bitpack.specs.Padding.{bytes_for}
@@ -17,17 +18,16 @@ use Rattle.radius.specs.declared.Range.{Range}
 use Rattle.radius.specs.declared.RadiusCodecProfileV1.{RadiusCodecProfileV1}
 use Rattle.polar.specs.Polar.{polar_sum_of, decoded_pairs}
 use Rattle.polar_blocks.specs.Payload.{fits_payload, long_enough, payload_sum_of, payload_pairs_of}
-use Rattle.polar_blocks.specs.declared.PayloadSum.TheVariants.{Sum, Otherwise}
 
 -- a sum is the polar sum of what the payloads hold, and no radius is refused
-pub sum_told : (directions rotated : List Float) (profile : RadiusCodecProfileV1) (range : Range) (radii indices : List ℕ) (bits pairs : ℕ) {s : Float} → Sum s ≡ payload_sum_of directions rotated profile range radii indices bits pairs
+pub sum_told : (directions rotated : List Float) (profile : RadiusCodecProfileV1) (range : Range) (radii indices : List ℕ) (bits pairs : ℕ) {s : Float} → Some s ≡ payload_sum_of directions rotated profile range radii indices bits pairs
     → (s ≡ polar_sum_of rotated directions (indices_in bits pairs indices) (radii_for profile pairs range radii)) × (clear bad_radius (radii_for profile pairs range radii) ≡ true)
 unfolding payload_sum_of
 sum_told directions rotated profile range radii indices bits pairs {s} e =
     let t = split (fits_payload profile radii indices bits pairs && long_enough directions rotated bits pairs && clear bad_radius (radii_for profile pairs range radii)) _ e in
     (t.0, (and-true (fits_payload profile radii indices bits pairs && long_enough directions rotated bits pairs) _ t.1).1)
   where
-    split : (b : Bool) (x : Float) → Sum s ≡ cond b (Sum x) Otherwise → (s ≡ x) × (b ≡ true)
+    split : (b : Bool) (x : Float) → Some s ≡ cond b (Some x) None → (s ≡ x) × (b ≡ true)
     split true x f = (cc, refl)
     split false x f = let z : ◌≡◌ {A = ℕ} 0 1 = cc in absurd (omega arith)
 

@@ -1,5 +1,5 @@
 -- Private functions are held to these. No public promise is stated by these. Assumes nothing.
-use Rattle.std.specs.Prelude.{ℕ, ◌+◌, ◌-◌, ◌*◌, ◌/◌, ◌%◌, ◌^◌, ◌≤◌, ◌<◌, ◌≡◌, Bool, true, false, not, cond, List, map, length, take, drop, Float}
+use Rattle.std.specs.Prelude.{ℕ, ◌+◌, ◌-◌, ◌*◌, ◌/◌, ◌%◌, ◌^◌, ◌≤◌, ◌<◌, ◌≡◌, Bool, true, false, not, cond, List, map, length, take, drop, Float, None, Option, Some}
 use Rattle.std.specs.Float.{binary32}
 use Rattle.std.specs.Float.Ieee.{of_bits, lt, add, mul}
 use Rattle.error.specs.Answer.{clear}
@@ -13,8 +13,6 @@ use Rattle.radius.specs.declared.Range.{Range}
 use Rattle.radius.specs.declared.RadiusCodecProfileV1.{RadiusCodecProfileV1}
 use Rattle.polar.specs.Polar.{value_at}
 use Rattle.polar_blocks.specs.Payload.{fits_payload}
-use Rattle.polar_blocks.specs.declared.PayloadSum.{PayloadSum}
-use Rattle.polar_blocks.specs.declared.PayloadSum.TheVariants.{Sum, Otherwise}
 
 -- ---- a radius is refused where one of these two tests says so
 abbrev pub below_zero : Float → Bool
@@ -74,10 +72,10 @@ abbrev pub part_radii : RadiusCodecProfileV1 → Range → List ℕ → ℕ → 
 part_radii profile range radii at count = radii_for profile count range (take (width_of profile * count) (drop (width_of profile * at) radii))
 
 -- This is the sum so far with the terms of these pairs, where none of their radii is refused.
-abbrev pub added_block : List Float → List Float → RadiusCodecProfileV1 → Range → List ℕ → List ℕ → ℕ → ℕ → ℕ → Float → PayloadSum
+abbrev pub added_block : List Float → List Float → RadiusCodecProfileV1 → Range → List ℕ → List ℕ → ℕ → ℕ → ℕ → Float → Option Float
 added_block directions rotated profile range radii indices bits at count sum =
     let block = part_radii profile range radii at count in
-    cond (clear bad_radius block) (Sum (block_sum_from directions rotated block indices bits at 0 sum)) Otherwise
+    cond (clear bad_radius block) (Some (block_sum_from directions rotated block indices bits at 0 sum)) None
 
 -- The block's radii are there, they have room, and so is whatever its pairs name; it begins at a multiple of four.
 pub record Addable (directions rotated : List Float) (profile : RadiusCodecProfileV1) (radii indices : List ℕ) (bits at count : ℕ) : Type 0 where

@@ -1,6 +1,6 @@
 -- These are the polar sum and the pairs of a decoded code by the bytes of a record: radii and indices are what two payloads hold. Where profile, bits or a length do
 -- not fit, or a radius is refused, there is no such sum, and the caller finds otherwise what to answer. Assumes nothing.
-use Rattle.std.specs.Prelude.{ℕ, ◌*◌, ◌/◌, ◌%◌, ◌^◌, Bool, not, cond, ◌&&◌, List, leb, eqb, length, Float}
+use Rattle.std.specs.Prelude.{ℕ, ◌*◌, ◌/◌, ◌%◌, ◌^◌, Bool, not, cond, ◌&&◌, List, leb, eqb, length, Float, None, Option, Some}
 use Rattle.error.specs.Answer.{clear}
 use Rattle.bitpack.specs.Padding.{bytes_for}
 use Rattle.bitpack.specs.Packing.{indices_in}
@@ -9,8 +9,6 @@ use Rattle.radius.specs.Codec.{bad_profile, width_of, radii_for}
 use Rattle.radius.specs.declared.Range.{Range}
 use Rattle.radius.specs.declared.RadiusCodecProfileV1.{RadiusCodecProfileV1}
 use Rattle.polar.specs.Polar.{polar_sum_of, decoded_pairs}
-use Rattle.polar_blocks.specs.declared.PayloadSum.{PayloadSum}
-use Rattle.polar_blocks.specs.declared.PayloadSum.TheVariants.{Sum, Otherwise}
 
 -- Under a profile and bits that a record may have, two payloads hold the radii and the indices of so many pairs, at most as many as a record has: the first just these,
 -- the second these and perhaps more.
@@ -28,12 +26,12 @@ abbrev pub long_enough : List Float → List Float → ℕ → ℕ → Bool
 long_enough directions rotated bits pairs = leb pairs (length rotated / 2) && leb (2 ^ bits) (length directions / 2)
 
 -- This is what `payload_sum` answers: the polar sum where everything fits and no radius is refused.
-unfoldable pub payload_sum_of : List Float → List Float → RadiusCodecProfileV1 → Range → List ℕ → List ℕ → ℕ → ℕ → PayloadSum
+unfoldable pub payload_sum_of : List Float → List Float → RadiusCodecProfileV1 → Range → List ℕ → List ℕ → ℕ → ℕ → Option Float
 payload_sum_of directions rotated profile range radii indices bits pairs =
     cond
     (fits_payload profile radii indices bits pairs && long_enough directions rotated bits pairs && clear bad_radius (radii_for profile pairs range radii))
-    (Sum (polar_sum_of rotated directions (indices_in bits pairs indices) (radii_for profile pairs range radii)))
-    Otherwise
+    (Some (polar_sum_of rotated directions (indices_in bits pairs indices) (radii_for profile pairs range radii)))
+    None
 
 -- ---- the pairs of a decoded code
 -- The payloads hold what an output of `room` floats is made of, two for each pair.

@@ -14,14 +14,7 @@ ghost use Rattle.polar_blocks.specs.Inner.{below_zero, not_below_infinity, index
 
 use radius::{RadiusCodecProfileV1, Range};
 
-// A sum, or that it is to be found otherwise.
-#[derive(Clone, Copy)]
-pub enum PayloadSum {
-    Sum(f32),
-    Otherwise,
-}
-
-// The polar sum of a rotated query and of the radii and the indices that two payloads hold, in pair order from +0.0. Otherwise, where the
+// The polar sum of a rotated query and of the radii and the indices that two payloads hold, in pair order from +0.0; none where the
 // profile, the bits or a length does not fit, the query or the table is too short, or a radius is refused.
 pub fn payload_sum(
     directions: &[f32],
@@ -32,18 +25,18 @@ pub fn payload_sum(
     indices: &[u8],
     bits: u8,
     pairs: usize,
-) -> PayloadSum
+) -> Option<f32>
     ensures { result ≡ payload_sum_of directions.now rotated.now profile range radii.now indices.now bits pairs }
 {
     if !fits_payload(profile, radii, indices, bits, pairs) {
-        return PayloadSum::Otherwise;
+        return None;
     }
     if rotated.len() / 2 < pairs {
-        return PayloadSum::Otherwise;
+        return None;
     }
     let levels = 1usize << bits;
     if directions.len() / 2 < levels {
-        return PayloadSum::Otherwise;
+        return None;
     }
     blocks_sum(
         directions, rotated, profile, range, radii, indices, bits, pairs,
@@ -72,7 +65,7 @@ pub fn payload_pairs(
     if !fits_payload(profile, radii, indices, bits, pairs) {
         return false;
     }
-    radius_reading::restore(profile, pairs, range, radii, &mut out[pairs..count]);
+    let _ = radius_reading::restore(profile, pairs, range, radii, &mut out[pairs..count]);
     spread(directions, indices, bits, pairs, out);
     true
 }
@@ -104,7 +97,7 @@ fn fits_payload(
         return false;
     }
     let used = pairs * bits as usize;
-    (used + 7) / 8 <= indices.len()
+    used.div_ceil(8) <= indices.len()
 }
 
 // The sum of all pairs, a block at a time, where everything fits.
@@ -117,34 +110,18 @@ fn blocks_sum(
     indices: &[u8],
     bits: u8,
     pairs: usize,
-) -> PayloadSum
+) -> Option<f32>
     requires { Summable directions.now rotated.now profile radii.now indices.now bits pairs }
     ensures { result ≡ payload_sum_of directions.now rotated.now profile range radii.now indices.now bits pairs }
 {
     let mut sum = 0.0f32;
-    let mut at = 0;
-    while at < pairs {
-        let count = block_of(pairs - at);
-        match add_block(
+    for at in (0..pairs).step_by(64) {
+        let count = (pairs - at).min(64);
+        sum = add_block(
             directions, rotated, profile, range, radii, indices, bits, at, count, sum,
-        ) {
-            PayloadSum::Sum(more) => {
-                sum = more;
-            }
-            PayloadSum::Otherwise => {
-                return PayloadSum::Otherwise;
-            }
-        }
-        at += count;
+        )?;
     }
-    PayloadSum::Sum(sum)
-}
-
-// How many of the pairs that are left the next block has.
-fn block_of(left: usize) -> usize
-    ensures { (result ≤ left) × (result ≤ 64) × (0 < left → 0 < result) × (result < left → result ≡ 64) }
-{
-    if left < 64 { left } else { 64 }
+    Some(sum)
 }
 
 // The sum with the terms of a block of pairs, whose radii are read and judged here.
@@ -159,15 +136,15 @@ fn add_block(
     at: usize,
     count: usize,
     sum: f32,
-) -> PayloadSum
+) -> Option<f32>
     requires { Addable directions.now rotated.now profile radii.now indices.now bits at count }
     ensures { result ≡ added_block directions.now rotated.now profile range radii.now indices.now bits at count sum }
 {
     let width = radius::width_of(profile);
     let start = width * at;
     let stop = start + width * count;
-    let mut block = no_radii();
-    radius_reading::restore(
+    let mut block = [0.0f32; 64];
+    let _ = radius_reading::restore(
         profile,
         count,
         range,
@@ -175,9 +152,9 @@ fn add_block(
         &mut block[0..count],
     );
     if !all_good(&block[0..count]) {
-        return PayloadSum::Otherwise;
+        return None;
     }
-    PayloadSum::Sum(block_sum(
+    Some(block_sum(
         directions,
         rotated,
         &block[0..count],
@@ -186,11 +163,6 @@ fn add_block(
         at,
         sum,
     ))
-}
-
-// Room for the radii of a block.
-fn no_radii() -> [f32; 64] {
-    [0.0f32; 64]
 }
 
 // Whether no radius is refused: two passes of one test each, so that each is done for several radii at a time.
@@ -208,12 +180,10 @@ fn none_below_zero(values: &[f32]) -> bool
     ensures { result ≡ clear below_zero values.now }
 {
     let mut ok = true;
-    let mut i = 0;
-    while i < values.len() {
-        if values[i] < 0.0 {
+    for &x in values {
+        if x < 0.0 {
             ok = false;
         }
-        i += 1;
     }
     ok
 }
@@ -223,12 +193,10 @@ fn all_below_infinity(values: &[f32]) -> bool
     ensures { result ≡ clear not_below_infinity values.now }
 {
     let mut ok = true;
-    let mut i = 0;
-    while i < values.len() {
-        if !(values[i] < f32::from_bits(0x7F80_0000)) {
+    for &x in values {
+        if !(x < f32::from_bits(0x7F80_0000)) {
             ok = false;
         }
-        i += 1;
     }
     ok
 }
@@ -248,8 +216,9 @@ fn block_sum(
 {
     let width = bits as u64;
     let mut sum = begun;
-    let mut i = 0;
-    while 4 <= block.len() - i {
+    let fours = block.len() / 4;
+    for k in 0..fours {
+        let i = 4 * k;
         let first = word_from(indices, bits, start + i);
         let second = first >> width;
         let third = second >> width;
@@ -258,9 +227,9 @@ fn block_sum(
         sum = sum + term_of(directions, rotated, block, bits, start, i + 1, second);
         sum = sum + term_of(directions, rotated, block, bits, start, i + 2, third);
         sum = sum + term_of(directions, rotated, block, bits, start, i + 3, fourth);
-        i += 4;
     }
-    rest_sum(directions, rotated, block, indices, bits, start, i, sum)
+    let rest = 4 * fours;
+    rest_sum(directions, rotated, block, indices, bits, start, rest, sum)
 }
 
 // The same from the block's pair `from` on, one index at a time.
@@ -278,11 +247,9 @@ fn rest_sum(
     ensures { result ≡ block_sum_from directions.now rotated.now block.now indices.now bits start from begun }
 {
     let mut sum = begun;
-    let mut i = from;
-    while i < block.len() {
+    for i in from..block.len() {
         let word = word_from(indices, bits, start + i);
         sum = sum + term_of(directions, rotated, block, bits, start, i, word);
-        i += 1;
     }
     sum
 }
@@ -352,8 +319,7 @@ fn spread(directions: &[f32], indices: &[u8], bits: u8, pairs: usize, out: &mut 
     requires { Spreadable indices.now bits pairs (length out.old) }
     ensures { out.new ≡ decoded_pairs directions.now (indices_in bits pairs indices.now) (drop pairs out.old) }
 {
-    let mut i = 0;
-    while i < pairs {
+    for i in 0..pairs {
         let pair = 2 * i;
         let direction = 2 * index_at(indices, bits, i);
         let c = value_at(directions, direction);
@@ -361,7 +327,6 @@ fn spread(directions: &[f32], indices: &[u8], bits: u8, pairs: usize, out: &mut 
         let r = out[pairs + i];
         out[pair] = r * c;
         out[pair + 1] = r * s;
-        i += 1;
     }
 }
 

@@ -8,7 +8,7 @@ ghost use Rattle.error.specs.Outcomes.{says};
 ghost use Rattle.setup.specs.Lent.{lent};
 ghost use Rattle.qjl.specs.Sketch.{vector_checks};
 
-use error::{DIMENSION_MISMATCH, NON_FINITE_INPUT, Outcome};
+use error::Refusal;
 use setup::Setup;
 
 // The checks of a vector or a query under a setup.
@@ -18,26 +18,16 @@ pub fn check_vector(
     directions: &[f32],
     matrix: &[f32],
     vector: &[f32],
-) -> Outcome
+) -> Result<(), Refusal>
     ensures { says result ≡ first (vector_checks setup (lent rotation.now directions.now matrix.now) vector.now) accepted }
 {
-    let checked = setup_tables::check_setup(setup, rotation, directions, matrix);
-    if let Outcome::Refused { number, place } = checked {
-        return Outcome::Refused { number, place };
-    }
+    setup_tables::check_setup(setup, rotation, directions, matrix)?;
     let dim = setup.dim;
     if vector.len() != dim {
-        return Outcome::Refused {
-            number: DIMENSION_MISMATCH,
-            place: vector.len(),
-        };
+        return Err(Refusal::DimensionMismatch(vector.len()));
     }
-    let bad = error::first_non_finite(vector);
-    if bad < vector.len() {
-        return Outcome::Refused {
-            number: NON_FINITE_INPUT,
-            place: bad,
-        };
+    if let Some(bad) = error::first_non_finite(vector) {
+        return Err(Refusal::NonFiniteInput(bad));
     }
-    Outcome::Done
+    Ok(())
 }

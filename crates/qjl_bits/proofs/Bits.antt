@@ -1,5 +1,5 @@
 -- The sum by the bits of a number: it is the sum by the signs of its digits, and what one value, one byte and the last bits add. Assumes nothing.
-use Prim.Native.Nat.{ℕ, zero, suc, ◌+◌, ◌-◌, ◌*◌, ◌/◌, ◌%◌, ◌≤◌, ◌<◌}
+use Prim.Native.Nat.{ℕ, zero, suc, ◌+◌, ◌*◌, ◌/◌, ◌%◌, ◌≤◌, ◌<◌}
 use mathlib.Core.Path.{◌≡◌, refl, sym, ap, ◌∙◌}
 use mathlib.Core.List.{List, [], ◌∷◌, map}
 use native.Mathlib.Nat.{add-mul-div_left}
@@ -105,46 +105,34 @@ bits_byte acc half whole byte next vs at small low high =
 -- ---- the loop over bytes
 
 -- eight values each of k bytes are added
-pub record BytesAdded (packed : List ℕ) (projected : List Float) (sum : Float) (k : ℕ) : Type 0 where
-  pub within : k ≤ length projected / 8
-  pub read : k ≤ length packed
-  pub rest : sign_sum_of (signs_in (length projected) packed) projected ≡ bit_sum_from sum (number 256 (drop k packed)) (drop (8 * k) projected)
+abbrev pub BytesAdded : List ℕ → List Float → Float → ℕ → Type 0
+BytesAdded packed projected sum k = sign_sum_of (signs_in (length projected) packed) projected ≡ bit_sum_from sum (number 256 (drop k packed)) (drop (8 * k) projected)
 
-module _ (packed : List ℕ) (projected : List Float) where
-  pub bytes-start : BytesAdded packed projected pos_zero 0
-  bytes-start = record { within = omega arith; read = omega arith; rest = sum-bits packed projected }
+module _ (packed : List ℕ) (projected : List Float) (sum : Float) (k : ℕ) (inv : BytesAdded packed projected sum k) where
+  pub bytes-turn : (whole : Float) → k < length packed → ((next : ℕ) → bit_sum_from sum (get_or packed k 0 + 256 * next) (drop (8 * k) projected) ≡ bit_sum_from whole next (drop (8 * k + 8) projected))
+      → BytesAdded packed projected whole (k + 1)
+  bytes-turn whole here added =
+      let place : 8 * k + 8 ≡ 8 * (k + 1) = omega arith in
+      inv
+      ∙ ap (λ (y : ℕ). bit_sum_from sum y (drop (8 * k) projected)) (number-drop 256 packed k here)
+      ∙ added (number 256 (drop (k + 1) packed))
+      ∙ ap (λ (i : ℕ). bit_sum_from whole (number 256 (drop (k + 1) packed)) (drop i projected)) place
 
-  module _ (sum : Float) (k : ℕ) (inv : BytesAdded packed projected sum k) where
-    pub bytes-turn : (whole : Float) → k < length projected / 8 → k < length packed
-        → ((next : ℕ) → bit_sum_from sum (get_or packed k 0 + 256 * next) (drop (8 * k) projected) ≡ bit_sum_from whole next (drop (8 * k + 8) projected))
-        → BytesAdded packed projected whole (k + 1)
-    bytes-turn whole more here added =
-        let place : 8 * k + 8 ≡ 8 * (k + 1) = omega arith in
-        record {
-          within = omega arith;
-          read = omega arith;
-          rest =
-              inv.rest
-              ∙ ap (λ (y : ℕ). bit_sum_from sum y (drop (8 * k) projected)) (number-drop 256 packed k here)
-              ∙ added (number 256 (drop (k + 1) packed))
-              ∙ ap (λ (i : ℕ). bit_sum_from whole (number 256 (drop (k + 1) packed)) (drop i projected)) place;
-        }
+  -- fewer than eight values are left for the last byte
+  pub bytes-last : (r : Float) → length projected / 8 ≤ k → k < length packed → r ≡ bit_sum_from sum (get_or packed k 0) (drop (8 * k) projected) → r ≡ sign_sum_of (signs_in (length projected) packed) projected
+  bytes-last r done here e =
+      let few : length (drop (8 * k) projected) ≤ 8 = simp length-drop (omega (arith, done)) in
+      e
+      ∙ sym
+      (inv
+      ∙ ap (λ (y : ℕ). bit_sum_from sum y (drop (8 * k) projected)) (number-drop 256 packed k here)
+      ∙ bits-last sum (get_or packed k 0) (number 256 (drop (k + 1) packed)) (drop (8 * k) projected) few)
 
-    -- fewer than eight values are left for the last byte
-    pub bytes-last : (r : Float) → length projected / 8 ≤ k → k < length packed → r ≡ bit_sum_from sum (get_or packed k 0) (drop (8 * k) projected) → r ≡ sign_sum_of (signs_in (length projected) packed) projected
-    bytes-last r done here e =
-        let few : length (drop (8 * k) projected) ≤ 8 = simp length-drop (omega (arith, done)) in
-        e
-        ∙ sym
-        (inv.rest
-        ∙ ap (λ (y : ℕ). bit_sum_from sum y (drop (8 * k) projected)) (number-drop 256 packed k here)
-        ∙ bits-last sum (get_or packed k 0) (number 256 (drop (k + 1) packed)) (drop (8 * k) projected) few)
-
-    -- no byte is left
-    pub bytes-none : (r : Float) → length packed ≤ k → r ≡ bit_sum_from sum 0 (drop (8 * k) projected) → r ≡ sign_sum_of (signs_in (length projected) packed) projected
-    bytes-none r over e =
-        e
-        ∙ sym
-        (inv.rest
-        ∙ ap (λ (bytes : List ℕ). bit_sum_from sum (number 256 bytes) (drop (8 * k) projected)) (drop_of_length-le packed over)
-        ∙ ap (λ (y : ℕ). bit_sum_from sum y (drop (8 * k) projected)) (number-nil 256))
+  -- no byte is left
+  pub bytes-none : (r : Float) → length packed ≤ k → r ≡ bit_sum_from sum 0 (drop (8 * k) projected) → r ≡ sign_sum_of (signs_in (length projected) packed) projected
+  bytes-none r over e =
+      e
+      ∙ sym
+      (inv
+      ∙ ap (λ (bytes : List ℕ). bit_sum_from sum (number 256 bytes) (drop (8 * k) projected)) (drop_of_length-le packed over)
+      ∙ ap (λ (y : ℕ). bit_sum_from sum y (drop (8 * k) projected)) (number-nil 256))

@@ -15,16 +15,15 @@ pub fn bit_sum(packed: &[u8], projected: &[f32]) -> f32
     ensures { result ≡ sign_sum_of (signs_in (length projected.now) packed.now) projected.now }
 {
     let full = projected.len() / 8;
+    let bytes = full.min(packed.len());
     let mut sum = 0.0f32;
-    let mut k = 0;
-    while k < full && k < packed.len() {
+    for k in 0..bytes {
         sum = add_byte(sum, packed[k], projected, 8 * k);
-        k += 1;
     }
-    if k < packed.len() {
-        return add_rest(sum, packed[k], projected, 8 * k);
+    if bytes < packed.len() {
+        return add_rest(sum, packed[bytes], projected, 8 * bytes);
     }
-    add_rest(sum, 0, projected, 8 * k)
+    add_rest(sum, 0, projected, 8 * bytes)
 }
 
 // A sum with the eight values at `at` added, by the signs of a byte.
@@ -54,11 +53,9 @@ fn add_rest(begun: f32, last: u8, projected: &[f32], at: usize) -> f32
 {
     let mut sum = begun;
     let mut bits = last;
-    let mut i = at;
-    while i < projected.len() {
-        sum = sum + signed(bits % 2, projected[i]);
+    for &value in &projected[at..] {
+        sum = sum + signed(bits % 2, value);
         bits = bits / 2;
-        i += 1;
     }
     sum
 }

@@ -1,12 +1,7 @@
 -- The sum of sign times projected value, found by a loop, the residual from its factors, and root(PI / 2) as a pattern. Assumes nothing.
-use Prim.Native.Nat.{ℕ, ◌+◌, ◌≤◌, ◌<◌}
-use mathlib.Core.Path.{◌≡◌, refl, ap, ◌∙◌}
-use mathlib.Core.List.{List, map}
-use native.Mathlib.Numerals.{add-one}
-use lib.IntN.{ℤ, pos}
-use lib.ListN.{length, get_or, drop, drop_of_length-le, length-map, get_or-map}
-use lib.Seq.{drop-cons}
-use lib.Ieee.{Float, nan, binary32, add, mul, div, of_int, of_bits}
+use Rattle.std.proofs.Common.{◌≡◌, ℕ, List, [], ◌∷◌, map, ◌⊎◌, inl, inr, refl, sym, ap, ◌∙◌, arith}
+use lib.IntN.{ℤ}
+use lib.Ieee.{Float, binary32, add, mul, div, of_int, of_bits}
 use Rattle.float.specs.Constants.{pi}
 use Rattle.float.specs.SquareRoot.{square_root}
 use Rattle.rounding.specs.Sums.{running, products}
@@ -23,22 +18,14 @@ pub residual-product : (m : ℕ) (norm : Float) (values : List Float) (signs : L
 unfolding residual_of
 residual-product m norm values signs {a} {b} e f = ap (λ (x : Float). mul binary32 x b) e ∙ ap (mul binary32 (scale_of m norm)) f
 
-module _ (signs : List ℤ) (values : List Float) (i : ℕ) (acc : Float) where
-  pub sign-more : i < length signs → i < length values
-      → running acc (products (drop i (map (of_int binary32) signs)) (drop i values))
-      ≡ running (add binary32 acc (mul binary32 (of_int binary32 (get_or signs i (pos 0))) (get_or values i nan))) (products (drop (i + 1) (map (of_int binary32) signs)) (drop (i + 1) values))
-  unfolding running products
-  sign-more h g =
-      let l : i < length (map (of_int binary32) signs) = simp length-map h in
-      rw (drop-cons (map (of_int binary32) signs) i (of_int binary32 (pos 0)), get_or-map (of_int binary32) signs i (pos 0), drop-cons values i nan, add-one i)
+-- ---- the loop keeps that the sum so far, with what is left of both lists, is the whole
+pub sign-more : (z : ℤ) (v acc x : Float) {ss zs : List ℤ} {vs ws : List Float} {whole : Float} → ss ≡ z ∷ zs → vs ≡ v ∷ ws → x ≡ mul binary32 (of_int binary32 z) v
+    → whole ≡ running acc (products (map (of_int binary32) ss) vs) → whole ≡ running (add binary32 acc x) (products (map (of_int binary32) zs) ws)
+unfolding running products
+sign-more z v acc x signs values e inv = inv ∙ rw (signs, values, e)
 
-  -- the signs are through
-  pub sign_sum-end : length signs ≤ i → running acc (products (drop i (map (of_int binary32) signs)) (drop i values)) ≡ acc
-  unfolding running products
-  sign_sum-end h =
-      let l : length (map (of_int binary32) signs) ≤ i = simp length-map h in
-      rw (drop_of_length-le (map (of_int binary32) signs) l)
-
-  -- the values are through
-  pub value-end : length values ≤ i → running acc (products (drop i (map (of_int binary32) signs)) (drop i values)) ≡ acc
-  value-end h = nothing_left (drop i (map (of_int binary32) signs)) values i acc h
+-- one of the lists is through
+pub sign-end : (acc : Float) {ss : List ℤ} {vs : List Float} {whole : Float} → (ss ≡ []) ⊎ (vs ≡ []) → whole ≡ running acc (products (map (of_int binary32) ss) vs) → acc ≡ whole
+unfolding running products
+sign-end acc (inl e) inv = sym (inv ∙ rw e)
+sign-end acc {ss} (inr e) inv = sym (inv ∙ rw e (nothing_left (map (of_int binary32) ss) [] 0 acc (omega arith)))

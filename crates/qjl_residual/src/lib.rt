@@ -29,10 +29,8 @@ pub fn sign_sum(signs: &[i8], projected: &[f32]) -> f32
     ensures { result ≡ sign_sum_of signs.now projected.now }
 {
     let mut sum = 0.0f32;
-    let mut i = 0;
-    while i < signs.len() && i < projected.len() {
-        sum = sum + times(signs[i], projected[i]);
-        i += 1;
+    for (&sign, &value) in signs.iter().zip(projected) {
+        sum = sum + times(sign, value);
     }
     sum
 }

@@ -8,27 +8,21 @@ ghost use Rattle.error.specs.Answer.{done, after};
 ghost use Rattle.error.specs.Outcomes.{says};
 ghost use Rattle.qjl_rows.specs.Projection.{project_of};
 
-use error::{DIMENSION_MISMATCH, Outcome};
+use error::Refusal;
 
 // The query projected on the rows of the matrix, one for each value of the output.
-pub fn project(dim: usize, matrix: &[f32], query: &[f32], out: &mut [f32]) -> Outcome
+pub fn project(dim: usize, matrix: &[f32], query: &[f32], out: &mut [f32]) -> Result<(), Refusal>
     ensures said { says result ≡ done (project_of dim matrix.now query.now (length out.old)) }
     ensures left { out.new ≡ after (project_of dim matrix.now query.now (length out.old)) out.old }
 {
     if query.len() != dim {
-        return Outcome::Refused {
-            number: DIMENSION_MISMATCH,
-            place: query.len(),
-        };
+        return Err(Refusal::DimensionMismatch(query.len()));
     }
     if !is_product(matrix.len(), out.len(), dim) {
-        return Outcome::Refused {
-            number: DIMENSION_MISMATCH,
-            place: matrix.len(),
-        };
+        return Err(Refusal::DimensionMismatch(matrix.len()));
     }
     qjl_sums::row_sums(matrix, query, out);
-    Outcome::Done
+    Ok(())
 }
 
 // Whether a number is rows times columns. The product is not formed: it may pass the largest usize.

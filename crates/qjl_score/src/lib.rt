@@ -2,7 +2,7 @@
 // Ported from turbo-quant/src/qjl.rs (`inner_product_estimate`) and changed: the matrix and the sketch are lent, and an error is a number and a place.
 #![tactic(auto)]
 
-ghost use Rattle.std.specs.Prelude.{◌≡◌, ◌≤◌, length};
+ghost use Rattle.std.specs.Prelude.{◌≡◌, ◌≤◌};
 ghost use Rattle.error.specs.Outcomes.{says_score};
 ghost use Rattle.rounding.specs.Rows.{projected};
 ghost use Rattle.qjl_rows.specs.Inner.{Rowed};
@@ -10,9 +10,7 @@ ghost use Rattle.setup.specs.Lent.{lent};
 ghost use Rattle.qjl.specs.Score.{signed_score, sketch_score_of};
 ghost use Rattle.qjl_score.specs.Inner.{ScoreAtOnce};
 
-use error::{
-    DIMENSION_MISMATCH, MALFORMED_NORM, MALFORMED_SIGN, NON_FINITE_INPUT, Outcome, Scored,
-};
+use error::{Refusal, Scored};
 use setup::{Setup, TurboMode};
 
 // The score of a sketch for a query: the residual with the sketch's source norm, and 0 in `PolarOnly`.
@@ -47,8 +45,7 @@ fn score_at_once(
 ) -> Scored
     ensures { ScoreAtOnce (sketch_score_of setup (lent rotation.now directions.now matrix.now) query.now sketch.now norm) (says_score result) }
 {
-    let checked = setup_tables::check_but_entries(setup, rotation, directions, matrix);
-    if let Outcome::Refused { number, place } = checked {
+    if setup_tables::check_but_entries(setup, rotation, directions, matrix).is_err() {
         return Scored::Withdrawn;
     }
     let dim = setup.dim;
@@ -81,24 +78,17 @@ fn score_checked(
 ) -> Scored
     ensures { says_score result ≡ sketch_score_of setup (lent rotation.now directions.now matrix.now) query.now sketch.now norm }
 {
-    let checked = qjl::check_vector(setup, rotation, directions, matrix, query);
-    if let Outcome::Refused { number, place } = checked {
-        return Scored::Refused { number, place };
+    if let Err(refusal) = qjl::check_vector(setup, rotation, directions, matrix, query) {
+        return Scored::Refused(refusal);
     }
     let mode = setup.mode;
     match mode {
         TurboMode::PolarOnly => {
             if sketch.len() != 0 {
-                return Scored::Refused {
-                    number: DIMENSION_MISMATCH,
-                    place: sketch.len(),
-                };
+                return Scored::Refused(Refusal::DimensionMismatch(sketch.len()));
             }
             if radius::is_bad_radius(norm) {
-                return Scored::Refused {
-                    number: MALFORMED_NORM,
-                    place: 0,
-                };
+                return Scored::Refused(Refusal::MalformedNorm(0));
             }
             Scored::Score(0.0)
         }
@@ -126,41 +116,28 @@ fn residual_score(
     ensures { says_score result ≡ signed_score projections (projected dim projections matrix.now query.now) sketch.now norm }
 {
     if projections <= 256 {
-        let mut values = few_zeros();
-        return score_within(
-            dim,
-            matrix,
-            query,
-            &mut values[0..projections],
-            sketch,
-            norm,
-        );
+        return score_in::<256>(dim, projections, matrix, query, sketch, norm);
     }
-    let mut values = zeros();
-    score_within(
-        dim,
-        matrix,
-        query,
-        &mut values[0..projections],
-        sketch,
-        norm,
-    )
+    score_in::<4096>(dim, projections, matrix, query, sketch, norm)
 }
 
-// The same score, by way of memory for as many values as there are projections.
-fn score_within(
+// The same score, by way of an array of N values, of which there is one for each projection.
+fn score_in<const N: usize>(
     dim: usize,
+    projections: usize,
     matrix: &[f32],
     query: &[f32],
-    values: &mut [f32],
     sketch: &[i8],
     norm: f32,
 ) -> Scored
-    requires { Rowed dim matrix.now query.now (length values.old) × (length values.old ≤ 4096) }
-    ensures { says_score result ≡ signed_score (length values.old) (projected dim (length values.old) matrix.now query.now) sketch.now norm }
+    requires { Rowed dim matrix.now query.now projections × ((projections ≤ N) × (N ≤ 4096)) }
+    ensures { says_score result ≡ signed_score projections (projected dim projections matrix.now query.now) sketch.now norm }
 {
-    qjl_rows::project(dim, matrix, query, values);
-    signed_score(values.len(), values, sketch, norm)
+    let mut values = [0.0f32; N];
+    let room = &mut values[..];
+    let part = &mut room[0..projections];
+    let _ = qjl_rows::project(dim, matrix, query, part);
+    signed_score(projections, part, sketch, norm)
 }
 
 // The score of a sketch from the projected query.
@@ -168,41 +145,17 @@ fn signed_score(projections: usize, values: &[f32], sketch: &[i8], norm: f32) ->
     requires { projections ≤ 4096 }
     ensures { says_score result ≡ signed_score projections values.now sketch.now norm }
 {
-    let bad = error::first_non_finite(values);
-    if bad < values.len() {
-        return Scored::Refused {
-            number: NON_FINITE_INPUT,
-            place: bad,
-        };
+    if let Some(bad) = error::first_non_finite(values) {
+        return Scored::Refused(Refusal::NonFiniteInput(bad));
     }
     if sketch.len() != projections {
-        return Scored::Refused {
-            number: DIMENSION_MISMATCH,
-            place: sketch.len(),
-        };
+        return Scored::Refused(Refusal::DimensionMismatch(sketch.len()));
     }
-    let stray = bitpack_signs::first_bad_sketch_sign(sketch);
-    if stray < sketch.len() {
-        return Scored::Refused {
-            number: MALFORMED_SIGN,
-            place: stray,
-        };
+    if let Some(stray) = bitpack_signs::first_bad_sketch_sign(sketch) {
+        return Scored::Refused(Refusal::MalformedSign(stray));
     }
     if radius::is_bad_radius(norm) {
-        return Scored::Refused {
-            number: MALFORMED_NORM,
-            place: 0,
-        };
+        return Scored::Refused(Refusal::MalformedNorm(0));
     }
     error::finite_score(qjl_residual::residual(projections as u16, norm, values, sketch))
-}
-
-// Room for the projections, of which there are at most 4,096.
-fn zeros() -> [f32; 4096] {
-    [0.0f32; 4096]
-}
-
-// Room for a few of them.
-fn few_zeros() -> [f32; 256] {
-    [0.0f32; 256]
 }

@@ -1,3 +1,2 @@
 pub mod AtOnce
-pub mod Signs
 pub mod Answers

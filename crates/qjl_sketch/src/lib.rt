@@ -4,15 +4,15 @@
 
 ghost use Rattle.std.specs.Prelude.{◌≡◌, map, ◌≤◌, length};
 ghost use Rattle.error.specs.Answer.{done, after};
-ghost use Rattle.error.specs.Outcomes.{says};
 ghost use Rattle.error.specs.Inner.{AtOnce};
+ghost use Rattle.error.specs.Outcomes.{says};
 ghost use Rattle.rounding.specs.Rows.{projected};
 ghost use Rattle.qjl_rows.specs.Inner.{Rowed};
 ghost use Rattle.setup.specs.Lent.{lent};
 ghost use Rattle.qjl.specs.Sketch.{sign_of_sum, sketch_of};
 ghost use Rattle.qjl_sketch.specs.Inner.{JudgedSigns};
 
-use error::{OUTPUT_LENGTH, Outcome};
+use error::Refusal;
 use setup::Setup;
 
 // The sketch of a vector, into the output: the sign of each projection. In `PolarOnly` it has no signs.
@@ -23,12 +23,12 @@ pub fn sketch(
     matrix: &[f32],
     vector: &[f32],
     out: &mut [i8],
-) -> Outcome
+) -> Result<(), Refusal>
     ensures said { says result ≡ done (sketch_of setup (lent rotation.now directions.now matrix.now) vector.now (length out.old)) }
     ensures left { out.new ≡ after (sketch_of setup (lent rotation.now directions.now matrix.now) vector.now (length out.old)) out.old }
 {
     if sketch_at_once(setup, rotation, directions, matrix, vector, out) {
-        return Outcome::Done;
+        return Ok(());
     }
     sketch_checked(setup, rotation, directions, matrix, vector, out)
 }
@@ -45,8 +45,7 @@ fn sketch_at_once(
 ) -> bool
     ensures { AtOnce (sketch_of setup (lent rotation.now directions.now matrix.now) vector.now (length out.old)) out.old result out.new }
 {
-    let checked = setup_tables::check_but_entries(setup, rotation, directions, matrix);
-    if let Outcome::Refused { number, place } = checked {
+    if setup_tables::check_but_entries(setup, rotation, directions, matrix).is_err() {
         return false;
     }
     let dim = setup.dim;
@@ -71,24 +70,18 @@ fn sketch_checked(
     matrix: &[f32],
     vector: &[f32],
     out: &mut [i8],
-) -> Outcome
+) -> Result<(), Refusal>
     ensures said { says result ≡ done (sketch_of setup (lent rotation.now directions.now matrix.now) vector.now (length out.old)) }
     ensures left { out.new ≡ after (sketch_of setup (lent rotation.now directions.now matrix.now) vector.now (length out.old)) out.old }
 {
-    let checked = qjl::check_vector(setup, rotation, directions, matrix, vector);
-    if let Outcome::Refused { number, place } = checked {
-        return Outcome::Refused { number, place };
-    }
+    qjl::check_vector(setup, rotation, directions, matrix, vector)?;
     let dim = setup.dim;
     let rows = setup::counted_projections(setup);
     if out.len() != rows {
-        return Outcome::Refused {
-            number: OUTPUT_LENGTH,
-            place: rows,
-        };
+        return Err(Refusal::OutputLength(rows));
     }
     sketch_rows(dim, matrix, vector, false, out);
-    Outcome::Done
+    Ok(())
 }
 
 // The sign of each projection, into the output. Where they are judged and one is not finite, it is false with nothing written.
@@ -96,29 +89,28 @@ fn sketch_rows(dim: usize, matrix: &[f32], vector: &[f32], judged: bool, out: &m
     requires { Rowed dim matrix.now vector.now (length out.old) × (length out.old ≤ 4096) }
     ensures { JudgedSigns judged (projected dim (length out.old) matrix.now vector.now) out.old result out.new }
 {
-    let rows = out.len();
-    if rows <= 256 {
-        let mut values = few_zeros();
-        return signs_within(dim, matrix, vector, judged, &mut values[0..rows], out);
+    if out.len() <= 256 {
+        return signs_in::<256>(dim, matrix, vector, judged, out);
     }
-    let mut values = zeros();
-    signs_within(dim, matrix, vector, judged, &mut values[0..rows], out)
+    signs_in::<4096>(dim, matrix, vector, judged, out)
 }
 
-// The sign of each projection, by way of memory for as many values. Where they are judged and one is not finite, it is false with nothing written.
-fn signs_within(
+// The same, by way of an array of N values, of which there is one for each sign.
+fn signs_in<const N: usize>(
     dim: usize,
     matrix: &[f32],
     vector: &[f32],
     judged: bool,
-    values: &mut [f32],
     out: &mut [i8],
 ) -> bool
-    requires { Rowed dim matrix.now vector.now (length out.old) × (length values.old ≡ length out.old) }
+    requires { Rowed dim matrix.now vector.now (length out.old) × ((length out.old ≤ N) × (N ≤ 4096)) }
     ensures { JudgedSigns judged (projected dim (length out.old) matrix.now vector.now) out.old result out.new }
 {
-    qjl_rows::project(dim, matrix, vector, values);
-    judged_signs_into(values, judged, out)
+    let mut values = [0.0f32; N];
+    let room = &mut values[..];
+    let part = &mut room[0..out.len()];
+    let _ = qjl_rows::project(dim, matrix, vector, part);
+    judged_signs_into(part, judged, out)
 }
 
 // The sign of each value, into the output. Where they are judged and one is not finite, it is false with nothing written.
@@ -140,10 +132,8 @@ fn signs_into(values: &[f32], out: &mut [i8])
     requires { length out.old ≡ length values.now }
     ensures { out.new ≡ map sign_of_sum values.now }
 {
-    let mut i = 0;
-    while i < out.len() {
-        out[i] = sign(values[i]);
-        i += 1;
+    for (i, o) in out.iter_mut().enumerate() {
+        *o = sign(values[i]);
     }
 }
 
@@ -152,14 +142,4 @@ fn sign(sum: f32) -> i8
     ensures { result ≡ sign_of_sum sum }
 {
     if sum >= 0.0 { 1 } else { -1 }
-}
-
-// Room for the projections, of which there are at most 4,096.
-fn zeros() -> [f32; 4096] {
-    [0.0f32; 4096]
-}
-
-// Room for a few of them.
-fn few_zeros() -> [f32; 256] {
-    [0.0f32; 256]
 }

@@ -1,5 +1,5 @@
--- Four rows of a matrix, each with its dot product as the sum so far and what is left of the row: they start at +0.0, take one term each, and end with the
--- query. And the terms of two rows, placed by turns. Assumes nothing.
+-- Four rows of a matrix, each with its dot product as the sum so far and what is left of the row: each takes one term more. And the terms of two rows, placed by
+-- turns. Assumes nothing.
 use Prim.Native.Nat.{ℕ, ◌+◌, ◌*◌, ◌≤◌, ◌<◌}
 use mathlib.Core.Path.{◌≡◌, ap, ◌∙◌}
 use mathlib.Core.List.{List}
@@ -9,9 +9,8 @@ use native.Mathlib.Omega.{arith}
 use lib.ListN.{length, get_or, set, length-set}
 use lib.Seq.{get_or-set_same, get_or-set_other}
 use lib.Ieee.{Float, nan, binary32, add}
-use Rattle.float.specs.Constants.{pos_zero}
 use Rattle.rounding.specs.Inner.{SoFar}
-use Rattle.rounding.proofs.Running.{dot-start, dot-more}
+use Rattle.rounding.proofs.Running.{dot-more}
 use Rattle.qjl_sums.specs.declared.Four.{Four}
 use Rattle.qjl_sums.specs.Inner.{row_term, Interleaved, Added, FourSoFar}
 
@@ -19,9 +18,6 @@ module _ (matrix query : List Float) where
   -- ---- terms of two rows by turns
 
   module _ (even odd column : ℕ) where
-    pub paired-start : (ys : List Float) → length ys ≡ 32 → Interleaved matrix query even odd column 0 ys
-    paired-start ys l = record { long = l; evens = λ k b. absurd (omega arith); odds = λ k b. absurd (omega arith) }
-
     pub paired-more : (i : ℕ) (ys : List Float) (u v : Float) → u ≡ row_term matrix query even (column + i) → v ≡ row_term matrix query odd (column + i) → i < 16
         → Interleaved matrix query even odd column i ys → Interleaved matrix query even odd column (i + 1) (set (set ys (2 * i) u) (2 * i + 1) v)
     paired-more i ys u v e o b inv =
@@ -45,18 +41,6 @@ module _ (matrix query : List Float) where
   row_more from i acc new v fits l e s inv = rw (s ∙ ap (add binary32 acc) e) (dot-more matrix query from i acc (omega arith) l inv)
 
   module _ (from : ℕ) where
-    pub four-start : (sums : Four) → sums.a ≡ pos_zero → sums.b ≡ pos_zero → sums.c ≡ pos_zero → sums.d ≡ pos_zero
-        → from + 4 * length query ≤ length matrix → FourSoFar matrix query from 0 sums
-    four-start sums a b c d fits =
-        record {
-          fits = fits;
-          within = omega arith;
-          top = rw a (dot-start matrix query from);
-          second = rw b (dot-start matrix query (from + length query));
-          third = rw c (dot-start matrix query (from + length query + length query));
-          fourth = rw d (dot-start matrix query (from + length query + length query + length query));
-        }
-
     pub four-more : (i : ℕ) (old new : Four) (u v w x : Float) → i < length query
         → u ≡ row_term matrix query from i → v ≡ row_term matrix query (from + length query) i
         → w ≡ row_term matrix query (from + length query + length query) i → x ≡ row_term matrix query (from + length query + length query + length query) i

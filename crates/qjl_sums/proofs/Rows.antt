@@ -1,34 +1,37 @@
 -- The rows of a matrix in an output that is filled: one row where the matrix may end, and four rows at a time, some of which may have been stored before. Assumes nothing.
 use Prim.Native.Nat.{ℕ, ◌+◌, ◌-◌, ◌*◌, ◌/◌, ◌≤◌, ◌<◌, min}
 use mathlib.Core.Path.{◌≡◌, refl, sym, ap, ◌∙◌}
-use mathlib.Core.List.{List}
+use mathlib.Core.List.{List, [], ◌∷◌}
+use mathlib.Core.Logic.{◌⊎◌}
 use native.Mathlib.Nat.{suc-mul, le_refl, le-div_iff_mul-le, mul_comm, mul-le-mul_right}
 use native.Mathlib.Numerals.{add-one}
 use native.Mathlib.Decide.{dec_lt}
 use native.Mathlib.Omega.{arith}
 use lib.ListN.{length, drop, drop_of_length-le}
 use lib.Seq.{drop-drop}
-use lib.Ieee.{Float, nan}
+use lib.Ieee.{Float, nan, binary32, add, mul}
+use Rattle.std.proofs.Common.{inl, inr}
 use Rattle.lists.specs.Inner.{Filled}
 use Rattle.lists.proofs.Loops.{filled-start, filled-four, filled-all}
 use Rattle.rounding.specs.Sums.{running, products, dot}
 use Rattle.rounding.specs.Rows.{projected}
-use Rattle.rounding.specs.Inner.{SoFar}
-use Rattle.rounding.proofs.Running.{dot-end}
+use Rattle.rounding.proofs.Running.{nothing_left, dot-end}
 use Rattle.rounding.proofs.Rows.{length-projected, projected-row}
 use Rattle.qjl_sums.specs.declared.Four.{Four}
 use Rattle.qjl_sums.specs.Inner.{on_row, FourSoFar, four_set}
 
 -- ---- one row, where the matrix may end
 
--- a dot product is through where either list is
-pub dot-least : (vs cs : List Float) (from most i : ℕ) (acc : Float) → from ≤ length vs → most ≡ min (length vs - from) (length cs) → most ≤ i → SoFar vs cs from i acc
-    → acc ≡ dot (drop from vs) cs
+-- a dot product as a loop over both lists: the next entry of each
+pub dot-next : (v c acc : Float) {vs ws cs ds : List Float} {whole : Float} → vs ≡ v ∷ ws → cs ≡ c ∷ ds → whole ≡ running acc (products vs cs) → whole ≡ running (add binary32 acc (mul binary32 v c)) (products ws ds)
 unfolding running products
-dot-least vs cs from most i acc b m l inv = elim (dec_lt i (length cs)) [ yes h ↦ short (omega arith) | no h ↦ dot-end vs cs from i acc (omega arith) inv ]
-  where
-    short : length vs ≤ from + i → acc ≡ dot (drop from vs) cs
-    short h = sym (inv ∙ ap (λ (rest : List Float). running acc (products rest (drop i cs))) (drop_of_length-le vs h))
+dot-next v c acc e f inv = inv ∙ rw (e, f)
+
+-- it is through where either list is
+pub dot-through : (acc : Float) {vs cs : List Float} {whole : Float} → (vs ≡ []) ⊎ (cs ≡ []) → whole ≡ running acc (products vs cs) → acc ≡ whole
+unfolding running products
+dot-through acc (inl e) inv = sym (inv ∙ rw e)
+dot-through acc {vs} (inr e) inv = sym (inv ∙ rw e (nothing_left vs [] 0 acc (omega arith)))
 
 -- the next row starts n further, or at the matrix's end
 pub drop-least : {A : Type 0} (n row from next : ℕ) (xs : List A) → next ≡ min (from + n) (length xs) → drop from xs ≡ drop (row * n) xs → drop next xs ≡ drop ((row + 1) * n) xs
@@ -51,18 +54,15 @@ drop-least n row from next xs m e =
 pub rows_fit : (n rows long : ℕ) → 0 < rows → n ≤ long / rows → rows * n ≤ long
 rows_fit n rows long h l = rw (mul_comm rows n) ((le-div_iff_mul-le h).0 l)
 
--- where the next eight rows are stored: four from a on and four from b on, within the output and with nothing left out
-pub record Placed (rows row a b : ℕ) : Type 0 where
+-- where the next eight rows are stored: four from a on and four from b on, with nothing left out
+pub record Placed (row a b : ℕ) : Type 0 where
   pub begins : a ≤ row
   pub reaches : row ≤ a + 4
   pub goes_on : b ≤ a + 4
-  pub ends : a ≤ b
-  pub room : b + 4 ≤ rows
-  pub more : row < b + 4
 
-pub placed : (rows row a b : ℕ) → 4 ≤ rows → row < rows → a ≡ min row (rows - 4) → b ≡ min (row + 4) (rows - 4) → Placed rows row a b
+pub placed : (rows row a b : ℕ) → 4 ≤ rows → row < rows → a ≡ min row (rows - 4) → b ≡ min (row + 4) (rows - 4) → Placed row a b
 placed rows row a b l h p q =
-    record { begins = omega arith; reaches = omega arith; goes_on = omega arith; ends = omega arith; room = omega arith; more = omega arith }
+    record { begins = omega arith; reaches = omega arith; goes_on = omega arith }
 
 -- filled up to an index, and then from an index on that was through already
 pub filled-over : {A : Type 0} (d : A) (f : ℕ → A) (start i stop : ℕ) (xs ys zs : List A) → i ≤ start → start ≤ stop → Filled d f 0 start xs ys → Filled d f i stop ys zs → Filled d f 0 stop xs zs

@@ -3,7 +3,7 @@
 // neighbouring row, as the additions need them.
 #![tactic(auto)]
 
-ghost use Rattle.std.specs.Prelude.{◌≡◌, ◌+◌, ◌*◌, ◌≤◌, ◌<◌, min, length, drop};
+ghost use Rattle.std.specs.Prelude.{◌≡◌, ◌+◌, ◌*◌, ◌≤◌, ◌<◌, length, drop};
 ghost use Rattle.rounding.specs.Sums.{dot};
 ghost use Rattle.rounding.specs.Rows.{projected};
 ghost use Rattle.qjl_sums.specs.Inner.{Interleaved, Added, FourSoFar, four_set};
@@ -54,16 +54,14 @@ fn eights(matrix: &[f32], query: &[f32], out: &mut [f32])
 {
     let columns = query.len();
     let last = out.len() - 4;
-    let mut row = 0;
-    while row < out.len() {
-        let upper = least(row, last);
-        let lower = least(row + 4, last);
+    for row in (0..out.len()).step_by(8) {
+        let upper = row.min(last);
+        let lower = (row + 4).min(last);
         let sums = eight_rows(matrix, upper * columns, lower * columns, query);
         let first = sums.upper;
         put(out, upper, first);
         let second = sums.lower;
         put(out, lower, second);
-        row = lower + 4;
     }
 }
 
@@ -71,12 +69,10 @@ fn eights(matrix: &[f32], query: &[f32], out: &mut [f32])
 fn each_row(matrix: &[f32], query: &[f32], out: &mut [f32])
     ensures { out.new ≡ projected (length query.now) (length out.old) matrix.now query.now }
 {
-    let mut row = 0;
     let mut from = 0;
-    while row < out.len() {
-        out[row] = row_sum(matrix, from, query);
-        from = least(from + query.len(), matrix.len());
-        row += 1;
+    for o in out.iter_mut() {
+        *o = row_sum(matrix, from, query);
+        from = (from + query.len()).min(matrix.len());
     }
 }
 
@@ -85,21 +81,11 @@ fn row_sum(matrix: &[f32], from: usize, query: &[f32]) -> f32
     requires { from ≤ length matrix.now }
     ensures { result ≡ dot (drop from matrix.now) query.now }
 {
-    let columns = least(matrix.len() - from, query.len());
     let mut sum = 0.0f32;
-    let mut i = 0;
-    while i < columns {
-        sum = sum + matrix[from + i] * query[i];
-        i += 1;
+    for (&entry, &value) in matrix[from..].iter().zip(query) {
+        sum = sum + entry * value;
     }
     sum
-}
-
-// The lesser of two numbers.
-fn least(a: usize, b: usize) -> usize
-    ensures { result ≡ min a b }
-{
-    if a < b { a } else { b }
 }
 
 // Stores four sums from an index of the output on.
@@ -138,12 +124,14 @@ fn blocks(matrix: &[f32], upper: usize, lower: usize, query: &[f32]) -> Begun
         upper: none,
         lower: none,
     };
-    let mut column = 0;
-    while 16 <= query.len() - column {
-        sums = block(matrix, upper, lower, query, column, sums);
-        column += 16;
+    let count = query.len() / 16;
+    for k in 0..count {
+        sums = block(matrix, upper, lower, query, 16 * k, sums);
     }
-    Begun { column, sums }
+    Begun {
+        column: 16 * count,
+        sums,
+    }
 }
 
 // The sums with the terms of sixteen more columns.
@@ -166,11 +154,9 @@ fn block(
     products(matrix, lower, query, column, &mut y, &mut z);
     let mut first = sums.upper;
     let mut second = sums.lower;
-    let mut i = 0;
-    while i < 16 {
+    for i in 0..16 {
         first = plus(first, &w, &x, 2 * i);
         second = plus(second, &y, &z, 2 * i);
-        i += 1;
     }
     Eight {
         upper: first,
@@ -195,15 +181,13 @@ fn products(
     let second = from + columns;
     let third = second + columns;
     let fourth = third + columns;
-    let mut i = 0;
-    while i < 16 {
+    for i in 0..16 {
         let at = column + i;
         let factor = query[at];
         y[2 * i] = matrix[second + at] * factor;
         y[2 * i + 1] = matrix[from + at] * factor;
         z[2 * i] = matrix[third + at] * factor;
         z[2 * i + 1] = matrix[fourth + at] * factor;
-        i += 1;
     }
 }
 
@@ -234,11 +218,9 @@ fn ends(
 {
     let mut first = begun.upper;
     let mut second = begun.lower;
-    let mut column = start;
-    while column < query.len() {
+    for column in start..query.len() {
         first = one_more(matrix, upper, query, column, first);
         second = one_more(matrix, lower, query, column, second);
-        column += 1;
     }
     Eight {
         upper: first,

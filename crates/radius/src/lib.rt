@@ -1,16 +1,16 @@
-// Radius compression profiles. Ported from turbo-quant/src/radius.rs and changed: payloads are lent, the range travels by value, refusals are numbers.
+// Radius compression profiles. Ported from turbo-quant/src/radius.rs and changed: payloads are lent, the range travels by value, refusals are a number and a place.
 // What reading (`radius_reading`) and writing (`radius_writing`) share: the profiles, what a radius is, and linear radii one by one.
 #![tactic(auto)]
 
-ghost use Rattle.std.specs.Prelude.{◌≡◌, true};
-ghost use Rattle.error.specs.Answer.{clear};
-ghost use Rattle.error.specs.Lengths.{says_length};
+ghost use Rattle.std.specs.Prelude.{◌≡◌, true, length};
+ghost use Rattle.error.specs.Answer.{clear, found};
+ghost use Rattle.error.specs.Outcomes.{says};
 ghost use Rattle.radius.specs.Radii.{bad_radius, range_of};
 ghost use Rattle.radius.specs.Linear.{span_of, quantize_radius_of, radius_of};
 ghost use Rattle.radius.specs.Codec.{bad_profile, width_of, encoded_bytes_of};
 ghost use Rattle.radius.specs.Firsts.{first_bad_radius_of};
 
-use error::{Length, UNDEFINED_PROFILE};
+use error::Refusal;
 
 // How radii are stored. BlockLogU8 is known and refused.
 #[derive(Clone, Copy)]
@@ -33,20 +33,17 @@ const EPSILON: f32 = 0.00000011920929;
 const MOST: f32 = 65535.0;
 
 // How many bytes a payload takes, with its range where the profile has one.
-pub fn encoded_bytes(profile: RadiusCodecProfileV1, payload: &[u8]) -> Length
-    ensures { says_length result ≡ encoded_bytes_of profile payload.now }
+pub fn encoded_bytes(profile: RadiusCodecProfileV1, payload: &[u8]) -> Result<usize, Refusal>
+    ensures { says result ≡ encoded_bytes_of profile payload.now }
 {
     let length = payload.len();
     match profile {
-        RadiusCodecProfileV1::F32 => Length::Bytes(length),
+        RadiusCodecProfileV1::F32 => Ok(length),
         RadiusCodecProfileV1::BlockLinearU16 => {
             let total = length + 8;
-            Length::Bytes(total)
+            Ok(total)
         }
-        RadiusCodecProfileV1::BlockLogU8 => Length::Refused {
-            number: UNDEFINED_PROFILE,
-            place: 0,
-        },
+        RadiusCodecProfileV1::BlockLogU8 => Err(Refusal::UndefinedProfile(0)),
     }
 }
 
@@ -79,14 +76,14 @@ pub fn is_bad_radius(radius: f32) -> bool
     !float::is_finite(radius) || radius < 0.0
 }
 
-// The place of the first radius that is NaN, infinite or below zero, or how many there are.
-pub fn first_bad_radius(radii: &[f32]) -> usize
-    ensures { result ≡ first_bad_radius_of radii.now }
+// The place of the first radius that is NaN, infinite or below zero, if there is one.
+pub fn first_bad_radius(radii: &[f32]) -> Option<usize>
+    ensures { result ≡ found (first_bad_radius_of radii.now) (length radii.now) }
 {
     if all_good(radii) {
-        return radii.len();
+        return None;
     }
-    find_bad_radius(radii)
+    radii.iter().position(|radius| is_bad_radius(*radius))
 }
 
 // Whether every radius passes. Two flags, with one comparison each, are kept to the end, so that it is done for several radii at a time.
@@ -95,32 +92,15 @@ fn all_good(radii: &[f32]) -> bool
 {
     let mut above = true;
     let mut below = true;
-    let mut at = 0;
-    while at < radii.len() {
-        let radius = radii[at];
-        if radius < 0.0 {
+    for radius in radii {
+        if *radius < 0.0 {
             above = false;
         }
-        if !(radius < f32::from_bits(0x7F80_0000)) {
+        if !(*radius < f32::from_bits(0x7F80_0000)) {
             below = false;
         }
-        at += 1;
     }
     above && below
-}
-
-// The place of the first radius that is NaN, infinite or below zero, found one by one, or how many there are.
-fn find_bad_radius(radii: &[f32]) -> usize
-    ensures { result ≡ first_bad_radius_of radii.now }
-{
-    let mut i = 0;
-    while i < radii.len() {
-        if is_bad_radius(radii[i]) {
-            return i;
-        }
-        i += 1;
-    }
-    i
 }
 
 // The least and the greatest radius; an equal one doesn't replace an earlier one.
@@ -132,16 +112,13 @@ pub fn range_of(radii: &[f32]) -> Range
     }
     let mut min = radii[0];
     let mut max = radii[0];
-    let mut i = 1;
-    while i < radii.len() {
-        let radius = radii[i];
-        if radius < min {
-            min = radius;
+    for radius in &radii[1..] {
+        if *radius < min {
+            min = *radius;
         }
-        if max < radius {
-            max = radius;
+        if max < *radius {
+            max = *radius;
         }
-        i += 1;
     }
     Range { min, max }
 }

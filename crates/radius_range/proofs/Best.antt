@@ -14,7 +14,6 @@ use lib.Ieee.{Float, nan, lt}
 use Rattle.radius.specs.Radii.{range_of}
 use Rattle.radius.specs.declared.Range.{Range}
 use Rattle.radius.proofs.Radii.{range_onward, range-start, range-step, range_end}
-use Rattle.radius_range.specs.Inner.{Lanes}
 use Rattle.radius_range.proofs.Sizes.{Above, size_of, shape, lt_size, size-one}
 
 -- ---- two floats: of the least and of the greatest
@@ -122,9 +121,6 @@ module _ (rs : List Float) (above : AllAbove rs) where
 
     -- ---- lanes
 
-    pub laned_start : (lanes : List Float) → 0 < length rs → length lanes ≡ 16 → ((j : ℕ) → j < 16 → get_or lanes j nan ≡ get_or rs 0 nan) → Laned most rs lanes 0
-    laned_start lanes h long same = record { long = long; among = λ j l. record { at = 0; inside = h; is = same j l }; reach = λ i l. absurd (omega (arith, l)) }
-
     -- a float goes into any lane
     pub laned_next : (lanes : List Float) (n j : ℕ) (v : Float) → n < length rs → j < 16 → v ≡ pick most (get_or rs n nan) (get_or lanes j nan) → Laned most rs lanes n → Laned most rs (set lanes j v) (n + 1)
     laned_next lanes n j v h l e inv =
@@ -197,9 +193,6 @@ pub record Both (rs low high : List Float) (n : ℕ) : Type 0 where
   pub greatest : Laned true rs high n
 
 module _ (rs : List Float) (above : AllAbove rs) where
-  pub both-start : (low high : List Float) → 0 < length rs → Lanes (get_or rs 0 nan) low → Lanes (get_or rs 0 nan) high → Both rs low high 0
-  both-start low high h l g = record { within = omega arith; least = laned_start rs above false low h l.long l.same; greatest = laned_start rs above true high h g.long g.same }
-
   pub both-next : (low high : List Float) (n j : ℕ) (v w : Float) → n < length rs → j < 16 → v ≡ pick false (get_or rs n nan) (get_or low j nan) → w ≡ pick true (get_or rs n nan) (get_or high j nan) → Both rs low high n → Both rs (set low j v) (set high j w) (n + 1)
   both-next low high n j v w h l e f inv = record { within = omega arith; least = laned_next rs above false low n j v h l e inv.least; greatest = laned_next rs above true high n j w h l f inv.greatest }
 

@@ -28,12 +28,10 @@ fn all_positive(radii: &[f32]) -> bool
     ensures { result ≡ clear not_positive radii.now }
 {
     let mut ok = true;
-    let mut i = 0;
-    while i < radii.len() {
-        if !(0.0 < radii[i]) {
+    for radius in radii {
+        if !(0.0 < *radius) {
             ok = false;
         }
-        i += 1;
     }
     ok
 }
@@ -46,23 +44,17 @@ fn lane_range(radii: &[f32]) -> Range
     let first = radii[0];
     let mut low = lanes_of(first);
     let mut high = lanes_of(first);
-    let mut at = 0;
-    while 16 <= radii.len() - at {
-        let mut i = 0;
-        while i < 16 {
-            let radius = radii[at + i];
-            low[i] = lesser(radius, low[i]);
-            high[i] = greater(radius, high[i]);
-            i += 1;
+    let blocks = radii.chunks_exact(16);
+    let rest = blocks.remainder();
+    for block in blocks {
+        for i in 0..16 {
+            low[i] = lesser(block[i], low[i]);
+            high[i] = greater(block[i], high[i]);
         }
-        at += 16;
     }
-    let mut lane = 0;
-    while lane < radii.len() - at {
-        let radius = radii[at + lane];
-        low[lane] = lesser(radius, low[lane]);
-        high[lane] = greater(radius, high[lane]);
-        lane += 1;
+    for (lane, radius) in rest.iter().enumerate() {
+        low[lane] = lesser(*radius, low[lane]);
+        high[lane] = greater(*radius, high[lane]);
     }
     let least = radius::range_of(&low[0..16]);
     let greatest = radius::range_of(&high[0..16]);

@@ -1,69 +1,72 @@
--- A loop that goes through bytes w at a time and stops at the first part whose value offends: its start, one turn and its two ends; the same for one
--- that goes to the end and keeps a flag; and the first radius that offends of a payload. Assumes nothing.
-use Prim.Native.Nat.{ℕ, ◌+◌, ◌*◌, ◌/◌, ◌≤◌, ◌<◌}
+-- The items that a loop reads from a payload: the first that offends, and a list of them all; and the first bad radius of a payload. Assumes nothing.
+use Prim.Native.Nat.{ℕ, zero, suc, ◌*◌, ◌/◌, ◌≤◌, ◌<◌, suc-le-suc}
 use mathlib.Core.Path.{◌≡◌, refl, sym, ap, ◌∙◌}
 use mathlib.Core.Bool.{Bool, true, false}
-use mathlib.Core.List.{List, map}
-use native.Mathlib.Nat.{mul-zero}
+use mathlib.Core.List.{List, [], ◌∷◌, map}
+use native.Mathlib.Nat.{le_of_suc-le-suc}
 use native.Mathlib.Omega.{arith}
-use lib.ListN.{length, get_or, take, drop}
+use lib.Ieee.{Float}
+use lib.ListN.{length, get_or}
+use lib.Seq.{ext_get_or}
+use Rattle.digits.specs.Inner.{two_at, four_at}
 use Rattle.error.specs.Answer.{place}
-use Rattle.error.proofs.Places.{place-start, place-skip, place_here, place_end}
+use Rattle.error.proofs.Places.{place-nil, place-bad, place-good}
+use Rattle.float.specs.Bytes.{of_le_bytes}
 use Rattle.lists.specs.Chunks.{chunks}
 use Rattle.lists.proofs.Chunks.{chunks-get_or, length-chunks}
-use Rattle.lists.proofs.Loops.{next_place}
+use Rattle.lists.proofs.Stores.{run-two, run-four}
 use Rattle.radius.specs.Codec.{width_of, radii_for}
 use Rattle.radius.specs.Firsts.{first_bad_payload_of}
+use Rattle.radius.specs.Linear.{linear_radius}
 use Rattle.radius.specs.Radii.{bad_radius}
 use Rattle.radius.specs.declared.Range.{Range}
 use Rattle.radius.specs.declared.RadiusCodecProfileV1.{RadiusCodecProfileV1}
 use Rattle.radius.specs.declared.RadiusCodecProfileV1.TheVariants.{F32, BlockLinearU16, BlockLogU8}
 
--- ---- after i parts, of which none offends, the next one starts at `at`
+-- ---- the first item that offends: none before it does, and it does or is past the end
 
-pub record Scanned {B : Type 0} (bad : B → Bool) (f : List ℕ → B) (w : ℕ) (bytes : List ℕ) (count i at : ℕ) : Type 0 where
-  pub within : i ≤ count
-  pub start : at ≡ w * i
-  pub clean : place bad (map f (chunks w count bytes)) ≡ i + place bad (drop i (map f (chunks w count bytes)))
+first-place : {A : Type 0} (bad : A → Bool) (xs : List A) (i : ℕ) (d : A) → i ≤ length xs → ((k : ℕ) → k < i → bad (get_or xs k d) ≡ false) → (i < length xs → bad (get_or xs i d) ≡ true) → i ≡ place bad xs
+first-place bad [] i d most before here = omega (arith, place-nil bad)
+first-place bad (x ∷ xs) zero d most before here = sym (place-bad bad x xs (here (omega arith)))
+first-place bad (x ∷ xs) (suc i) d most before here =
+    ap suc (first-place bad xs i d (le_of_suc-le-suc most) (λ k l. before (suc k) (suc-le-suc l)) (λ l. here (suc-le-suc l)))
+    ∙ sym (place-good bad x xs (before 0 (omega arith)))
 
-module _ {B : Type 0} (bad : B → Bool) (f : List ℕ → B) (w : ℕ) (bytes : List ℕ) (count : ℕ) where
-  pub scanned-start : Scanned bad f w bytes count 0 0
-  scanned-start = record { within = omega arith; start = sym (mul-zero w); clean = place-start bad (map f (chunks w count bytes)) }
+-- ---- items that a loop reads one by one
 
-  module _ (x : B) (i at : ℕ) (h : i < count) (s : Scanned bad f w bytes count i at) (e : x ≡ f (take w (drop at bytes))) where
-    -- the value at hand is the one that is asked about
-    here : get_or (map f (chunks w count bytes)) i x ≡ x
-    here = chunks-get_or f w count i bytes x h ∙ ap (λ (k : ℕ). f (take w (drop k bytes))) (sym s.start) ∙ sym e
+module _ {B : Type 0} (items : List B) (count : ℕ) (at : ℕ → B) (sized : length items ≡ count) (same : (k : ℕ) (d : B) → k < count → get_or items k d ≡ at k) where
+  first-read : (bad : B → Bool) (i : ℕ) → i ≤ count → ((k : ℕ) → k < i → bad (at k) ≡ false) → (i < count → bad (at i) ≡ true) → i ≡ place bad items
+  first-read bad i most before here =
+      first-place bad items i (at i) (omega arith)
+      (λ k l. ap bad (same k (at i) (omega arith)) ∙ before k l)
+      (λ l. ap bad (same i (at i) (omega arith)) ∙ here (omega arith))
 
-    below : i < length (map f (chunks w count bytes))
-    below = rw length-chunks h
+  all-read : (out : List B) (d : B) → length out ≡ count → ((k : ℕ) → k < count → get_or out k d ≡ at k) → out ≡ items
+  all-read out d long read = ext_get_or d out items (long ∙ sym sized) (λ k l. read k (omega arith) ∙ sym (same k d (omega arith)))
 
-    pub scanned-next : bad x ≡ false → Scanned bad f w bytes count (i + 1) (at + w)
-    scanned-next good = record { within = omega arith; start = next_place w i at s.start; clean = place-skip bad _ i x below (ap bad here ∙ good) s.clean }
+-- ---- floats of four bytes each
 
-    pub scanned-here : bad x ≡ true → i ≡ place bad (map f (chunks w count bytes))
-    scanned-here offends = sym (place_here bad _ i x below (ap bad here ∙ offends) s.clean)
+module _ (bytes : List ℕ) (count : ℕ) (room : 4 * count ≤ length bytes) where
+  float-at : (k : ℕ) (d : Float) → k < count → get_or (map of_le_bytes (chunks 4 count bytes)) k d ≡ of_le_bytes (four_at bytes (4 * k))
+  float-at k d h = chunks-get_or of_le_bytes 4 count k bytes d h ∙ ap of_le_bytes (run-four {A = ℕ} bytes (4 * k) 0 (omega arith))
 
-  pub scanned-end : (i at : ℕ) → count ≤ i → Scanned bad f w bytes count i at → i ≡ place bad (map f (chunks w count bytes))
-  scanned-end i at h s = sym (place_end bad _ i (rw length-chunks h) s.clean)
+  pub first-float : (i : ℕ) → i ≤ count → ((k : ℕ) → k < i → bad_radius (of_le_bytes (four_at bytes (4 * k))) ≡ false) → (i < count → bad_radius (of_le_bytes (four_at bytes (4 * i))) ≡ true) → i ≡ place bad_radius (map of_le_bytes (chunks 4 count bytes))
+  first-float = first-read _ count (λ k. of_le_bytes (four_at bytes (4 * k))) (length-chunks of_le_bytes 4 count bytes) float-at bad_radius
 
--- ---- a loop that goes to the end, and a flag that tells that no part so far offends
+  pub all-floats : (out : List Float) (d : Float) → length out ≡ count → ((k : ℕ) → k < count → get_or out k d ≡ of_le_bytes (four_at bytes (4 * k))) → out ≡ map of_le_bytes (chunks 4 count bytes)
+  all-floats = all-read _ count (λ k. of_le_bytes (four_at bytes (4 * k))) (length-chunks of_le_bytes 4 count bytes) float-at
 
-pub record Passing {B : Type 0} (bad : B → Bool) (f : List ℕ → B) (w : ℕ) (bytes : List ℕ) (count i at : ℕ) (ok : Bool) : Type 0 where
-  pub within : i ≤ count
-  pub start : at ≡ w * i
-  pub clean : ok ≡ true → Scanned bad f w bytes count i at
+-- ---- radii of two bytes each within a range
 
-module _ {B : Type 0} (bad : B → Bool) (f : List ℕ → B) (w : ℕ) (bytes : List ℕ) (count : ℕ) where
-  pub passing-start : Passing bad f w bytes count 0 0 true
-  passing-start = let s = scanned-start bad f w bytes count in record { within = s.within; start = s.start; clean = λ e. s }
+module _ (range : Range) (bytes : List ℕ) (count : ℕ) (room : 2 * count ≤ length bytes) where
+  linear-at : (k : ℕ) (d : Float) → k < count → get_or (map (linear_radius range) (chunks 2 count bytes)) k d ≡ linear_radius range (two_at bytes (2 * k))
+  linear-at k d h = chunks-get_or (linear_radius range) 2 count k bytes d h ∙ ap (linear_radius range) (run-two {A = ℕ} bytes (2 * k) 0 (omega arith))
 
-  pub passing-next : (x : B) (i at : ℕ) (ok ok' : Bool) → i < count → Passing bad f w bytes count i at ok → x ≡ f (take w (drop at bytes)) → (ok' ≡ true → (ok ≡ true) × (bad x ≡ false)) → Passing bad f w bytes count (i + 1) (at + w) ok'
-  passing-next x i at ok ok' h p e told =
-      record { within = omega arith; start = next_place w i at p.start; clean = λ t. scanned-next bad f w bytes count x i at h (p.clean (told t).0) e (told t).1 }
+  pub first-linear : (i : ℕ) → i ≤ count → ((k : ℕ) → k < i → bad_radius (linear_radius range (two_at bytes (2 * k))) ≡ false) → (i < count → bad_radius (linear_radius range (two_at bytes (2 * i))) ≡ true) → i ≡ place bad_radius (map (linear_radius range) (chunks 2 count bytes))
+  first-linear = first-read _ count (λ k. linear_radius range (two_at bytes (2 * k))) (length-chunks (linear_radius range) 2 count bytes) linear-at bad_radius
 
-  pub passing-end : (i at : ℕ) (ok : Bool) → count ≤ i → Passing bad f w bytes count i at ok → ok ≡ true → count ≡ place bad (map f (chunks w count bytes))
-  passing-end i at ok h p t = let there = scanned-end bad f w bytes count i at h (p.clean t) in let most = p.within in omega (arith, there, most)
+  pub all-linear : (out : List Float) (d : Float) → length out ≡ count → ((k : ℕ) → k < count → get_or out k d ≡ linear_radius range (two_at bytes (2 * k))) → out ≡ map (linear_radius range) (chunks 2 count bytes)
+  all-linear = all-read _ count (λ k. linear_radius range (two_at bytes (2 * k))) (length-chunks (linear_radius range) 2 count bytes) linear-at
 
 -- ---- of a payload of whole radii
 

@@ -1,4 +1,4 @@
-// Radii read from their bytes. Ported from turbo-quant/src/radius.rs and changed: payloads are lent, the range travels by value, refusals are numbers.
+// Radii read from their bytes. Ported from turbo-quant/src/radius.rs and changed: payloads are lent, the range travels by value, refusals are a number and a place.
 #![tactic(auto)]
 
 ghost use Rattle.std.specs.Prelude.{◌+◌, ◌*◌, ◌≤◌, ◌<◌, ◌≡◌, true, false, [], ◌∷◌, map, length};
@@ -15,9 +15,7 @@ ghost use Rattle.radius.specs.Codec.{bad_profile, width_of, radii_for, decompres
 ghost use Rattle.radius.specs.Firsts.{first_bad_payload_of};
 ghost use Rattle.radius_reading.specs.Inner.{profile_checks, content_checks};
 
-use error::{
-    MALFORMED_LENGTH, MALFORMED_RADIUS, MALFORMED_RANGE, OUTPUT_LENGTH, Outcome, UNDEFINED_PROFILE,
-};
+use error::Refusal;
 use radius::{RadiusCodecProfileV1, Range};
 
 // Reads `count` radii from a payload and, for BlockLinearU16, its range, and judges them.
@@ -27,14 +25,11 @@ pub fn decompress(
     range: Range,
     payload: &[u8],
     out: &mut [f32],
-) -> Outcome
+) -> Result<(), Refusal>
     ensures said { says result ≡ done (decompress_of profile count range payload.now (length out.old)) }
     ensures left { out.new ≡ after (decompress_of profile count range payload.now (length out.old)) out.old }
 {
-    let checked = check_content(profile, count, range, payload);
-    if let Outcome::Refused { number, place } = checked {
-        return Outcome::Refused { number, place };
-    }
+    check_content(profile, count, range, payload)?;
     restore(profile, count, range, payload, out)
 }
 
@@ -45,22 +40,16 @@ pub fn restore(
     range: Range,
     payload: &[u8],
     out: &mut [f32],
-) -> Outcome
+) -> Result<(), Refusal>
     ensures said { says result ≡ done (restore_of profile count range payload.now (length out.old)) }
     ensures left { out.new ≡ after (restore_of profile count range payload.now (length out.old)) out.old }
 {
-    let fit = check_profile(profile, count, payload);
-    if let Outcome::Refused { number, place } = fit {
-        return Outcome::Refused { number, place };
-    }
+    check_profile(profile, count, payload)?;
     if out.len() != count {
-        return Outcome::Refused {
-            number: OUTPUT_LENGTH,
-            place: count,
-        };
+        return Err(Refusal::OutputLength(count));
     }
     read_payload(profile, range, payload, out);
-    Outcome::Done
+    Ok(())
 }
 
 // The place of the first radius of a payload that is refused as it is read, or how many whole ones there are; 0 for BlockLogU8, which has none.
@@ -75,22 +64,16 @@ pub fn first_bad_payload(payload: &[u8], profile: RadiusCodecProfileV1, range: R
 }
 
 // 18, then 13: the checks of a payload before what it holds is looked at.
-fn check_profile(profile: RadiusCodecProfileV1, count: usize, payload: &[u8]) -> Outcome
+fn check_profile(profile: RadiusCodecProfileV1, count: usize, payload: &[u8]) -> Result<(), Refusal>
     ensures { says result ≡ first (profile_checks profile count payload.now) accepted }
 {
     if radius::is_bad_profile(profile) {
-        return Outcome::Refused {
-            number: UNDEFINED_PROFILE,
-            place: 0,
-        };
+        return Err(Refusal::UndefinedProfile(0));
     }
     if bad_length(payload.len(), radius::width_of(profile), count) {
-        return Outcome::Refused {
-            number: MALFORMED_LENGTH,
-            place: payload.len(),
-        };
+        return Err(Refusal::MalformedLength(payload.len()));
     }
-    Outcome::Done
+    Ok(())
 }
 
 // The first check of decompress that offends, but for 6.
@@ -99,34 +82,25 @@ fn check_content(
     count: usize,
     range: Range,
     payload: &[u8],
-) -> Outcome
+) -> Result<(), Refusal>
     ensures { says result ≡ first (content_checks profile count range payload.now) accepted }
 {
-    let fit = check_profile(profile, count, payload);
-    if let Outcome::Refused { number, place } = fit {
-        return Outcome::Refused { number, place };
-    }
+    check_profile(profile, count, payload)?;
     match profile {
         RadiusCodecProfileV1::F32 => {
             let bad = first_bad_floats(payload, count);
             if bad < count {
-                return Outcome::Refused {
-                    number: MALFORMED_RADIUS,
-                    place: bad,
-                };
+                return Err(Refusal::MalformedRadius(bad));
             }
         }
         RadiusCodecProfileV1::BlockLinearU16 => {
             if is_bad_range(range) {
-                return Outcome::Refused {
-                    number: MALFORMED_RANGE,
-                    place: 0,
-                };
+                return Err(Refusal::MalformedRange(0));
             }
         }
         RadiusCodecProfileV1::BlockLogU8 => {}
     }
-    Outcome::Done
+    Ok(())
 }
 
 // Whether a number of bytes is other than `count` times `width`, however large that is.
@@ -162,14 +136,10 @@ fn all_plain(payload: &[u8], count: usize) -> bool
     ensures { result ≡ true → count ≡ place bad_radius (map of_le_bytes (chunks 4 count payload.now)) }
 {
     let mut ok = true;
-    let mut i = 0;
-    let mut at = 0;
-    while i < count {
-        if 0x7F80_0000 <= get_word(payload, at) {
+    for i in 0..count {
+        if 0x7F80_0000 <= get_word(payload, 4 * i) {
             ok = false;
         }
-        i += 1;
-        at += 4;
     }
     ok
 }
@@ -179,16 +149,12 @@ fn find_bad_float(payload: &[u8], count: usize) -> usize
     requires { 4 * count ≤ length payload.now }
     ensures { result ≡ place bad_radius (map of_le_bytes (chunks 4 count payload.now)) }
 {
-    let mut i = 0;
-    let mut at = 0;
-    while i < count {
-        if radius::is_bad_radius(get_float(payload, at)) {
+    for i in 0..count {
+        if radius::is_bad_radius(get_float(payload, 4 * i)) {
             return i;
         }
-        i += 1;
-        at += 4;
     }
-    i
+    count
 }
 
 // The place of the first two bytes, of `count`, that read as no radius within a range, or their count.
@@ -210,18 +176,14 @@ fn all_linear(payload: &[u8], range: Range, count: usize) -> bool
 {
     let mut above = true;
     let mut finite = true;
-    let mut i = 0;
-    let mut at = 0;
-    while i < count {
-        let radius = get_radius(payload, at, range);
+    for i in 0..count {
+        let radius = get_radius(payload, 2 * i, range);
         if radius < 0.0 {
             above = false;
         }
         if !(radius < f32::from_bits(0x7F80_0000)) {
             finite = false;
         }
-        i += 1;
-        at += 2;
     }
     if above { finite } else { false }
 }
@@ -231,16 +193,12 @@ fn find_bad_linear(payload: &[u8], range: Range, count: usize) -> usize
     requires { 2 * count ≤ length payload.now }
     ensures { result ≡ place bad_radius (map (linear_radius range) (chunks 2 count payload.now)) }
 {
-    let mut i = 0;
-    let mut at = 0;
-    while i < count {
-        if radius::is_bad_radius(get_radius(payload, at, range)) {
+    for i in 0..count {
+        if radius::is_bad_radius(get_radius(payload, 2 * i, range)) {
             return i;
         }
-        i += 1;
-        at += 2;
     }
-    i
+    count
 }
 
 // Reads as many radii as there is room for.
@@ -260,12 +218,8 @@ fn read_floats(payload: &[u8], out: &mut [f32])
     requires { length payload.now ≡ 4 * length out.old }
     ensures { out.new ≡ map of_le_bytes (chunks 4 (length out.old) payload.now) }
 {
-    let mut i = 0;
-    let mut at = 0;
-    while i < out.len() {
-        out[i] = get_float(payload, at);
-        i += 1;
-        at += 4;
+    for (i, x) in out.iter_mut().enumerate() {
+        *x = get_float(payload, 4 * i);
     }
 }
 
@@ -274,12 +228,8 @@ fn read_linear(payload: &[u8], range: Range, out: &mut [f32])
     requires { length payload.now ≡ 2 * length out.old }
     ensures { out.new ≡ map (linear_radius range) (chunks 2 (length out.old) payload.now) }
 {
-    let mut i = 0;
-    let mut at = 0;
-    while i < out.len() {
-        out[i] = get_radius(payload, at, range);
-        i += 1;
-        at += 2;
+    for (i, x) in out.iter_mut().enumerate() {
+        *x = get_radius(payload, 2 * i, range);
     }
 }
 

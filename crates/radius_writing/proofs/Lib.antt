@@ -1,3 +1,4 @@
 pub mod Checks
 pub mod ReadBack
+pub mod Parts
 pub mod Examples

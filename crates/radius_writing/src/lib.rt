@@ -1,4 +1,4 @@
-// Radii written as bytes. Ported from turbo-quant/src/radius.rs and changed: payloads are lent, the range travels by value, refusals are numbers.
+// Radii written as bytes. Ported from turbo-quant/src/radius.rs and changed: payloads are lent, the range travels by value, refusals are a number and a place.
 #![tactic(auto)]
 
 ghost use Rattle.std.specs.Prelude.{◌+◌, ◌*◌, ◌≤◌, ◌≡◌, true, length, take, drop};
@@ -11,30 +11,23 @@ ghost use Rattle.radius.specs.Linear.{linear_bytes};
 ghost use Rattle.radius.specs.Codec.{width_of, compress_checks, range_for, payload_for, compress_range_of, compress_bytes_of};
 ghost use Rattle.radius.specs.Firsts.{first_bad_read_back_of};
 ghost use Rattle.radius_writing.specs.Inner.{bad_kept};
-ghost use Rattle.radius_writing.specs.Says.{says_range};
 
-use error::{MALFORMED_RADIUS, OUTPUT_LENGTH, Outcome, UNDEFINED_PROFILE};
+use error::Refusal;
 use radius::{RadiusCodecProfileV1, Range};
-
-// The range that goes with the bytes written, or a refusal.
-#[derive(Clone, Copy)]
-pub enum Compressed {
-    Made(Range),
-    Refused { number: u32, place: usize },
-}
 
 // Compresses radii into exactly the bytes that they need, and answers their range.
 // How far a linear radius then lies from what it was is `HowFar` in radius_moves/specs/Moves.antt.
-pub fn compress(radii: &[f32], profile: RadiusCodecProfileV1, out: &mut [u8]) -> Compressed
-    ensures said { says_range result ≡ compress_range_of radii.now profile (length out.old) }
+pub fn compress(
+    radii: &[f32],
+    profile: RadiusCodecProfileV1,
+    out: &mut [u8],
+) -> Result<Range, Refusal>
+    ensures said { says result ≡ compress_range_of radii.now profile (length out.old) }
     ensures left { out.new ≡ after (compress_bytes_of radii.now profile (length out.old)) out.old }
 {
-    let checked = check_compress(radii, profile, out.len());
-    if let Outcome::Refused { number, place } = checked {
-        return Compressed::Refused { number, place };
-    }
+    check_compress(radii, profile, out.len())?;
     let range = write_payload(radii, profile, out);
-    Compressed::Made(range)
+    Ok(range)
 }
 
 // The place of the first radius that would be refused when it is read back, or how many there are; 0 for BlockLogU8, which keeps none.
@@ -42,7 +35,7 @@ pub fn first_bad_read_back(radii: &[f32], profile: RadiusCodecProfileV1) -> usiz
     ensures { result ≡ first_bad_read_back_of radii.now profile }
 {
     match profile {
-        RadiusCodecProfileV1::F32 => radius::first_bad_radius(radii),
+        RadiusCodecProfileV1::F32 => radius::first_bad_radius(radii).unwrap_or(radii.len()),
         RadiusCodecProfileV1::BlockLinearU16 => first_bad_kept(
             radii,
             radius_range::range_of(radii),
@@ -52,30 +45,20 @@ pub fn first_bad_read_back(radii: &[f32], profile: RadiusCodecProfileV1) -> usiz
 }
 
 // The first check of compress that offends.
-fn check_compress(radii: &[f32], profile: RadiusCodecProfileV1, room: usize) -> Outcome
+fn check_compress(radii: &[f32], profile: RadiusCodecProfileV1, room: usize) -> Result<(), Refusal>
     ensures { says result ≡ first (compress_checks radii.now profile room) accepted }
 {
-    let bad = radius::first_bad_radius(radii);
-    if bad < radii.len() {
-        return Outcome::Refused {
-            number: MALFORMED_RADIUS,
-            place: bad,
-        };
+    if let Some(bad) = radius::first_bad_radius(radii) {
+        return Err(Refusal::MalformedRadius(bad));
     }
     if radius::is_bad_profile(profile) {
-        return Outcome::Refused {
-            number: UNDEFINED_PROFILE,
-            place: 0,
-        };
+        return Err(Refusal::UndefinedProfile(0));
     }
     let need = radius::width_of(profile) * radii.len();
     if room != need {
-        return Outcome::Refused {
-            number: OUTPUT_LENGTH,
-            place: need,
-        };
+        return Err(Refusal::OutputLength(need));
     }
-    Outcome::Done
+    Ok(())
 }
 
 // Writes radii into exactly the bytes that they need, and answers their range.
@@ -103,12 +86,8 @@ fn write_floats(radii: &[f32], out: &mut [u8])
     requires { length out.old ≡ 4 * length radii.now }
     ensures { out.new ≡ flat_map to_le_bytes radii.now }
 {
-    let mut i = 0;
-    let mut at = 0;
-    while i < radii.len() {
-        float::put_f32(out, at, radii[i]);
-        i += 1;
-        at += 4;
+    for (i, r) in radii.iter().enumerate() {
+        float::put_f32(out, 4 * i, *r);
     }
 }
 
@@ -119,12 +98,8 @@ fn write_linear(radii: &[f32], range: Range, out: &mut [u8])
 {
     let min = range.min;
     let span = radius::span_of(range);
-    let mut i = 0;
-    let mut at = 0;
-    while i < radii.len() {
-        put_number(out, at, radius::quantize_radius(min, span, radii[i]));
-        i += 1;
-        at += 2;
+    for (i, r) in radii.iter().enumerate() {
+        put_number(out, 2 * i, radius::quantize_radius(min, span, *r));
     }
 }
 
@@ -156,9 +131,8 @@ fn all_kept(radii: &[f32], range: Range) -> bool
     let span = radius::span_of(range);
     let mut above = true;
     let mut below = true;
-    let mut i = 0;
-    while i < radii.len() {
-        let number = radius::quantize_radius(min, span, radii[i]);
+    for r in radii {
+        let number = radius::quantize_radius(min, span, *r);
         let kept = radius::radius_of(range, number);
         if kept < 0.0 {
             above = false;
@@ -166,7 +140,6 @@ fn all_kept(radii: &[f32], range: Range) -> bool
         if !(kept < f32::from_bits(0x7F80_0000)) {
             below = false;
         }
-        i += 1;
     }
     above && below
 }
@@ -177,13 +150,9 @@ fn find_bad_kept(radii: &[f32], range: Range) -> usize
 {
     let min = range.min;
     let span = radius::span_of(range);
-    let mut i = 0;
-    while i < radii.len() {
-        let n = radius::quantize_radius(min, span, radii[i]);
-        if radius::is_bad_radius(radius::radius_of(range, n)) {
-            return i;
-        }
-        i += 1;
-    }
-    i
+    let found = radii.iter().position(|r| {
+        let n = radius::quantize_radius(min, span, *r);
+        radius::is_bad_radius(radius::radius_of(range, n))
+    });
+    found.unwrap_or(radii.len())
 }

@@ -9,7 +9,6 @@
 
 ghost use Rattle.std.specs.Prelude.{◌+◌, ◌<◌, ◌≤◌, length};
 
-use packed::SourceNorm;
 use radius::{RadiusCodecProfileV1, Range};
 use setup::{RotationKind, Setup, TurboMode};
 
@@ -106,11 +105,11 @@ pub(crate) fn kind(case: &[u8; 512]) -> RotationKind {
 }
 
 // The norm that a record is written with: given where the third number is not 0.
-pub(crate) fn norm(case: &[u8; 512]) -> SourceNorm {
+pub(crate) fn norm(case: &[u8; 512]) -> Option<f32> {
     if long(case, THIRD) == 0 {
-        return SourceNorm::Absent;
+        return None;
     }
-    SourceNorm::Given(float_at(case, VALUE))
+    Some(float_at(case, VALUE))
 }
 
 pub(crate) fn range(case: &[u8; 512]) -> Range {
@@ -136,30 +135,24 @@ pub(crate) fn setup(case: &[u8; 512]) -> Setup {
 // The whole case as floats, as indices and as signs.
 pub(crate) fn float_view(case: &[u8; 512]) -> [f32; 128] {
     let mut items = [0.0f32; 128];
-    let mut i = 0;
-    while i < 128 {
-        items[i] = float_at(case, 4 * i);
-        i += 1;
+    for (i, item) in items.iter_mut().enumerate() {
+        *item = float_at(case, 4 * i);
     }
     items
 }
 
 pub(crate) fn index_view(case: &[u8; 512]) -> [u16; 256] {
     let mut items = [0u16; 256];
-    let mut i = 0;
-    while i < 256 {
-        items[i] = half(case, 2 * i) as u16;
-        i += 1;
+    for (i, item) in items.iter_mut().enumerate() {
+        *item = half(case, 2 * i) as u16;
     }
     items
 }
 
 pub(crate) fn sign_view(case: &[u8; 512]) -> [i8; 512] {
     let mut items = [0i8; 512];
-    let mut i = 0;
-    while i < 512 {
-        items[i] = sign(byte(case, i));
-        i += 1;
+    for (i, item) in items.iter_mut().enumerate() {
+        *item = sign(byte(case, i));
     }
     items
 }

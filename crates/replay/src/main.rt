@@ -32,13 +32,11 @@ fn main() {
 fn every_call() -> Tally {
     let mut cases: u64 = 0;
     let mut differ: u64 = 0;
-    let mut call: u8 = 0;
-    while call < CALLS {
+    for call in 0..CALLS {
         let told = one_call(call);
         report(told);
         cases = wrapping_add_u64(cases, told.cases);
         differ = wrapping_add_u64(differ, told.differ);
-        call += 1;
     }
     Tally { cases, differ }
 }
@@ -48,12 +46,10 @@ fn one_call(call: u8) -> Tally {
     name();
     let cases = next_number();
     let mut differ: u64 = 0;
-    let mut i = 0;
-    while i < cases {
+    for _ in 0..cases {
         if !replayed(call) {
             differ = wrapping_add_u64(differ, 1);
         }
-        i += 1;
     }
     Tally {
         cases: cases as u64,

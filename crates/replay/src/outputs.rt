@@ -2,9 +2,8 @@
 // compared with it. For a refusal and for a withdrawn position the list says marks.
 
 use super::{frame, same};
-use error::Filled;
+use error::Refusal;
 use packed::Code;
-use radius_writing::Compressed;
 
 // Outputs as they are lent: each element is a mark that no call writes.
 pub(crate) fn marked_floats() -> [f32; 64] {
@@ -63,8 +62,8 @@ fn compress(case: &[u8; 512], out: &mut [u8]) -> bool {
         frame::profile(case),
         out,
     ) {
-        Compressed::Made(range) => same::bounds(case, range.min, range.max),
-        Compressed::Refused { number, place } => same::refused(case, number, place),
+        Ok(range) => same::bounds(case, range.min, range.max),
+        Err(refusal) => same::refused(case, refusal),
     }
 }
 
@@ -102,7 +101,7 @@ pub(crate) fn indices(call: u8, case: &[u8; 512]) -> bool {
     same::filled(case, given) && same::indices(&out, wanted)
 }
 
-fn indices_written(call: u8, case: &[u8; 512], out: &mut [u16]) -> Filled {
+fn indices_written(call: u8, case: &[u8; 512], out: &mut [u16]) -> Result<Option<()>, Refusal> {
     let bytes = frame::bytes(case, frame::BYTES);
     if call == 18 {
         return error::as_filled(bitpack_reading::unpack_indices(
@@ -124,7 +123,7 @@ pub(crate) fn signs(call: u8, case: &[u8; 512]) -> bool {
     same::filled(case, given) && same::signs(&out, wanted)
 }
 
-fn signs_written(call: u8, case: &[u8; 512], out: &mut [i8]) -> Filled {
+fn signs_written(call: u8, case: &[u8; 512], out: &mut [i8]) -> Result<Option<()>, Refusal> {
     let bytes = frame::bytes(case, frame::BYTES);
     if call == 20 {
         return error::as_filled(bitpack_signs_reading::unpack_signs(
@@ -145,7 +144,7 @@ pub(crate) fn floats(call: u8, case: &[u8; 512]) -> bool {
     same::filled(case, given) && same::floats(&out, wanted)
 }
 
-fn floats_written(call: u8, case: &[u8; 512], out: &mut [f32]) -> Filled {
+fn floats_written(call: u8, case: &[u8; 512], out: &mut [f32]) -> Result<Option<()>, Refusal> {
     let bytes = frame::bytes(case, frame::BYTES);
     if call == 22 {
         let count = frame::count(case);

@@ -3,36 +3,41 @@
 ghost use Rattle.std.specs.Prelude.{◌≤◌, length};
 
 use super::frame;
-use error::{Filled, Outcome, Scored};
+use error::{Refusal, Scored};
 
 // Whether the list says this number and place.
-pub(crate) fn refused(case: &[u8; 512], number: u32, place: usize) -> bool {
+fn said(case: &[u8; 512], number: u32, place: usize) -> bool {
     number as u64 == frame::byte(case, frame::NUMBER)
         && place as u64 == frame::long(case, frame::PLACE)
 }
 
-// Whether the list says that there is a value.
-pub(crate) fn accepted(case: &[u8; 512]) -> bool {
-    refused(case, 0, 0)
+// Whether the list says this refusal.
+pub(crate) fn refused(case: &[u8; 512], refusal: Refusal) -> bool {
+    said(case, refusal.number(), refusal.place())
 }
 
-pub(crate) fn outcome(case: &[u8; 512], given: Outcome) -> bool {
+// Whether the list says that there is a value.
+pub(crate) fn accepted(case: &[u8; 512]) -> bool {
+    said(case, 0, 0)
+}
+
+pub(crate) fn outcome(case: &[u8; 512], given: Result<(), Refusal>) -> bool {
     match given {
-        Outcome::Done => accepted(case),
-        Outcome::Refused { number, place } => refused(case, number, place),
+        Ok(()) => accepted(case),
+        Err(refusal) => refused(case, refusal),
     }
 }
 
 // Whether the list says that the position is withdrawn.
 pub(crate) fn withdrawn(case: &[u8; 512]) -> bool {
-    refused(case, frame::WITHDRAWN, 0)
+    said(case, frame::WITHDRAWN, 0)
 }
 
-pub(crate) fn filled(case: &[u8; 512], given: Filled) -> bool {
+pub(crate) fn filled(case: &[u8; 512], given: Result<Option<()>, Refusal>) -> bool {
     match given {
-        Filled::Done => accepted(case),
-        Filled::Refused { number, place } => refused(case, number, place),
-        Filled::Withdrawn => withdrawn(case),
+        Ok(Some(())) => accepted(case),
+        Err(refusal) => refused(case, refusal),
+        Ok(None) => withdrawn(case),
     }
 }
 
@@ -62,7 +67,7 @@ pub(crate) fn norm(case: &[u8; 512], stood: bool, given: f32) -> bool {
 pub(crate) fn score(case: &[u8; 512], given: Scored) -> bool {
     match given {
         Scored::Score(x) => value(case, x),
-        Scored::Refused { number, place } => refused(case, number, place),
+        Scored::Refused(refusal) => refused(case, refusal),
         Scored::Withdrawn => withdrawn(case),
     }
 }
@@ -71,40 +76,19 @@ pub(crate) fn score(case: &[u8; 512], given: Scored) -> bool {
 pub(crate) fn floats(found: &[f32; 64], wanted: &[f32]) -> bool
     requires { length wanted.now ≤ 64 }
 {
-    let mut i = 0;
-    while i < wanted.len() {
-        if !same_float(found[i], wanted[i]) {
-            return false;
-        }
-        i += 1;
-    }
-    true
+    found.iter().zip(wanted).all(|(a, b)| same_float(*a, *b))
 }
 
 pub(crate) fn indices(found: &[u16; 64], wanted: &[u16]) -> bool
     requires { length wanted.now ≤ 64 }
 {
-    let mut i = 0;
-    while i < wanted.len() {
-        if found[i] != wanted[i] {
-            return false;
-        }
-        i += 1;
-    }
-    true
+    found.starts_with(wanted)
 }
 
 pub(crate) fn signs(found: &[i8; 64], wanted: &[i8]) -> bool
     requires { length wanted.now ≤ 64 }
 {
-    let mut i = 0;
-    while i < wanted.len() {
-        if found[i] != wanted[i] {
-            return false;
-        }
-        i += 1;
-    }
-    true
+    found.starts_with(wanted)
 }
 
 pub(crate) fn bytes(found: &[u8; 64], wanted: &[u8]) -> bool

@@ -1,10 +1,7 @@
 // The calls that need no setup and write nothing: the answer is a number, a float, a part of a record, a refusal or withdrawn.
 
 use super::{frame, same};
-use codebook::{Dequantized, LevelCount, Made, Quantized, ScalarCodebook};
-use error::Length;
-use packed::Reading;
-use polar::Angle;
+use codebook::ScalarCodebook;
 
 pub(crate) fn answered(call: u8, case: &[u8; 512]) -> bool {
     match call {
@@ -24,15 +21,15 @@ pub(crate) fn answered(call: u8, case: &[u8; 512]) -> bool {
 
 fn packed_len(case: &[u8; 512]) -> bool {
     match bitpack::packed_len(frame::count(case), frame::bits(case)) {
-        Length::Bytes(n) => same::number(case, n as u64),
-        Length::Refused { number, place } => same::refused(case, number, place),
+        Ok(n) => same::number(case, n as u64),
+        Err(refusal) => same::refused(case, refusal),
     }
 }
 
 fn encoded_bytes(case: &[u8; 512]) -> bool {
     match radius::encoded_bytes(frame::profile(case), frame::bytes(case, frame::BYTES)) {
-        Length::Bytes(n) => same::number(case, n as u64),
-        Length::Refused { number, place } => same::refused(case, number, place),
+        Ok(n) => same::number(case, n as u64),
+        Err(refusal) => same::refused(case, refusal),
     }
 }
 
@@ -61,39 +58,39 @@ fn book(case: &[u8; 512]) -> ScalarCodebook {
 fn codebook_uniform(case: &[u8; 512]) -> bool {
     let range = frame::range(case);
     match ScalarCodebook::uniform(frame::bits(case), range.min, range.max) {
-        Made::Codebook(made) => {
+        Ok(made) => {
             let bits = made.bits;
             same::number(case, bits as u64) && same::bounds(case, made.min, made.max)
         }
-        Made::Refused { number, place } => same::refused(case, number, place),
+        Err(refusal) => same::refused(case, refusal),
     }
 }
 
 fn codebook_levels(case: &[u8; 512]) -> bool {
     match book(case).levels() {
-        LevelCount::Levels(n) => same::number(case, n as u64),
-        LevelCount::Refused { number, place } => same::refused(case, number, place),
+        Ok(n) => same::number(case, n as u64),
+        Err(refusal) => same::refused(case, refusal),
     }
 }
 
 fn codebook_quantize(case: &[u8; 512]) -> bool {
     match book(case).quantize(frame::float_at(case, frame::VALUE)) {
-        Quantized::Index(n) => same::number(case, n as u64),
-        Quantized::Refused { number, place } => same::refused(case, number, place),
+        Ok(n) => same::number(case, n as u64),
+        Err(refusal) => same::refused(case, refusal),
     }
 }
 
 fn codebook_midpoint(case: &[u8; 512]) -> bool {
     match book(case).dequantize_midpoint(index(case)) {
-        Dequantized::Midpoint(x) => same::value(case, x),
-        Dequantized::Refused { number, place } => same::refused(case, number, place),
+        Ok(x) => same::value(case, x),
+        Err(refusal) => same::refused(case, refusal),
     }
 }
 
 fn dequantize_angle(case: &[u8; 512]) -> bool {
     match polar::dequantize_angle(frame::bits(case), index(case)) {
-        Angle::Radians(x) => same::value(case, x),
-        Angle::Refused { number, place } => same::refused(case, number, place),
+        Ok(x) => same::value(case, x),
+        Err(refusal) => same::refused(case, refusal),
     }
 }
 
@@ -107,9 +104,9 @@ fn seeds(case: &[u8; 512]) -> bool {
 // Whether the list accepts the record too, with the same norm, says this refusal, or says that the position is withdrawn.
 fn read_record(case: &[u8; 512]) -> bool {
     match packed_reading::read_record(frame::bytes(case, frame::BYTES)) {
-        Reading::Read(header) => same::norm(case, header.has_norm, header.norm),
-        Reading::Refused { number, place } => same::refused(case, number, place),
-        Reading::Withdrawn => same::withdrawn(case),
+        Ok(Some(header)) => same::norm(case, header.has_norm, header.norm),
+        Err(refusal) => same::refused(case, refusal),
+        Ok(None) => same::withdrawn(case),
     }
 }
 

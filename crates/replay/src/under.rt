@@ -4,7 +4,7 @@
 ghost use Rattle.std.specs.Prelude.{◌≤◌, length};
 
 use super::{frame, outputs, same};
-use error::{Outcome, Scored};
+use error::{Refusal, Scored};
 use setup::Setup;
 
 pub(crate) fn answered(call: u8, case: &[u8; 512]) -> bool {
@@ -59,7 +59,13 @@ fn rotation(call: u8, case: &[u8; 512], entries: &[f32], vector: &[f32], wanted:
     same::outcome(case, given) && same::floats(&out, wanted)
 }
 
-fn rotated(call: u8, dim: usize, entries: &[f32], vector: &[f32], out: &mut [f32]) -> Outcome {
+fn rotated(
+    call: u8,
+    dim: usize,
+    entries: &[f32],
+    vector: &[f32],
+    out: &mut [f32],
+) -> Result<(), Refusal> {
     match call {
         24 => rotation::apply(dim, entries, vector, out),
         25 => rotation::apply_inverse(dim, entries, vector, out),

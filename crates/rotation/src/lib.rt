@@ -5,17 +5,14 @@
 
 ghost use Rattle.std.specs.Prelude.{◌≡◌, ◌≤◌, length};
 ghost use Rattle.std.specs.Int.Count.{ones};
-ghost use Rattle.error.specs.Answer.{first, accepted, done, after};
+ghost use Rattle.error.specs.Answer.{first, accepted, done, after, found};
 ghost use Rattle.error.specs.Outcomes.{says};
 ghost use Rattle.rounding.specs.Sums.{products};
 ghost use Rattle.rotation.specs.Checks.{bad_sign, first_bad_sign_of, bad_power, sign_checks, rotation_checks};
 ghost use Rattle.rotation.specs.Rotation.{inverse_root, scaled, hadamard_of, unrotated, apply_of, apply_inverse_of};
 ghost use Rattle.rotation.specs.Inner.{Transformable};
 
-use error::{
-    DIMENSION_MISMATCH, MALFORMED_SIGN, ODD_DIMENSION, OUTPUT_LENGTH, Outcome, ROTATION_FAILED,
-    ZERO_DIMENSION,
-};
+use error::Refusal;
 
 // Whether a dimension is no power of two, or above 4,096.
 pub fn outside_powers(dim: usize) -> bool
@@ -34,118 +31,89 @@ fn is_bad_sign(sign: f32) -> bool
     if sign != -1.0 { sign != 1.0 } else { false }
 }
 
-// The index of the first sign that is neither -1 nor 1, or how many signs there are where each is one of them.
-pub fn first_bad_sign(signs: &[f32]) -> usize
-    ensures { result ≡ first_bad_sign_of signs.now }
+// The index of the first sign that is neither -1 nor 1, if there is one.
+pub fn first_bad_sign(signs: &[f32]) -> Option<usize>
+    ensures { result ≡ found (first_bad_sign_of signs.now) (length signs.now) }
 {
     if signs.len() <= 4096 {
         if bad_signs(signs) == 0 {
-            return signs.len();
+            return None;
         }
     }
-    find_bad_sign(signs)
+    signs.iter().position(|sign| is_bad_sign(*sign))
 }
 
 // The rotation of the input into the output: signs, butterflies, scale.
-pub fn apply(dim: usize, signs: &[f32], input: &[f32], output: &mut [f32]) -> Outcome
+pub fn apply(dim: usize, signs: &[f32], input: &[f32], output: &mut [f32]) -> Result<(), Refusal>
     ensures said { says result ≡ done (apply_of dim signs.now input.now (length output.old)) }
     ensures left { output.new ≡ after (apply_of dim signs.now input.now (length output.old)) output.old }
 {
-    let checked = check(dim, signs, input.len(), output.len());
-    if let Outcome::Refused { number, place } = checked {
-        return Outcome::Refused { number, place };
-    }
+    check(dim, signs, input.len(), output.len())?;
     flip_into(input, signs, output);
     hadamard(output, dim);
-    Outcome::Done
+    Ok(())
 }
 
 // The inverse rotation of the input into the output: butterflies, scale, signs.
-pub fn apply_inverse(dim: usize, signs: &[f32], input: &[f32], output: &mut [f32]) -> Outcome
+pub fn apply_inverse(
+    dim: usize,
+    signs: &[f32],
+    input: &[f32],
+    output: &mut [f32],
+) -> Result<(), Refusal>
     ensures said { says result ≡ done (apply_inverse_of dim signs.now input.now (length output.old)) }
     ensures left { output.new ≡ after (apply_inverse_of dim signs.now input.now (length output.old)) output.old }
 {
-    let checked = check(dim, signs, input.len(), output.len());
-    if let Outcome::Refused { number, place } = checked {
-        return Outcome::Refused { number, place };
-    }
+    check(dim, signs, input.len(), output.len())?;
     float::copy_into(input, output);
     turn_back(output, signs, dim);
-    Outcome::Done
+    Ok(())
 }
 
 // The inverse rotation of the values, in place.
-pub fn apply_inverse_within(dim: usize, signs: &[f32], values: &mut [f32]) -> Outcome
+pub fn apply_inverse_within(dim: usize, signs: &[f32], values: &mut [f32]) -> Result<(), Refusal>
     ensures said { says result ≡ done (apply_inverse_of dim signs.now values.old (length values.old)) }
     ensures left { values.new ≡ after (apply_inverse_of dim signs.now values.old (length values.old)) values.old }
 {
-    let checked = check(dim, signs, values.len(), values.len());
-    if let Outcome::Refused { number, place } = checked {
-        return Outcome::Refused { number, place };
-    }
+    check(dim, signs, values.len(), values.len())?;
     turn_back(values, signs, dim);
-    Outcome::Done
+    Ok(())
 }
 
 // The checks of a rotation, either way.
-fn check(dim: usize, signs: &[f32], input: usize, output: usize) -> Outcome
+fn check(dim: usize, signs: &[f32], input: usize, output: usize) -> Result<(), Refusal>
     ensures { says result ≡ first (rotation_checks dim signs.now input output) accepted }
 {
-    let held = check_signs(dim, signs);
-    if let Outcome::Refused { number, place } = held {
-        return Outcome::Refused { number, place };
-    }
+    check_signs(dim, signs)?;
     if input != dim {
-        return Outcome::Refused {
-            number: DIMENSION_MISMATCH,
-            place: input,
-        };
+        return Err(Refusal::DimensionMismatch(input));
     }
     if output != dim {
-        return Outcome::Refused {
-            number: OUTPUT_LENGTH,
-            place: dim,
-        };
+        return Err(Refusal::OutputLength(dim));
     }
-    Outcome::Done
+    Ok(())
 }
 
 // The checks of a dimension and of its signs.
-fn check_signs(dim: usize, signs: &[f32]) -> Outcome
+fn check_signs(dim: usize, signs: &[f32]) -> Result<(), Refusal>
     ensures { says result ≡ first (sign_checks dim signs.now) accepted }
 {
     if dim == 0 {
-        return Outcome::Refused {
-            number: ZERO_DIMENSION,
-            place: 0,
-        };
+        return Err(Refusal::ZeroDimension(0));
     }
     if dim % 2 == 1 {
-        return Outcome::Refused {
-            number: ODD_DIMENSION,
-            place: dim,
-        };
+        return Err(Refusal::OddDimension(dim));
     }
     if outside_powers(dim) {
-        return Outcome::Refused {
-            number: ROTATION_FAILED,
-            place: dim,
-        };
+        return Err(Refusal::RotationFailed(dim));
     }
     if signs.len() != dim {
-        return Outcome::Refused {
-            number: DIMENSION_MISMATCH,
-            place: signs.len(),
-        };
+        return Err(Refusal::DimensionMismatch(signs.len()));
     }
-    let bad = first_bad_sign(signs);
-    if bad < signs.len() {
-        return Outcome::Refused {
-            number: MALFORMED_SIGN,
-            place: bad,
-        };
+    if let Some(bad) = first_bad_sign(signs) {
+        return Err(Refusal::MalformedSign(bad));
     }
-    Outcome::Done
+    Ok(())
 }
 
 // How many signs are neither -1 nor 1. The pass goes to the end and counts in 32 bits, so that it is done for several signs at a time.
@@ -154,38 +122,20 @@ fn bad_signs(signs: &[f32]) -> u32
     ensures { result ≡ 0 → length signs.now ≡ first_bad_sign_of signs.now }
 {
     let mut bad = 0u32;
-    let mut i = 0;
-    while i < signs.len() {
-        if is_bad_sign(signs[i]) {
+    for sign in signs {
+        if is_bad_sign(*sign) {
             bad += 1;
         }
-        i += 1;
     }
     bad
-}
-
-// The index of the first sign that is neither -1 nor 1, found one by one, or how many signs there are.
-fn find_bad_sign(signs: &[f32]) -> usize
-    ensures { result ≡ first_bad_sign_of signs.now }
-{
-    let mut i = 0;
-    while i < signs.len() {
-        if is_bad_sign(signs[i]) {
-            return i;
-        }
-        i += 1;
-    }
-    i
 }
 
 // Each value times the factor, in place.
 fn scale_by(values: &mut [f32], factor: f32)
     ensures { values.new ≡ scaled factor values.old }
 {
-    let mut i = 0;
-    while i < values.len() {
-        values[i] = values[i] * factor;
-        i += 1;
+    for value in values.iter_mut() {
+        *value = *value * factor;
     }
 }
 
@@ -194,10 +144,8 @@ fn flip(values: &mut [f32], signs: &[f32])
     requires { length signs.now ≡ length values.old }
     ensures { values.new ≡ products values.old signs.now }
 {
-    let mut i = 0;
-    while i < values.len() {
+    for i in 0..values.len() {
         values[i] = values[i] * signs[i];
-        i += 1;
     }
 }
 
@@ -206,10 +154,8 @@ fn flip_into(input: &[f32], signs: &[f32], output: &mut [f32])
     requires { (length signs.now ≡ length input.now) × (length output.old ≡ length input.now) }
     ensures { output.new ≡ products input.now signs.now }
 {
-    let mut i = 0;
-    while i < output.len() {
+    for i in 0..output.len() {
         output[i] = input[i] * signs[i];
-        i += 1;
     }
 }
 

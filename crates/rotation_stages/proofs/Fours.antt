@@ -1,6 +1,6 @@
 -- Four entries that are h apart through two stages at once: what the four stores leave, and one turn of the loop over the fours of a block. Assumes nothing.
 use Prim.Native.Nat.{ℕ, ◌+◌, ◌*◌, ◌≤◌, ◌<◌}
-use mathlib.Core.Path.{◌≡◌, refl, ap₂, ◌∙◌, subst}
+use mathlib.Core.Path.{◌≡◌, ap₂, ◌∙◌, subst}
 use mathlib.Core.List.{List}
 use mathlib.Core.Logic.{◌≢◌}
 use native.Mathlib.Decide.{dec_lt}
@@ -73,9 +73,6 @@ module _ (h place : ℕ) (ys : List Float) (above : 1 ≤ h) (room : place + 3 *
       }
 
 -- ---- the loop over the fours of a block
-
-pub fours-start : (h start : ℕ) (xs : List Float) → FoursDone h start 0 xs xs
-fours-start h start xs = record { long = refl; fused = λ o l. absurd (omega arith); rest = λ i l. refl }
 
 -- two fours of a block, at different offsets, have no entry in common
 module _ (h start o p : ℕ) (o-inside : o < h) (p-inside : p < h) (differ : o ≢ p) where

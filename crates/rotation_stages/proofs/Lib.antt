@@ -1,4 +1,3 @@
-pub mod Blocks
 pub mod Fours
 pub mod Passes
 pub mod Stages

@@ -2,7 +2,7 @@
 use Prim.Native.Nat.{ℕ, suc, ◌+◌, ◌-◌, ◌*◌, ◌^◌, ◌≤◌, ◌<◌}
 use mathlib.Core.Path.{◌≡◌, refl, sym, ap, ◌∙◌, subst}
 use mathlib.Core.List.{List}
-use native.Mathlib.Nat.{pow-suc, mul-le-mul_right, one-le-pow}
+use native.Mathlib.Nat.{pow-suc}
 use native.Mathlib.Omega.{arith}
 use lib.ListN.{length}
 use lib.Ieee.{Float, binary32, add, sub}
@@ -41,9 +41,6 @@ module _ (step k long : ℕ) (steps : Steps step (suc k) long) where
   stepped-one : Stepped (2 * step) long
   stepped-one = record { above = omega (arith, steps.above); blocks = 2 ^ k; whole = doubled }
 
-  small_one : 2 * step ≤ long
-  small_one = let p = mul-le-mul_right (2 * step) (one-le-pow k 2 (omega arith)) in omega (arith, p, doubled)
-
 more-one : (step k : ℕ) (whole ys zs : List Float) → Running step (suc k) whole ys → zs ≡ stage (add binary32) (sub binary32) pos_zero step ys → Running (2 * step) k whole zs
 more-one step k whole ys zs inv e =
     let twice : step + step ≡ 2 * step = omega arith in
@@ -65,9 +62,6 @@ module _ (step left long : ℕ) (steps : Steps step left long) where
 
   pub steps-fours : 2 ≤ left → Stepped (4 * step) long
   steps-fours l = let four : 2 * (2 * step) ≡ 4 * step = omega arith in subst (λ (n : ℕ). Stepped n long) four (stepped-one (2 * step) (left - 2) long (two-more l))
-
-  pub steps-small : 2 ≤ left → 4 * step ≤ long
-  steps-small l = omega (arith, small_one (2 * step) (left - 2) long (two-more l))
 
 module _ (step left : ℕ) (whole ys zs : List Float) (inv : Running step left whole ys) where
   pub running_more : 0 < left → zs ≡ stage (add binary32) (sub binary32) pos_zero step ys → Running (2 * step) (left - 1) whole zs

@@ -37,16 +37,13 @@ fn finish(values: &mut [f32], from: usize, count: u32)
     ensures { values.new ≡ stages (add binary32) (sub binary32) pos_zero count from values.old }
 {
     let mut step = from;
-    let mut left = count;
-    while 2 <= left {
+    for _pair in 0..count / 2 {
         doubles(values, step);
         step = 4 * step;
-        left = left - 2;
     }
-    if left == 0 {
-        return;
+    if count % 2 == 1 {
+        butterflies(values, step);
     }
-    butterflies(values, step);
 }
 
 // The butterflies with step h, and then those with step 2 h.
@@ -55,6 +52,7 @@ fn doubles(values: &mut [f32], h: usize)
     ensures { values.new ≡ stage (add binary32) (sub binary32) pos_zero (2 * h) (stage (add binary32) (sub binary32) pos_zero h values.old) }
 {
     let mut start = 0;
+    // Kept: `step_by` and `chunks_exact_mut` take 4 h before the loop, where only a value that is there shows that 4 h fits.
     while start < values.len() {
         double(values, start, h);
         start = start + 4 * h;
@@ -66,10 +64,8 @@ fn double(values: &mut [f32], start: usize, h: usize)
     requires { start + 4 * h ≤ length values.old }
     ensures { FoursDone h start h values.old values.new }
 {
-    let mut offset = 0;
-    while offset < h {
+    for offset in 0..h {
         four(values, start + offset, h);
-        offset += 1;
     }
 }
 
@@ -101,6 +97,7 @@ fn butterflies(values: &mut [f32], h: usize)
     ensures { values.new ≡ stage (add binary32) (sub binary32) pos_zero h values.old }
 {
     let mut start = 0;
+    // Kept: `step_by` and `chunks_exact_mut` take 2 h before the loop, where only a value that is there shows that 2 h fits.
     while start < values.len() {
         block(values, start, h);
         start = start + 2 * h;
@@ -112,14 +109,12 @@ fn block(values: &mut [f32], start: usize, h: usize)
     requires { start + 2 * h ≤ length values.old }
     ensures { BlockDone h start values.old values.new }
 {
-    let mut offset = 0;
-    while offset < h {
+    for offset in 0..h {
         let low = start + offset;
         let high = low + h;
         let a = values[low];
         let b = values[high];
         values[low] = a + b;
         values[high] = a - b;
-        offset += 1;
     }
 }

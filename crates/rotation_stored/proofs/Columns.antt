@@ -1,5 +1,5 @@
--- Rows of a matrix that is lent column by column, and their sums side by side: `taken_start` when no column is through, `taken-one` and `taken-four` for the next
--- columns, and `taken-end` when all are. Assumes nothing.
+-- Rows of a matrix that is lent column by column, and their sums side by side: `taken-one` and `taken-four` for the next columns, and `taken-end` when all are
+-- through. Assumes nothing.
 use Prim.Native.Nat.{ℕ, suc, ◌+◌, ◌*◌, ◌≤◌, ◌<◌}
 use mathlib.Core.Path.{◌≡◌, sym, ap, subst, ◌∙◌}
 use mathlib.Core.List.{List}
@@ -8,12 +8,11 @@ use native.Mathlib.Omega.{arith}
 use lib.ListN.{length, get_or}
 use lib.Seq.{ext_get_or}
 use lib.Ieee.{Float, nan, binary32, add, mul}
-use Rattle.float.specs.Constants.{pos_zero}
 use Rattle.lists.specs.Inner.{Filled}
 use Rattle.rounding.specs.Inner.{SoFar}
 use Rattle.rounding.specs.Sums.{dot}
 use Rattle.rounding.proofs.Butterflies.{length-tabled, tabled-at}
-use Rattle.rounding.proofs.Running.{dot-start, dot-more, dot-end}
+use Rattle.rounding.proofs.Running.{dot-more, dot-end}
 use Rattle.rotation_stored.specs.Stored.{row_of, stored_rotated}
 use Rattle.rotation_stored.specs.Inner.{Taken}
 use Rattle.rotation_stored.proofs.Accepted.{length-stored}
@@ -82,18 +81,11 @@ module _ (matrix input : List Float) where
           along = λ i l. subst (λ (v : Float). SoFar (row i) input 0 j v) (sym (filled.passed i (omega arith) (omega (arith, n)))) (terms i l);
         }
 
-  pub taken_start : (xs ys : List Float) → length matrix ≡ length input * length input → length xs ≡ length input → Filled nan (λ i. pos_zero) 0 (length xs) xs ys → Taken matrix input 0 ys
-  taken_start xs ys m n filled = taken xs ys 0 _ m n (omega arith) filled (λ i l. dot-start (row i) input 0)
-
   pub taken-one : (xs ys : List Float) (j : ℕ) → j < length input → Taken matrix input j xs → Filled nan (λ i. column_added (j * length xs) j i (get_or xs i nan)) 0 (length xs) xs ys → Taken matrix input (j + 1) ys
   taken-one xs ys j l t filled = taken xs ys (j + 1) _ t.matrix_long t.sums_long (omega arith) filled (λ i h. row_more i j _ _ (ap (λ (k : ℕ). j * k) t.sums_long) l (t.along i h))
 
   pub taken-four : (xs ys : List Float) (j : ℕ) → j + 4 ≤ length input → Taken matrix input j xs → Filled nan (λ i. four_added (length xs) (j * length xs) j i (get_or xs i nan)) 0 (length xs) xs ys → Taken matrix input (j + 4) ys
   taken-four xs ys j l t filled = taken xs ys (j + 4) _ t.matrix_long t.sums_long l filled (λ i h. row-four i j _ _ t.sums_long l (t.along i h))
-
-  -- where no column is left, all are taken
-  pub taken-all : {j : ℕ} {ys : List Float} → length input ≤ j → Taken matrix input j ys → Taken matrix input (length input) ys
-  taken-all {j} {ys} l t = let e : j ≡ length input = omega (arith, t.within) in subst (λ (k : ℕ). Taken matrix input k ys) e t
 
   pub taken-end : (ys : List Float) → Taken matrix input (length input) ys → ys ≡ stored_rotated (length input) matrix input
   taken-end ys t =

@@ -6,18 +6,15 @@
 ghost use Rattle.std.specs.Prelude.{◌≡◌, true, ◌+◌, ◌*◌, ◌≤◌, ◌<◌, length};
 ghost use Rattle.std.specs.Float.{nan};
 ghost use Rattle.error.specs.Answer.{first, accepted, done, after};
-ghost use Rattle.error.specs.Outcomes.{says};
 ghost use Rattle.error.specs.Inner.{AtOnce};
+ghost use Rattle.error.specs.Outcomes.{says};
 ghost use Rattle.float.specs.Constants.{pos_zero};
 ghost use Rattle.rotation_stored.specs.Checks.{bad_stored, matrix_checks, stored_checks};
 ghost use Rattle.rotation_stored.specs.Stored.{stored_rotated, stored_unrotated, stored_apply_of, stored_apply_inverse_of};
 ghost use Rattle.lists.specs.Inner.{Filled};
 ghost use Rattle.rotation_stored.specs.Inner.{Shaped, Judged, Taken};
 
-use error::{
-    DIMENSION_MISMATCH, NON_FINITE_MATRIX, ODD_DIMENSION, OUTPUT_LENGTH, Outcome, STORED_DIMENSION,
-    ZERO_DIMENSION,
-};
+use error::Refusal;
 
 // Whether a dimension is above what a stored rotation takes.
 pub fn outside_stored(dim: usize) -> bool
@@ -27,23 +24,28 @@ pub fn outside_stored(dim: usize) -> bool
 }
 
 // The rotation of the input into the output: for each row of the matrix, the sum of its entries times the input's.
-pub fn apply(dim: usize, matrix: &[f32], input: &[f32], output: &mut [f32]) -> Outcome
+pub fn apply(dim: usize, matrix: &[f32], input: &[f32], output: &mut [f32]) -> Result<(), Refusal>
     ensures said { says result ≡ done (stored_apply_of dim matrix.now input.now (length output.old)) }
     ensures left { output.new ≡ after (stored_apply_of dim matrix.now input.now (length output.old)) output.old }
 {
     if apply_at_once(dim, matrix, input, output) {
-        return Outcome::Done;
+        return Ok(());
     }
     apply_checked(dim, matrix, input, output)
 }
 
 // The inverse rotation of the input into the output: for each column of the matrix, the sum of its entries times the input's.
-pub fn apply_inverse(dim: usize, matrix: &[f32], input: &[f32], output: &mut [f32]) -> Outcome
+pub fn apply_inverse(
+    dim: usize,
+    matrix: &[f32],
+    input: &[f32],
+    output: &mut [f32],
+) -> Result<(), Refusal>
     ensures said { says result ≡ done (stored_apply_inverse_of dim matrix.now input.now (length output.old)) }
     ensures left { output.new ≡ after (stored_apply_inverse_of dim matrix.now input.now (length output.old)) output.old }
 {
     if inverse_at_once(dim, matrix, input, output) {
-        return Outcome::Done;
+        return Ok(());
     }
     inverse_checked(dim, matrix, input, output)
 }
@@ -70,27 +72,31 @@ fn inverse_at_once(dim: usize, matrix: &[f32], input: &[f32], output: &mut [f32]
 }
 
 // The rotation, check by check.
-fn apply_checked(dim: usize, matrix: &[f32], input: &[f32], output: &mut [f32]) -> Outcome
+fn apply_checked(
+    dim: usize,
+    matrix: &[f32],
+    input: &[f32],
+    output: &mut [f32],
+) -> Result<(), Refusal>
     ensures said { says result ≡ done (stored_apply_of dim matrix.now input.now (length output.old)) }
     ensures left { output.new ≡ after (stored_apply_of dim matrix.now input.now (length output.old)) output.old }
 {
-    let checked = check(dim, matrix, input.len(), output.len());
-    if let Outcome::Refused { number, place } = checked {
-        return Outcome::Refused { number, place };
-    }
+    check(dim, matrix, input.len(), output.len())?;
     sum_rows(matrix, input, output);
-    Outcome::Done
+    Ok(())
 }
 
 // The inverse rotation, check by check.
-fn inverse_checked(dim: usize, matrix: &[f32], input: &[f32], output: &mut [f32]) -> Outcome
+fn inverse_checked(
+    dim: usize,
+    matrix: &[f32],
+    input: &[f32],
+    output: &mut [f32],
+) -> Result<(), Refusal>
     ensures said { says result ≡ done (stored_apply_inverse_of dim matrix.now input.now (length output.old)) }
     ensures left { output.new ≡ after (stored_apply_inverse_of dim matrix.now input.now (length output.old)) output.old }
 {
-    let checked = check(dim, matrix, input.len(), output.len());
-    if let Outcome::Refused { number, place } = checked {
-        return Outcome::Refused { number, place };
-    }
+    check(dim, matrix, input.len(), output.len())?;
     qjl_rows::project(dim, matrix, input, output)
 }
 
@@ -122,9 +128,10 @@ fn judge_rows(matrix: &[f32], input: &[f32], output: &mut [f32]) -> bool
     ensures { Judged (stored_rotated (length input.now) matrix.now input.now) output.old result output.new }
 {
     let rows = input.len();
-    let mut sums = zeros();
-    sum_rows(matrix, input, &mut sums[0..rows]);
-    hand_over(&sums[0..rows], output)
+    let mut sums = [0.0f32; 512];
+    let part = &mut sums[0..rows];
+    sum_rows(matrix, input, part);
+    hand_over(part, output)
 }
 
 // The sums along the columns in the same way.
@@ -132,9 +139,10 @@ fn judge_columns(dim: usize, matrix: &[f32], input: &[f32], output: &mut [f32]) 
     requires { Shaped dim (length matrix.now) (length input.now) (length output.old) }
     ensures { Judged (stored_unrotated dim matrix.now input.now) output.old result output.new }
 {
-    let mut sums = zeros();
-    qjl_rows::project(dim, matrix, input, &mut sums[0..dim]);
-    hand_over(&sums[0..dim], output)
+    let mut sums = [0.0f32; 512];
+    let part = &mut sums[0..dim];
+    let _ = qjl_rows::project(dim, matrix, input, part);
+    hand_over(part, output)
 }
 
 // Copies the values to the output if all of them are finite, and answers whether they are.
@@ -149,70 +157,40 @@ fn hand_over(values: &[f32], output: &mut [f32]) -> bool
     true
 }
 
-// Room for the sums, of which there are at most 512.
-fn zeros() -> [f32; 512] {
-    [0.0f32; 512]
-}
-
 // The checks of a stored rotation, either way.
-fn check(dim: usize, matrix: &[f32], input: usize, output: usize) -> Outcome
+fn check(dim: usize, matrix: &[f32], input: usize, output: usize) -> Result<(), Refusal>
     ensures { says result ≡ first (stored_checks dim matrix.now input output) accepted }
 {
-    let held = check_matrix(dim, matrix);
-    if let Outcome::Refused { number, place } = held {
-        return Outcome::Refused { number, place };
-    }
+    check_matrix(dim, matrix)?;
     if input != dim {
-        return Outcome::Refused {
-            number: DIMENSION_MISMATCH,
-            place: input,
-        };
+        return Err(Refusal::DimensionMismatch(input));
     }
     if output != dim {
-        return Outcome::Refused {
-            number: OUTPUT_LENGTH,
-            place: dim,
-        };
+        return Err(Refusal::OutputLength(dim));
     }
-    Outcome::Done
+    Ok(())
 }
 
 // The checks of a dimension and of its matrix.
-fn check_matrix(dim: usize, matrix: &[f32]) -> Outcome
+fn check_matrix(dim: usize, matrix: &[f32]) -> Result<(), Refusal>
     ensures { says result ≡ first (matrix_checks dim matrix.now) accepted }
 {
     if dim == 0 {
-        return Outcome::Refused {
-            number: ZERO_DIMENSION,
-            place: 0,
-        };
+        return Err(Refusal::ZeroDimension(0));
     }
     if dim % 2 == 1 {
-        return Outcome::Refused {
-            number: ODD_DIMENSION,
-            place: dim,
-        };
+        return Err(Refusal::OddDimension(dim));
     }
     if outside_stored(dim) {
-        return Outcome::Refused {
-            number: STORED_DIMENSION,
-            place: 0,
-        };
+        return Err(Refusal::StoredDimension(0));
     }
     if matrix.len() != dim * dim {
-        return Outcome::Refused {
-            number: DIMENSION_MISMATCH,
-            place: matrix.len(),
-        };
+        return Err(Refusal::DimensionMismatch(matrix.len()));
     }
-    let bad = error::first_non_finite(matrix);
-    if bad < matrix.len() {
-        return Outcome::Refused {
-            number: NON_FINITE_MATRIX,
-            place: bad,
-        };
+    if let Some(bad) = error::first_non_finite(matrix) {
+        return Err(Refusal::NonFiniteMatrix(bad));
     }
-    Outcome::Done
+    Ok(())
 }
 
 // The sums along the rows, into the output. They grow side by side, column by column, since the entries of a column lie beside one another;
@@ -222,24 +200,18 @@ fn sum_rows(matrix: &[f32], input: &[f32], output: &mut [f32])
     ensures { output.new ≡ stored_rotated (length input.now) matrix.now input.now }
 {
     clear(output);
-    let columns = input.len();
-    let mut column = 0;
-    while 4 <= columns - column {
-        add_four(matrix, input, column, output);
-        column += 4;
+    let fours = input.len() / 4;
+    for i in 0..fours {
+        add_four(matrix, input, 4 * i, output);
     }
-    add_rest(matrix, input, column, output);
+    add_rest(matrix, input, 4 * fours, output);
 }
 
 // Each value becomes +0.0.
 fn clear(values: &mut [f32])
     ensures { Filled nan (λ i. pos_zero) 0 (length values.old) values.old values.new }
 {
-    let mut i = 0;
-    while i < values.len() {
-        values[i] = 0.0;
-        i += 1;
-    }
+    values.fill(0.0);
 }
 
 // Each sum with its entries of the next four columns times the input's, one after the other.
@@ -256,13 +228,11 @@ fn add_four(matrix: &[f32], input: &[f32], column: usize, sums: &mut [f32])
     let b = input[column + 1];
     let c = input[column + 2];
     let d = input[column + 3];
-    let mut i = 0;
-    while i < rows {
+    for i in 0..rows {
         let one = sums[i] + matrix[from + i] * a;
         let two = one + matrix[second + i] * b;
         let three = two + matrix[third + i] * c;
         sums[i] = three + matrix[fourth + i] * d;
-        i += 1;
     }
 }
 
@@ -271,10 +241,8 @@ fn add_rest(matrix: &[f32], input: &[f32], start: usize, sums: &mut [f32])
     requires { Taken matrix.now input.now start sums.old }
     ensures { Taken matrix.now input.now (length input.now) sums.new }
 {
-    let mut column = start;
-    while column < input.len() {
+    for column in start..input.len() {
         add_column(matrix, input, column, sums);
-        column += 1;
     }
 }
 
@@ -286,9 +254,7 @@ fn add_column(matrix: &[f32], input: &[f32], column: usize, sums: &mut [f32])
     let rows = sums.len();
     let from = column * rows;
     let factor = input[column];
-    let mut i = 0;
-    while i < rows {
+    for i in 0..rows {
         sums[i] = sums[i] + matrix[from + i] * factor;
-        i += 1;
     }
 }

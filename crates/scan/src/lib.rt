@@ -13,7 +13,7 @@ ghost use Rattle.scan.specs.History.{kept_of, comparisons_of, Counts, Led};
 ghost use Rattle.scan.specs.Load.{Load};
 ghost use Rattle.scan.specs.AsOpened.{AsOpened};
 
-use error::{Outcome, SCAN_LENGTH, SCAN_NOT_SHORTER};
+use error::Refusal;
 
 // The most records that a scan takes: each has a number of 32 bits, and their count has to fit there too.
 pub const MOST_RECORDS: u32 = 4294967295;
@@ -41,16 +41,18 @@ pub struct Scan {
 }
 
 // The answer of a call that has no value but the scan: beside a refusal the scan as it was, and of opening one of length 1.
+// Kept: what stands beside a refusal is promised too, by the clauses `left` and `led` of the calls that answer it.
 #[derive(Clone, Copy)]
 pub struct ScanAnswer {
-    pub outcome: Outcome,
+    pub outcome: Result<(), Refusal>,
     pub scan: Scan,
 }
 
 // The answer of a call that has no value but the tally: beside a refusal the tally as it was.
+// Kept: as `ScanAnswer`.
 #[derive(Clone, Copy)]
 pub struct TallyAnswer {
-    pub outcome: Outcome,
+    pub outcome: Result<(), Refusal>,
     pub tally: Tally,
 }
 
@@ -65,16 +67,13 @@ pub fn open(length: usize) -> ScanAnswer
     if length == 0 || 64 < length {
         let scan = empty(1);
         return ScanAnswer {
-            outcome: Outcome::Refused {
-                number: SCAN_LENGTH,
-                place: 0,
-            },
+            outcome: Err(Refusal::ScanLength(0)),
             scan,
         };
     }
     let scan = empty(length);
     ScanAnswer {
-        outcome: Outcome::Done,
+        outcome: Ok(()),
         scan,
     }
 }
@@ -133,10 +132,7 @@ pub fn shorten_within(tally: Tally, length: usize) -> TallyAnswer
 {
     if length == 0 || tally.length < length {
         return TallyAnswer {
-            outcome: Outcome::Refused {
-                number: SCAN_NOT_SHORTER,
-                place: 0,
-            },
+            outcome: Err(Refusal::ScanNotShorter(0)),
             tally,
         };
     }
@@ -144,7 +140,7 @@ pub fn shorten_within(tally: Tally, length: usize) -> TallyAnswer
     next.length = length;
     next.kept = least(tally.kept, length);
     TallyAnswer {
-        outcome: Outcome::Done,
+        outcome: Ok(()),
         tally: next,
     }
 }
@@ -153,7 +149,7 @@ pub fn shorten_within(tally: Tally, length: usize) -> TallyAnswer
 pub fn least(a: usize, b: usize) -> usize
     ensures { result ≡ min a b }
 {
-    if a < b { a } else { b }
+    a.min(b)
 }
 
 // ---- counts

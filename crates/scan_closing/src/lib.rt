@@ -10,21 +10,19 @@ ghost use Rattle.scan.specs.History.{Led, kept_of};
 ghost use Rattle.scan_closing.specs.Closing.{hit_at_of, hits_in, close_of};
 ghost use Rattle.scan_closing.specs.Inner.{written_of};
 
-use error::{OUTPUT_LENGTH, Outcome};
+use error::Refusal;
 use ranking::Hit;
 use scan::Scan;
 
 // The hits of a scan into a list that is as long as they are many; where it isn't, 6 at that length, and nothing is written.
-pub fn close(scan: Scan, out: &mut [Hit]) -> Outcome
+pub fn close(scan: Scan, out: &mut [Hit]) -> Result<(), Refusal>
     ensures said { says result ≡ done (close_of scan (length out.old)) }
     ensures left { out.new ≡ after (close_of scan (length out.old)) out.old }
     ensures led { (opened : ℕ) (steps : List (Step Event)) → Led opened steps scan → hits_in scan ≡ kept_of opened steps }
 {
     let n = written(scan, out.len());
-    let mut i = 0;
-    while i < n {
+    for i in 0..n {
         out[i] = hit_at(scan, i);
-        i += 1;
     }
     answer(scan, out.len())
 }
@@ -51,14 +49,11 @@ fn hit_at(scan: Scan, i: usize) -> Hit
 }
 
 // What closing into so much room answers.
-fn answer(scan: Scan, room: usize) -> Outcome
+fn answer(scan: Scan, room: usize) -> Result<(), Refusal>
     ensures { says result ≡ done (close_of scan room) }
 {
     if room != scan.tally.kept {
-        return Outcome::Refused {
-            number: OUTPUT_LENGTH,
-            place: scan.tally.kept,
-        };
+        return Err(Refusal::OutputLength(scan.tally.kept));
     }
-    Outcome::Done
+    Ok(())
 }

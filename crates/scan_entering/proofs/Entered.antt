@@ -4,7 +4,9 @@ use Rattle.std.proofs.Common.{◌≡◌, ℕ, suc, ◌+◌, ◌-◌, ◌%◌, �
 use borrow.Author.Tests.{lt-leb}
 use lib.Ieee.{Float}
 use Rattle.error.specs.Answer.{Answer, value, refused, withdrawn}
+use Rattle.error.specs.Refusals.{number_of, place_of}
 use Rattle.error.specs.Outcomes.{says_score}
+use Rattle.error.specs.declared.Refusal.{Refusal}
 use Rattle.error.specs.declared.Scored.{Scored}
 use Rattle.error.specs.declared.Scored.TheVariants.{Score, Refused, Withdrawn}
 use Rattle.scan.specs.declared.Tally.{Tally}
@@ -74,8 +76,8 @@ module _ (t : Tally) (ns : List ℕ) (ss : List Float) where
     pub entered-scored : (x : Float) {r : Scan} → said ≡ Score x → r ≡ scored_in scan (place_up x ss (held_of scan)) x → r ≡ enter_of scan (says_score said)
     entered-scored x e f = f ∙ entered-some (value x) (ap says_score e)
 
-    pub entered-refused : (n p : ℕ) {r : ℕ} → said ≡ Refused n p → r ≡ (t.refused + 1) % 2 ^ 32 → scan_of (tally_of t.length t.kept (t.taken + 1) r t.withdrawn t.comparisons) ns ss ≡ enter_of scan (says_score said)
-    entered-refused n p {r} e f = counted-more r t.withdrawn t.comparisons ∙ ap (λ (m : ℕ). same_hits scan m t.withdrawn t.comparisons) f ∙ entered-some (refused n p) (ap says_score e)
+    pub entered-refused : (refusal : Refusal) {r : ℕ} → said ≡ Refused refusal → r ≡ (t.refused + 1) % 2 ^ 32 → scan_of (tally_of t.length t.kept (t.taken + 1) r t.withdrawn t.comparisons) ns ss ≡ enter_of scan (says_score said)
+    entered-refused refusal {r} e f = counted-more r t.withdrawn t.comparisons ∙ ap (λ (m : ℕ). same_hits scan m t.withdrawn t.comparisons) f ∙ entered-some (refused (number_of refusal) (place_of refusal)) (ap says_score e)
 
     pub entered-withdrawn : {r : ℕ} → said ≡ Withdrawn → r ≡ (t.withdrawn + 1) % 2 ^ 32 → scan_of (tally_of t.length t.kept (t.taken + 1) t.refused r t.comparisons) ns ss ≡ enter_of scan (says_score said)
     entered-withdrawn {r} e f = counted-more t.refused r t.comparisons ∙ ap (λ (m : ℕ). same_hits scan t.refused m t.comparisons) f ∙ entered-some withdrawn (ap says_score e)

@@ -27,7 +27,7 @@ pub fn enter(tally: Tally, numbers: &mut [u32], scores: &mut [f32], scored: Scor
     }
     match scored {
         Scored::Score(x) => enter_score(tally, numbers, scores, x),
-        Scored::Refused { number, place } => {
+        Scored::Refused(_) => {
             let mut next = tally;
             next.taken = tally.taken + 1;
             next.refused = std::num::wrapping_add_u32(tally.refused, 1);
@@ -71,14 +71,13 @@ fn find_place(scores: &[f32], held: usize, score: f32) -> Place
     ensures within { result.at ≤ held }
     ensures compared { result.compared ≡ compared_up score scores.now held }
 {
-    let mut i = held;
     let mut compared = 0u64;
-    while 0 < i {
+    for i in (0..held).rev() {
         compared += 1;
-        if !(scores[i - 1] < score) {
-            return Place { at: i, compared };
+        if !(scores[i] < score) {
+            let at = i + 1;
+            return Place { at, compared };
         }
-        i -= 1;
     }
     Place { at: 0, compared }
 }
@@ -88,11 +87,7 @@ fn put_number(xs: &mut [u32], at: usize, last: usize, x: u32)
     requires { (at ≤ last) × (last < length xs.old) }
     ensures { xs.new ≡ put_in at last x xs.old }
 {
-    let mut i = last;
-    while at < i {
-        xs[i] = xs[i - 1];
-        i -= 1;
-    }
+    xs.copy_within(at..last, at + 1);
     xs[at] = x;
 }
 
@@ -101,10 +96,6 @@ fn put_score(xs: &mut [f32], at: usize, last: usize, x: f32)
     requires { (at ≤ last) × (last < length xs.old) }
     ensures { xs.new ≡ put_in at last x xs.old }
 {
-    let mut i = last;
-    while at < i {
-        xs[i] = xs[i - 1];
-        i -= 1;
-    }
+    xs.copy_within(at..last, at + 1);
     xs[at] = x;
 }

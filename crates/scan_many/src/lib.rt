@@ -12,7 +12,7 @@ ghost use Rattle.scan.specs.Shortening.{Step, came};
 ghost use Rattle.scan_taking.specs.Taking.{Taking, LedBy, AsByQuery};
 ghost use Rattle.scan_many.specs.Many.{records_in, wrong_ends, many_checks, entered_each, take_many_of, takings_of};
 
-use error::{DIMENSION_MISMATCH, Outcome, SCAN_FULL};
+use error::Refusal;
 use scan::{MOST_RECORDS, Scan, ScanAnswer, Tally, TallyAnswer};
 use setup::Setup;
 
@@ -85,9 +85,9 @@ pub fn take_many_within(
         bytes.len(),
         ends,
     );
-    if let Outcome::Refused { number, place } = checked {
+    if let Err(refusal) = checked {
         return TallyAnswer {
-            outcome: Outcome::Refused { number, place },
+            outcome: Err(refusal),
             tally,
         };
     }
@@ -95,7 +95,7 @@ pub fn take_many_within(
         tally, numbers, scores, setup, directions, rotated, projected, bytes, ends,
     );
     TallyAnswer {
-        outcome: Outcome::Done,
+        outcome: Ok(()),
         tally: next,
     }
 }
@@ -111,40 +111,28 @@ fn check_many(
     projected: &[f32],
     long: usize,
     ends: &[usize],
-) -> Outcome
+) -> Result<(), Refusal>
     ensures { says result ≡ first (many_checks taken setup directions.now rotated.now projected.now long ends.now) accepted }
 {
     if ((MOST_RECORDS - taken) as usize) < ends.len() {
-        return Outcome::Refused {
-            number: SCAN_FULL,
-            place: 0,
-        };
+        return Err(Refusal::ScanFull(0));
     }
-    let checked = turbo_prepared::check_prepared(setup, directions, rotated, projected);
-    if let Outcome::Refused { number, place } = checked {
-        return Outcome::Refused { number, place };
-    }
+    turbo_prepared::check_prepared(setup, directions, rotated, projected)?;
     check_ends(long, ends)
 }
 
 // The first end that lies before the one in front of it or behind the bytes is 5.
-fn check_ends(long: usize, ends: &[usize]) -> Outcome
+fn check_ends(long: usize, ends: &[usize]) -> Result<(), Refusal>
     ensures { says result ≡ first (wrong_ends long 0 ends.now ∷ []) accepted }
 {
     let mut start = 0;
-    let mut i = 0;
-    while i < ends.len() {
-        let end = ends[i];
+    for &end in ends {
         if end < start || long < end {
-            return Outcome::Refused {
-                number: DIMENSION_MISMATCH,
-                place: end,
-            };
+            return Err(Refusal::DimensionMismatch(end));
         }
         start = end;
-        i += 1;
     }
-    Outcome::Done
+    Ok(())
 }
 
 // One record after the other enters the scan.
@@ -164,9 +152,7 @@ fn enter_many(
 {
     let mut next = tally;
     let mut start = 0;
-    let mut i = 0;
-    while i < ends.len() {
-        let end = ends[i];
+    for &end in ends {
         let scored = turbo_record::record_score(
             setup,
             directions,
@@ -176,7 +162,6 @@ fn enter_many(
         );
         next = scan_entering::enter(next, numbers, scores, scored);
         start = end;
-        i += 1;
     }
     next
 }

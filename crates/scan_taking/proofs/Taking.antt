@@ -6,12 +6,12 @@ use mathlib.Core.List.{List, [], ◌∷◌, map}
 use lib.Dec.{T}
 use lib.Ieee.{Float}
 use lib.Ieee.Scale.{finite}
+use Rattle.std.specs.Prelude.{Result, Err}
 use Rattle.error.specs.Answer.{value, refused, withdrawn, unless, after}
 use Rattle.error.specs.Outcomes.{says_score}
+use Rattle.error.specs.declared.Refusal.{Refusal}
 use Rattle.error.specs.declared.Scored.{Scored}
 use Rattle.turbo_phased.specs.Estimates.{says_phased}
-use Rattle.turbo_phased.specs.declared.Phased.{Phased}
-use Rattle.turbo_phased.specs.declared.Phased.TheVariants.{BeforeReading}
 use Rattle.scan.specs.declared.Scan.{Scan}
 use Rattle.scan.specs.Entering.{enter_of}
 use Rattle.scan.specs.Events.{Event, after_taking}
@@ -30,11 +30,11 @@ use Rattle.turbo.proofs.Phased.{phased-finite, prepared-phased-finite}
 -- ---- the scan
 
 -- an answer from record reading on enters, and one from before does not
-pub read-entered : (scan : Scan) (answer : Phased) (scored : Scored) {r : Scan} → says_phased answer ≡ value (says_score scored) → r ≡ enter_of scan (says_score scored) → r ≡ after_taking scan (says_phased answer)
+pub read-entered : (scan : Scan) (answer : Result Scored Refusal) (scored : Scored) {r : Scan} → says_phased answer ≡ value (says_score scored) → r ≡ enter_of scan (says_score scored) → r ≡ after_taking scan (says_phased answer)
 read-entered scan answer scored e f = f ∙ sym (ap (after_taking scan) e)
 
-pub unread-stays : (scan : Scan) (answer : Phased) (n p : ℕ) → answer ≡ BeforeReading n p → scan ≡ after_taking scan (says_phased answer)
-unread-stays scan answer n p e = sym (ap (λ (a : Phased). after_taking scan (says_phased a)) e)
+pub unread-stays : (scan : Scan) (answer : Result Scored Refusal) (r : Refusal) → answer ≡ Err r → scan ≡ after_taking scan (says_phased answer)
+unread-stays scan answer r e = sym (ap (λ (a : Result Scored Refusal). after_taking scan (says_phased a)) e)
 
 -- ---- the history
 

@@ -13,22 +13,21 @@ ghost use Rattle.scan.specs.Shortening.{Step, came};
 ghost use Rattle.scan_taking.specs.Taking.{Taking, by_query, by_prepared, event_of, LedBy, ByRecords, AsByQuery};
 ghost use Rattle.scan_taking.specs.Ranks.{Ranks};
 
-use error::{SCAN_FULL, Scored};
+use error::{Refusal, Scored};
 use scan::{MOST_RECORDS, Scan, Tally};
 use setup::Setup;
-use turbo_phased::Phased;
 
 // What taking a record answers, and the scan afterwards.
 #[derive(Clone, Copy)]
 pub struct TakenRecord {
-    pub answer: Phased,
+    pub answer: Result<Scored, Refusal>,
     pub scan: Scan,
 }
 
 // What taking a record answers, and the tally afterwards, of a scan whose lists are lent.
 #[derive(Clone, Copy)]
 pub struct TakenTally {
-    pub answer: Phased,
+    pub answer: Result<Scored, Refusal>,
     pub tally: Tally,
 }
 
@@ -155,14 +154,11 @@ fn ask(
     matrix: &[f32],
     query: &[f32],
     bytes: &[u8],
-) -> Phased
+) -> Result<Scored, Refusal>
     ensures { says_phased result ≡ take_of taken (event_of (by_query setup (lent rotation.now directions.now matrix.now) query.now bytes.now)) }
 {
     if taken == MOST_RECORDS {
-        return Phased::BeforeReading {
-            number: SCAN_FULL,
-            place: 0,
-        };
+        return Err(Refusal::ScanFull(0));
     }
     turbo_phased::inner_product_estimate_phased(setup, rotation, directions, matrix, query, bytes)
 }
@@ -175,14 +171,11 @@ fn ask_prepared(
     rotated: &[f32],
     projected: &[f32],
     bytes: &[u8],
-) -> Phased
+) -> Result<Scored, Refusal>
     ensures { says_phased result ≡ take_of taken (event_of (by_prepared setup directions.now rotated.now projected.now bytes.now)) }
 {
     if taken == MOST_RECORDS {
-        return Phased::BeforeReading {
-            number: SCAN_FULL,
-            place: 0,
-        };
+        return Err(Refusal::ScanFull(0));
     }
     turbo_prepared::inner_product_estimate_prepared_phased(
         setup, directions, rotated, projected, bytes,
@@ -190,21 +183,22 @@ fn ask_prepared(
 }
 
 // The scan behind an answer, in place: a refusal before the record was read leaves it as it is.
-fn enter_phased(answer: Phased, tally: Tally, numbers: &mut [u32], scores: &mut [f32]) -> Tally
+fn enter_phased(
+    answer: Result<Scored, Refusal>,
+    tally: Tally,
+    numbers: &mut [u32],
+    scores: &mut [f32],
+) -> Tally
     ensures { scan_of result numbers.new scores.new ≡ after_taking (scan_of tally numbers.old scores.old) (says_phased answer) }
 {
     match answer {
-        Phased::Score(x) => scan_entering::enter(tally, numbers, scores, Scored::Score(x)),
-        Phased::BeforeReading { number, place } => tally,
-        Phased::FromReading { number, place } => {
-            scan_entering::enter(tally, numbers, scores, Scored::Refused { number, place })
-        }
-        Phased::Withdrawn => scan_entering::enter(tally, numbers, scores, Scored::Withdrawn),
+        Ok(scored) => scan_entering::enter(tally, numbers, scores, scored),
+        Err(_) => tally,
     }
 }
 
 // The same of a scan by value.
-fn enter_by_value(scan: Scan, answer: Phased) -> TakenRecord
+fn enter_by_value(scan: Scan, answer: Result<Scored, Refusal>) -> TakenRecord
     ensures said { result.answer ≡ answer }
     ensures left { result.scan ≡ after_taking scan (says_phased answer) }
 {

@@ -9,10 +9,7 @@ ghost use Rattle.setup.specs.Setups.{polar_bits_of, counted, counted_projections
 ghost use Rattle.setup.specs.Checks.{bad_total_bits, bad_projections, wrong_rotation_dimension, scalar_checks};
 ghost use Rattle.setup.specs.Seeds.{hadamard_seed_of, matrix_seed_of};
 
-use error::{
-    INVALID_BIT_WIDTH, ODD_DIMENSION, Outcome, ROTATION_FAILED, STORED_DIMENSION, ZERO_DIMENSION,
-    ZERO_PROJECTION_COUNT,
-};
+use error::Refusal;
 
 // Whether a residual sketch stands beside the polar code.
 #[derive(Clone, Copy)]
@@ -88,34 +85,22 @@ pub fn outside_projections(mode: TurboMode, projections: usize) -> bool
 }
 
 // The checks of a setup's scalars.
-pub fn check_scalars(setup: Setup) -> Outcome
+pub fn check_scalars(setup: Setup) -> Result<(), Refusal>
     ensures { says result ≡ first (scalar_checks setup) accepted }
 {
     let dim = setup.dim;
     if dim == 0 {
-        return Outcome::Refused {
-            number: ZERO_DIMENSION,
-            place: 0,
-        };
+        return Err(Refusal::ZeroDimension(0));
     }
     if dim % 2 == 1 {
-        return Outcome::Refused {
-            number: ODD_DIMENSION,
-            place: dim,
-        };
+        return Err(Refusal::OddDimension(dim));
     }
     if outside_bits(setup) {
-        return Outcome::Refused {
-            number: INVALID_BIT_WIDTH,
-            place: setup.bits as usize,
-        };
+        return Err(Refusal::InvalidBitWidth(setup.bits as usize));
     }
     let mode = setup.mode;
     if outside_projections(mode, setup.projections) {
-        return Outcome::Refused {
-            number: ZERO_PROJECTION_COUNT,
-            place: setup.projections,
-        };
+        return Err(Refusal::ZeroProjectionCount(setup.projections));
     }
     let kind = setup.kind;
     check_rotation_dimension(kind, dim)
@@ -137,27 +122,21 @@ pub fn matrix_seed(seed: u64) -> u64
 }
 
 // The check of a dimension by the rotation that it is for.
-fn check_rotation_dimension(kind: RotationKind, dim: usize) -> Outcome
+fn check_rotation_dimension(kind: RotationKind, dim: usize) -> Result<(), Refusal>
     ensures { says result ≡ first (wrong_rotation_dimension kind dim ∷ []) accepted }
 {
     match kind {
         RotationKind::FastHadamard => {
             if rotation::outside_powers(dim) {
-                return Outcome::Refused {
-                    number: ROTATION_FAILED,
-                    place: dim,
-                };
+                return Err(Refusal::RotationFailed(dim));
             }
-            Outcome::Done
+            Ok(())
         }
         RotationKind::Stored => {
             if rotation_stored::outside_stored(dim) {
-                return Outcome::Refused {
-                    number: STORED_DIMENSION,
-                    place: 0,
-                };
+                return Err(Refusal::StoredDimension(0));
             }
-            Outcome::Done
+            Ok(())
         }
     }
 }

@@ -8,12 +8,15 @@ use native.Mathlib.Omega.{arith}
 use borrow.Author.Tests.{eqb-true, ltb-false, not-false}
 use lib.ListN.{length}
 use lib.Ieee.{Float}
-use Rattle.error.specs.Answer.{Answer, value, refused, Check, check, first, accepted, done}
+use Rattle.error.specs.Answer.{Answer, refused, Check, check, first, accepted, done, after}
 use Rattle.error.specs.Checks.{wrong_input, wrong_room}
+use Rattle.error.proofs.Answers.{after-value, both-value}
 use Rattle.error.proofs.Chains.{Passed, first-append, first_done}
+use Rattle.float.specs.Copying.{copy_into_of}
+use Rattle.float.proofs.Copying.{copy_into-same}
 use Rattle.rotation_stored.specs.Checks.{matrix_checks, stored_checks}
 use Rattle.rotation_stored.specs.Stored.{stored_unrotated, stored_apply_inverse_of}
-use Rattle.rotation_stored.proofs.Accepted.{stored-inverse-refused, stored-inverse-value}
+use Rattle.rotation_stored.proofs.Accepted.{storable, stored-inverse-refused, stored-inverse-value}
 
 -- where a check of the chain offends, what stands at its end doesn't count
 first_alike : {A : Type 0} (cs : List Check) (a b : Answer A) → (Passed cs → ⊥) → first cs a ≡ first cs b
@@ -51,11 +54,13 @@ module _ (n : ℕ) (matrix xs : List Float) (room : ℕ) (whole : length xs ≤ 
   within-refused e = stored-inverse-refused n matrix xs (length xs) (sym room-checks ∙ sym (done-checks room) ∙ sym e)
 
   module _ (e : accepted ≡ done (stored_apply_inverse_of n matrix xs room)) where
-    pub within-passed : first (stored_checks n matrix (length xs) room) accepted ≡ accepted
+    within-passed : first (stored_checks n matrix (length xs) room) accepted ≡ accepted
     within-passed = sym (done-checks room) ∙ sym e
 
-    pub within-summed : stored_apply_inverse_of n matrix xs room ≡ value (stored_unrotated n matrix xs)
-    within-summed = stored-inverse-value n matrix xs room within-passed
-
-    pub within-value : stored_apply_inverse_of n matrix xs (length xs) ≡ value (stored_unrotated n matrix xs)
-    within-value = stored-inverse-value n matrix xs (length xs) (sym room-checks ∙ within-passed)
+    -- what the part holds is copied back, which is as long as the values
+    pub within-copied : (old ys new : List Float) → length ys ≡ room → ys ≡ after (stored_apply_inverse_of n matrix xs room) old → new ≡ copy_into_of ys xs
+        → (accepted ≡ done (stored_apply_inverse_of n matrix xs (length xs))) × (new ≡ after (stored_apply_inverse_of n matrix xs (length xs)) xs)
+    within-copied old ys new long held copy =
+        let fit = storable n matrix (length xs) room within-passed in
+        both-value _ _ _ (stored-inverse-value n matrix xs (length xs) (sym room-checks ∙ within-passed))
+        (copy ∙ copy_into-same ys xs (long ∙ fit.output_long ∙ sym fit.input_long) ∙ held ∙ after-value _ _ (stored-inverse-value n matrix xs room within-passed))

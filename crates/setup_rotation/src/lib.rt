@@ -10,11 +10,16 @@ ghost use Rattle.rotation_stored.specs.Stored.{stored_apply_inverse_of};
 ghost use Rattle.setup_rotation.specs.Rotations.{rotate_of, rotate_back_of};
 ghost use Rattle.setup_rotation.specs.Inner.{Room};
 
-use error::Outcome;
+use error::Refusal;
 use setup::{RotationKind, Setup};
 
 // The rotation of the input into the output.
-pub fn rotate(setup: Setup, entries: &[f32], input: &[f32], output: &mut [f32]) -> Outcome
+pub fn rotate(
+    setup: Setup,
+    entries: &[f32],
+    input: &[f32],
+    output: &mut [f32],
+) -> Result<(), Refusal>
     ensures said { says result ≡ done (rotate_of setup entries.now input.now (length output.old)) }
     ensures left { output.new ≡ after (rotate_of setup entries.now input.now (length output.old)) output.old }
 {
@@ -26,7 +31,12 @@ pub fn rotate(setup: Setup, entries: &[f32], input: &[f32], output: &mut [f32]) 
 }
 
 // The inverse rotation of the input into the output.
-pub fn rotate_back(setup: Setup, entries: &[f32], input: &[f32], output: &mut [f32]) -> Outcome
+pub fn rotate_back(
+    setup: Setup,
+    entries: &[f32],
+    input: &[f32],
+    output: &mut [f32],
+) -> Result<(), Refusal>
     ensures said { says result ≡ done (rotate_back_of setup entries.now input.now (length output.old)) }
     ensures left { output.new ≡ after (rotate_back_of setup entries.now input.now (length output.old)) output.old }
 {
@@ -38,7 +48,7 @@ pub fn rotate_back(setup: Setup, entries: &[f32], input: &[f32], output: &mut [f
 }
 
 // The inverse rotation of the values, in place.
-pub fn rotate_back_within(setup: Setup, entries: &[f32], values: &mut [f32]) -> Outcome
+pub fn rotate_back_within(setup: Setup, entries: &[f32], values: &mut [f32]) -> Result<(), Refusal>
     ensures said { says result ≡ done (rotate_back_of setup entries.now values.old (length values.old)) }
     ensures left { values.new ≡ after (rotate_back_of setup entries.now values.old (length values.old)) values.old }
 {
@@ -50,18 +60,16 @@ pub fn rotate_back_within(setup: Setup, entries: &[f32], values: &mut [f32]) -> 
 }
 
 // The inverse of a stored rotation, in place: summed into room of its own, and copied back.
-fn stored_within(dim: usize, matrix: &[f32], values: &mut [f32]) -> Outcome
+fn stored_within(dim: usize, matrix: &[f32], values: &mut [f32]) -> Result<(), Refusal>
     ensures said { says result ≡ done (stored_apply_inverse_of dim matrix.now values.old (length values.old)) }
     ensures left { values.new ≡ after (stored_apply_inverse_of dim matrix.now values.old (length values.old)) values.old }
 {
     let room = room_for(values.len());
-    let mut sums = zeros();
-    let outcome = rotation_stored::apply_inverse(dim, matrix, values, &mut sums[0..room]);
-    if let Outcome::Refused { number, place } = outcome {
-        return Outcome::Refused { number, place };
-    }
-    float::copy_into(&sums[0..room], values);
-    Outcome::Done
+    let mut sums = [0.0f32; 512];
+    let part = &mut sums[0..room];
+    rotation_stored::apply_inverse(dim, matrix, values, part)?;
+    float::copy_into(part, values);
+    Ok(())
 }
 
 // The room that so many values are summed into. More than a stored rotation takes are refused before the room is looked at, so that they get none.
@@ -72,9 +80,4 @@ fn room_for(long: usize) -> usize
         return 0;
     }
     long
-}
-
-// Room for the values of a stored rotation, of which there are at most 512.
-fn zeros() -> [f32; 512] {
-    [0.0f32; 512]
 }

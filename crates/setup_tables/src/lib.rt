@@ -3,7 +3,7 @@
 #![tactic(auto)]
 
 ghost use Rattle.std.specs.Prelude.{◌≡◌, [], ◌∷◌, ◌*◌, ◌^◌, ◌≤◌, length};
-ghost use Rattle.error.specs.Answer.{first, accepted, clear};
+ghost use Rattle.error.specs.Answer.{first, accepted, clear, found};
 ghost use Rattle.error.specs.Checks.{first_non_finite_of};
 ghost use Rattle.error.specs.Outcomes.{says};
 ghost use Rattle.setup.specs.Lent.{lent};
@@ -11,46 +11,38 @@ ghost use Rattle.setup.specs.Setups.{rotation_needed};
 ghost use Rattle.setup.specs.Checks.{scalar_checks};
 ghost use Rattle.setup_tables.specs.Checks.{bad_direction, first_bad_direction_of, wrong_rotation_entry, table_length_checks, table_checks_but_entries, entry_checks, setup_checks, setup_checks_but_entries, direction_checks};
 
-use error::{DIMENSION_MISMATCH, INVALID_DIRECTION, MALFORMED_SIGN, NON_FINITE_MATRIX, Outcome};
+use error::Refusal;
 use setup::{RotationKind, Setup};
 
 // The checks of a table of directions under a setup's polar bits.
-pub fn check_directions(setup: Setup, directions: &[f32]) -> Outcome
+pub fn check_directions(setup: Setup, directions: &[f32]) -> Result<(), Refusal>
     ensures { says result ≡ first (direction_checks setup directions.now) accepted }
 {
     let bits = setup::polar_bits(setup);
     // No slice is as long as that.
     if 60 < bits {
-        return Outcome::Refused {
-            number: DIMENSION_MISMATCH,
-            place: directions.len(),
-        };
+        return Err(Refusal::DimensionMismatch(directions.len()));
     }
     if directions.len() != direction_entries(bits) {
-        return Outcome::Refused {
-            number: DIMENSION_MISMATCH,
-            place: directions.len(),
-        };
+        return Err(Refusal::DimensionMismatch(directions.len()));
     }
-    let bad = first_bad_direction(directions);
-    if bad < directions.len() {
-        return Outcome::Refused {
-            number: INVALID_DIRECTION,
-            place: bad,
-        };
+    if let Some(bad) = first_bad_direction(directions) {
+        return Err(Refusal::InvalidDirection(bad));
     }
-    Outcome::Done
+    Ok(())
 }
 
 // The checks of a whole setup.
-pub fn check_setup(setup: Setup, rotation: &[f32], directions: &[f32], matrix: &[f32]) -> Outcome
+pub fn check_setup(
+    setup: Setup,
+    rotation: &[f32],
+    directions: &[f32],
+    matrix: &[f32],
+) -> Result<(), Refusal>
     ensures { says result ≡ first (setup_checks setup (lent rotation.now directions.now matrix.now)) accepted }
 {
-    let checked = check_but_entries(setup, rotation, directions, matrix);
-    match checked {
-        Outcome::Refused { number, place } => Outcome::Refused { number, place },
-        Outcome::Done => check_entries(matrix, setup::counted_projections(setup), setup.dim),
-    }
+    check_but_entries(setup, rotation, directions, matrix)?;
+    check_entries(matrix, setup::counted_projections(setup), setup.dim)
 }
 
 // The checks of a whole setup but for the projection matrix's entries, which come last.
@@ -59,24 +51,21 @@ pub fn check_but_entries(
     rotation: &[f32],
     directions: &[f32],
     matrix: &[f32],
-) -> Outcome
+) -> Result<(), Refusal>
     ensures { says result ≡ first (setup_checks_but_entries setup (lent rotation.now directions.now matrix.now)) accepted }
 {
-    let scalars = setup::check_scalars(setup);
-    match scalars {
-        Outcome::Refused { number, place } => Outcome::Refused { number, place },
-        Outcome::Done => check_tables(setup, rotation, directions, matrix),
-    }
+    setup::check_scalars(setup)?;
+    check_tables(setup, rotation, directions, matrix)
 }
 
-// The index of the first direction entry that is not finite or lies outside -1..1, or their number where there is none.
-pub fn first_bad_direction(directions: &[f32]) -> usize
-    ensures { result ≡ first_bad_direction_of directions.now }
+// The index of the first direction entry that is not finite or lies outside -1..1, if there is one.
+pub fn first_bad_direction(directions: &[f32]) -> Option<usize>
+    ensures { result ≡ found (first_bad_direction_of directions.now) (length directions.now) }
 {
     if all_directions(directions) {
-        return directions.len();
+        return None;
     }
-    find_bad_direction(directions)
+    directions.iter().position(|entry| is_bad_direction(*entry))
 }
 
 // How many entries the table of directions has at so many polar bits.
@@ -88,53 +77,40 @@ fn direction_entries(bits: u8) -> usize
 }
 
 // The checks of the lent tables but for the projection matrix's entries, under scalars that pass.
-fn check_tables(setup: Setup, rotation: &[f32], directions: &[f32], matrix: &[f32]) -> Outcome
+fn check_tables(
+    setup: Setup,
+    rotation: &[f32],
+    directions: &[f32],
+    matrix: &[f32],
+) -> Result<(), Refusal>
     requires { first (scalar_checks setup) accepted ≡ accepted }
     ensures { says result ≡ first (table_checks_but_entries setup (lent rotation.now directions.now matrix.now)) accepted }
 {
-    let held = check_lengths(setup, rotation, directions, matrix);
-    if let Outcome::Refused { number, place } = held {
-        return Outcome::Refused { number, place };
+    check_lengths(setup, rotation, directions, matrix)?;
+    check_rotation(setup, rotation)?;
+    if let Some(direction) = first_bad_direction(directions) {
+        return Err(Refusal::InvalidDirection(direction));
     }
-    let turned = check_rotation(setup, rotation);
-    if let Outcome::Refused { number, place } = turned {
-        return Outcome::Refused { number, place };
-    }
-    let direction = first_bad_direction(directions);
-    if direction < directions.len() {
-        return Outcome::Refused {
-            number: INVALID_DIRECTION,
-            place: direction,
-        };
-    }
-    Outcome::Done
+    Ok(())
 }
 
 // The check of what is lent for the rotation: signs, or the entries of a matrix.
-fn check_rotation(setup: Setup, entries: &[f32]) -> Outcome
+fn check_rotation(setup: Setup, entries: &[f32]) -> Result<(), Refusal>
     ensures { says result ≡ first (wrong_rotation_entry setup.kind entries.now ∷ []) accepted }
 {
     let kind = setup.kind;
     match kind {
         RotationKind::FastHadamard => {
-            let sign = rotation::first_bad_sign(entries);
-            if sign < entries.len() {
-                return Outcome::Refused {
-                    number: MALFORMED_SIGN,
-                    place: sign,
-                };
+            if let Some(sign) = rotation::first_bad_sign(entries) {
+                return Err(Refusal::MalformedSign(sign));
             }
-            Outcome::Done
+            Ok(())
         }
         RotationKind::Stored => {
-            let entry = finite_sums::first_non_finite(entries);
-            if entry < entries.len() {
-                return Outcome::Refused {
-                    number: NON_FINITE_MATRIX,
-                    place: entry,
-                };
+            if let Some(entry) = finite_sums::first_non_finite(entries) {
+                return Err(Refusal::NonFiniteMatrix(entry));
             }
-            Outcome::Done
+            Ok(())
         }
     }
 }
@@ -153,45 +129,38 @@ fn rotation_entries(setup: Setup) -> usize
 }
 
 // The checks of the lengths of the lent tables, under scalars that pass.
-fn check_lengths(setup: Setup, rotation: &[f32], directions: &[f32], matrix: &[f32]) -> Outcome
+fn check_lengths(
+    setup: Setup,
+    rotation: &[f32],
+    directions: &[f32],
+    matrix: &[f32],
+) -> Result<(), Refusal>
     requires { first (scalar_checks setup) accepted ≡ accepted }
     ensures { says result ≡ first (table_length_checks setup (lent rotation.now directions.now matrix.now)) accepted }
 {
     let dim = setup.dim;
     let rows = setup::counted_projections(setup);
     if rotation.len() != rotation_entries(setup) {
-        return Outcome::Refused {
-            number: DIMENSION_MISMATCH,
-            place: rotation.len(),
-        };
+        return Err(Refusal::DimensionMismatch(rotation.len()));
     }
     if directions.len() != direction_entries(setup::polar_bits(setup)) {
-        return Outcome::Refused {
-            number: DIMENSION_MISMATCH,
-            place: directions.len(),
-        };
+        return Err(Refusal::DimensionMismatch(directions.len()));
     }
     if matrix.len() != rows * dim {
-        return Outcome::Refused {
-            number: DIMENSION_MISMATCH,
-            place: matrix.len(),
-        };
+        return Err(Refusal::DimensionMismatch(matrix.len()));
     }
-    Outcome::Done
+    Ok(())
 }
 
 // The check of the projection matrix's entries: one pass by sums, since there are many, and a search for the place only where some entry is not finite.
-fn check_entries(matrix: &[f32], rows: usize, columns: usize) -> Outcome
+fn check_entries(matrix: &[f32], rows: usize, columns: usize) -> Result<(), Refusal>
     requires { rows * columns ≡ length matrix.now }
     ensures { says result ≡ first (entry_checks matrix.now) accepted }
 {
     if finite_sums::all_finite(matrix) {
-        return Outcome::Done;
+        return Ok(());
     }
-    Outcome::Refused {
-        number: NON_FINITE_MATRIX,
-        place: first_non_finite_entry(matrix, rows, columns),
-    }
+    Err(Refusal::NonFiniteMatrix(first_non_finite_entry(matrix, rows, columns)))
 }
 
 // Whether a direction entry is not finite or lies outside -1..1.
@@ -211,28 +180,12 @@ fn all_directions(directions: &[f32]) -> bool
     ensures { result ≡ clear bad_direction directions.now }
 {
     let mut ok = true;
-    let mut i = 0;
-    while i < directions.len() {
-        if is_bad_direction(directions[i]) {
+    for entry in directions {
+        if is_bad_direction(*entry) {
             ok = false;
         }
-        i += 1;
     }
     ok
-}
-
-// The index of the first direction entry that offends, one by one, or their number where there is none.
-fn find_bad_direction(directions: &[f32]) -> usize
-    ensures { result ≡ first_bad_direction_of directions.now }
-{
-    let mut i = 0;
-    while i < directions.len() {
-        if is_bad_direction(directions[i]) {
-            return i;
-        }
-        i += 1;
-    }
-    i
 }
 
 // The index of the first matrix entry that is not finite, row by row, or their number where there is none.
@@ -241,18 +194,14 @@ fn first_non_finite_entry(matrix: &[f32], rows: usize, columns: usize) -> usize
     ensures { result ≡ first_non_finite_of matrix.now }
 {
     let mut found = matrix.len();
-    let mut row = 0;
-    'rows: while row < rows {
-        let mut column = 0;
-        while column < columns {
+    'rows: for row in 0..rows {
+        for column in 0..columns {
             let index = row * columns + column;
             if !float::is_finite(matrix[index]) {
                 found = index;
                 break 'rows;
             }
-            column += 1;
         }
-        row += 1;
     }
     found
 }

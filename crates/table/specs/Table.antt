@@ -1,6 +1,6 @@
 -- Document 01's worked cases, P1 to P13, stand here as one table: each row is a definition that contracts cite, at the row's input, and what the document says of
 -- it. Its one truth, `table-holds`, covers all rows. Bytes and patterns are hexadecimal, as there. Assumes nothing.
-use Rattle.std.specs.Prelude.{ℕ, ◌≤◌, ◌≡◌, true, false, List, [], ◌∷◌, pos, negsuc, Float}
+use Rattle.std.specs.Prelude.{ℕ, ◌≤◌, ◌≡◌, true, false, List, [], ◌∷◌, pos, negsuc, Float, None}
 use Rattle.std.specs.Float.{fin, binary32}
 use Rattle.std.specs.Float.Ieee.{of_bits, to_bits}
 use Rattle.error.specs.Answer.{value, refused}
@@ -13,7 +13,6 @@ use Rattle.radius.specs.declared.RadiusCodecProfileV1.TheVariants.{F32, BlockLin
 use Rattle.rotation.specs.Rotation.{apply_of}
 use Rattle.polar.specs.Angle.{dequantize_angle_of}
 use Rattle.setup.specs.declared.TurboMode.TheVariants.{PolarOnly, PolarWithQjl}
-use Rattle.packed.specs.declared.SourceNorm.TheVariants.{Absent}
 use Rattle.packed.specs.Reading.{radii_of, indices_of, signs_of, read_record_of}
 use Rattle.packed_writing.specs.Writing.{write_record_of}
 
@@ -52,13 +51,13 @@ pub record Table : Type 0 where
   -- '(0, 0.5, 1): 00 00 00 80 FF FF.'
   pub p11 : compress_bytes_of (float 0x0000_0000 ∷ float 0x3F00_0000 ∷ float 0x3F80_0000 ∷ []) BlockLinearU16 6 ≡ value (0x00 ∷ 0x00 ∷ 0x00 ∷ 0x80 ∷ 0xFF ∷ 0xFF ∷ [])
   -- 'n 2, 1 bit, radius 1.0, index 1: 00 02 00 00 00 01 00 00 80 3F 01.' It is written, and read again.
-  pub p12_written : write_record_of (record { profile = F32; mode = PolarOnly; dim = 2; bits = 1; projections = 0; norm = Absent }) (one false ∷ []) (1 ∷ []) [] 11 ≡ value without_signs
+  pub p12_written : write_record_of (record { profile = F32; mode = PolarOnly; dim = 2; bits = 1; projections = 0; norm = None }) (one false ∷ []) (1 ∷ []) [] 11 ≡ value without_signs
   pub p12_read : read_record_of without_signs ≡ value (record { mode = PolarOnly; profile = F32; dim = 2; bits = 1; projections = 0; range = record { min = pos_zero; max = pos_zero }; has_norm = false; norm = one false; radii_start = 6; indices_start = 10; signs_start = 11; end = 11 })
   pub p12_radii : radii_of without_signs ≡ one false ∷ []
   pub p12_indices : indices_of without_signs ≡ 1 ∷ []
   pub p12_signs : signs_of without_signs ≡ []
   -- 'With signs (+, −, +): 02 02 00 00 00 01 03 00 00 00 00 00 80 3F 01 05.' It is written, and read again.
-  pub p13_written : write_record_of (record { profile = F32; mode = PolarWithQjl; dim = 2; bits = 1; projections = 3; norm = Absent }) (one false ∷ []) (1 ∷ []) (pos 1 ∷ negsuc 0 ∷ pos 1 ∷ []) 16 ≡ value with_signs
+  pub p13_written : write_record_of (record { profile = F32; mode = PolarWithQjl; dim = 2; bits = 1; projections = 3; norm = None }) (one false ∷ []) (1 ∷ []) (pos 1 ∷ negsuc 0 ∷ pos 1 ∷ []) 16 ≡ value with_signs
   pub p13_read : read_record_of with_signs ≡ value (record { mode = PolarWithQjl; profile = F32; dim = 2; bits = 1; projections = 3; range = record { min = pos_zero; max = pos_zero }; has_norm = false; norm = one false; radii_start = 10; indices_start = 14; signs_start = 15; end = 16 })
   pub p13_radii : radii_of with_signs ≡ one false ∷ []
   pub p13_indices : indices_of with_signs ≡ 1 ∷ []

@@ -8,7 +8,6 @@ use native.Mathlib.Nat.{le_of_suc-le-suc, not-suc-le-zero}
 use native.Mathlib.Omega.{arith}
 use lib.Dec.{T, ltb}
 use lib.ListN.{length, get_or, length-map}
-use lib.IntN.{ℤ}
 use lib.Ieee.{Float, nan, binary32, add, mul, of_int}
 use lib.Ieee.Scale.{finite}
 use Rattle.float.specs.Constants.{pos_zero}

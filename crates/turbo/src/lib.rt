@@ -16,9 +16,8 @@ ghost use Rattle.turbo.specs.Inner.{Lengths};
 ghost use Rattle.turbo.specs.Order.{Demand};
 ghost use Rattle.turbo.specs.Prepared.{Prepared};
 
-use error::{Outcome, Scored};
+use error::{Refusal, Scored};
 use setup::Setup;
-use turbo_phased::Phased;
 
 // The estimated inner product of a query and the vector that a record stands for; of a withdrawn position that it is withdrawn, behind the query's
 // checks.
@@ -56,9 +55,8 @@ pub fn inner_product_estimate_prepared(
             return Scored::Score(score);
         }
     }
-    let checked = turbo_prepared::check_prepared(setup, directions, rotated, projected);
-    if let Outcome::Refused { number, place } = checked {
-        return Scored::Refused { number, place };
+    if let Err(refusal) = turbo_prepared::check_prepared(setup, directions, rotated, projected) {
+        return Scored::Refused(refusal);
     }
     turbo_record::record_score(setup, directions, rotated, projected, bytes)
 }
@@ -76,7 +74,7 @@ pub fn l2_distance_estimate(
 {
     match inner_product_estimate(setup, rotation, directions, matrix, query, bytes) {
         Scored::Score(score) => distance_by(query, bytes, setup.dim / 2, score),
-        Scored::Refused { number, place } => Scored::Refused { number, place },
+        Scored::Refused(refusal) => Scored::Refused(refusal),
         Scored::Withdrawn => Scored::Withdrawn,
     }
 }
@@ -86,17 +84,17 @@ fn distance_by(query: &[f32], bytes: &[u8], pairs: usize, score: f32) -> Scored
     requires { (read_record_of bytes.now ≡ value (header_of bytes.now)) × (pairs ≡ pairs_of bytes.now) }
     ensures { says_score result ≡ distance_from_score_of query.now (radii_of bytes.now) score }
 {
-    let mut radii = no_radii();
-    packed_values::read_radii(bytes, &mut radii[0..pairs]);
-    turbo_distance::distance_from_score(query, &radii[0..pairs], score)
+    let mut radii = [0.0f32; 2048];
+    let part = &mut radii[0..pairs];
+    let _ = packed_values::read_radii(bytes, part);
+    turbo_distance::distance_from_score(query, part, score)
 }
 
 // Whether the checks of a prepared query pass but for those of the scalars and of its values.
 fn is_fitting(setup: Setup, directions: &[f32], rotated: usize, projected: usize) -> bool
     ensures { result ≡ true → Lengths setup directions.now rotated projected }
 {
-    let table = setup_tables::check_directions(setup, directions);
-    if let Outcome::Refused { number, place } = table {
+    if setup_tables::check_directions(setup, directions).is_err() {
         return false;
     }
     if rotated != setup.dim {
@@ -105,19 +103,12 @@ fn is_fitting(setup: Setup, directions: &[f32], rotated: usize, projected: usize
     projected == setup::counted_projections(setup)
 }
 
-// Room for the radii of a record, of which there are at most 2,048.
-fn no_radii() -> [f32; 2048] {
-    [0.0f32; 2048]
-}
-
 // A score without the phase of a refusal.
-fn without_phase(phased: Phased) -> Scored
+fn without_phase(phased: Result<Scored, Refusal>) -> Scored
     ensures { says_score result ≡ joined (says_phased phased) }
 {
     match phased {
-        Phased::Score(score) => Scored::Score(score),
-        Phased::BeforeReading { number, place } => Scored::Refused { number, place },
-        Phased::FromReading { number, place } => Scored::Refused { number, place },
-        Phased::Withdrawn => Scored::Withdrawn,
+        Ok(scored) => scored,
+        Err(refusal) => Scored::Refused(refusal),
     }
 }

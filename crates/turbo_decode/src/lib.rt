@@ -5,7 +5,7 @@
 
 ghost use Rattle.std.specs.Prelude.{◌≡◌, length};
 ghost use Rattle.error.specs.Answer.{done, after};
-ghost use Rattle.error.specs.Outcomes.{says_filled};
+ghost use Rattle.error.specs.Outcomes.{says_unless_withdrawn};
 ghost use Rattle.setup.specs.Lent.{lent};
 ghost use Rattle.setup_rotation.specs.Rotations.{unrotated_by};
 ghost use Rattle.polar.specs.Polar.{decoded_pairs};
@@ -13,8 +13,8 @@ ghost use Rattle.packed.specs.Reading.{radii_of, indices_of};
 ghost use Rattle.turbo_decode.specs.Decode.{decode_approximate_of};
 ghost use Rattle.turbo_decode.specs.Inner.{Paired, Decodable};
 
-use error::{Filled, OUTPUT_LENGTH, Outcome};
-use packed::{Header, Reading};
+use error::Refusal;
+use packed::Header;
 use setup::Setup;
 
 // Decodes a record into the output. Infinities in the output pass. For a withdrawn position nothing is written.
@@ -25,29 +25,20 @@ pub fn decode_approximate(
     matrix: &[f32],
     bytes: &[u8],
     out: &mut [f32],
-) -> Filled
-    ensures said { says_filled result ≡ done (decode_approximate_of setup (lent rotation.now directions.now matrix.now) bytes.now (length out.old)) }
+) -> Result<Option<()>, Refusal>
+    ensures said { says_unless_withdrawn result ≡ done (decode_approximate_of setup (lent rotation.now directions.now matrix.now) bytes.now (length out.old)) }
     ensures left { out.new ≡ after (decode_approximate_of setup (lent rotation.now directions.now matrix.now) bytes.now (length out.old)) out.old }
 {
-    let checked = setup_tables::check_setup(setup, rotation, directions, matrix);
-    if let Outcome::Refused { number, place } = checked {
-        return Filled::Refused { number, place };
+    setup_tables::check_setup(setup, rotation, directions, matrix)?;
+    let Some(header) = turbo_opening::open_record(setup, bytes)? else {
+        return Ok(None);
+    };
+    let dim = setup.dim;
+    if out.len() != dim {
+        return Err(Refusal::OutputLength(dim));
     }
-    match turbo_opening::open_record(setup, bytes) {
-        Reading::Read(header) => {
-            let dim = setup.dim;
-            if out.len() != dim {
-                return Filled::Refused {
-                    number: OUTPUT_LENGTH,
-                    place: dim,
-                };
-            }
-            decode(setup, rotation, directions, bytes, header, out);
-            Filled::Done
-        }
-        Reading::Refused { number, place } => Filled::Refused { number, place },
-        Reading::Withdrawn => Filled::Withdrawn,
-    }
+    decode(setup, rotation, directions, bytes, header, out);
+    Ok(Some(()))
 }
 
 // The pairs of an opened record, by the header that was read from it, written to an output of its dimension and rotated back there.
@@ -63,7 +54,7 @@ fn decode(
     ensures { out.new ≡ unrotated_by setup rotation.now (decoded_pairs directions.now (indices_of bytes.now) (radii_of bytes.now)) }
 {
     read_pairs(directions, bytes, header, out);
-    setup_rotation::rotate_back_within(setup, rotation, out);
+    let _ = setup_rotation::rotate_back_within(setup, rotation, out);
 }
 
 // The pairs of an opened record, by the header that was read from it, into values of its dimension.

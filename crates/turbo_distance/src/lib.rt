@@ -7,7 +7,7 @@ ghost use Rattle.std.specs.Prelude.{◌≡◌};
 ghost use Rattle.error.specs.Outcomes.{says_score};
 ghost use Rattle.turbo_distance.specs.Distance.{squared_norm, cut_at_zero, distance_from_score_of};
 
-use error::{NON_FINITE_SCORE, Scored};
+use error::{Refusal, Scored};
 
 // The squared distance by a score: both squared norms, less twice the score. That sum is judged before it is cut at zero: a NaN is refused.
 pub fn distance_from_score(query: &[f32], radii: &[f32], score: f32) -> Scored
@@ -15,11 +15,8 @@ pub fn distance_from_score(query: &[f32], radii: &[f32], score: f32) -> Scored
 {
     let norms = squared_norm(query) + squared_norm(radii);
     let sum = norms - 2.0 * score;
-    if float::is_nan(sum) {
-        return Scored::Refused {
-            number: NON_FINITE_SCORE,
-            place: 0,
-        };
+    if sum.is_nan() {
+        return Scored::Refused(Refusal::NonFiniteScore(0));
     }
     error::finite_score(cut_at_zero(sum))
 }
@@ -29,10 +26,8 @@ fn squared_norm(values: &[f32]) -> f32
     ensures { result ≡ squared_norm values.now }
 {
     let mut sum = 0.0f32;
-    let mut i = 0;
-    while i < values.len() {
-        sum = sum + values[i] * values[i];
-        i += 1;
+    for &x in values {
+        sum = sum + x * x;
     }
     sum
 }

@@ -4,51 +4,39 @@
 #![tactic(auto)]
 
 ghost use Rattle.std.specs.Prelude.{◌≡◌};
-ghost use Rattle.packed.specs.Reading.{says_reading};
+ghost use Rattle.error.specs.Outcomes.{says_unless_withdrawn};
 ghost use Rattle.turbo_opening.specs.Opening.{bad_match, open_record_of};
 ghost use Rattle.turbo_opening.specs.Inner.{opened_of};
 
-use error::{DIMENSION_MISMATCH, Outcome, PROFILE_MISMATCH};
-use packed::Reading;
+use error::Refusal;
+use packed::Header;
 use setup::Setup;
 
 // Reads a record and holds it against a setup: its header, where nothing offends. A withdrawn position is told behind the setup's scalars.
-pub fn open_record(setup: Setup, bytes: &[u8]) -> Reading
-    ensures { says_reading result ≡ open_record_of setup bytes.now }
+pub fn open_record(setup: Setup, bytes: &[u8]) -> Result<Option<Header>, Refusal>
+    ensures { says_unless_withdrawn result ≡ open_record_of setup bytes.now }
 {
-    let checked = setup::check_scalars(setup);
-    if let Outcome::Refused { number, place } = checked {
-        return Reading::Refused { number, place };
-    }
+    setup::check_scalars(setup)?;
     hold_against(setup, bytes)
 }
 
 // Reads a record and holds it against a setup whose scalars have passed: its header, where nothing offends, or that the position is withdrawn.
-fn hold_against(setup: Setup, bytes: &[u8]) -> Reading
-    ensures { says_reading result ≡ opened_of setup bytes.now }
+fn hold_against(setup: Setup, bytes: &[u8]) -> Result<Option<Header>, Refusal>
+    ensures { says_unless_withdrawn result ≡ opened_of setup bytes.now }
 {
-    match packed_reading::read_record(bytes) {
-        Reading::Read(header) => {
-            let other = other_match(setup, header.bits, header.projections);
-            let dim = header.dim;
-            let needed = setup.dim;
-            if dim != needed {
-                return Reading::Refused {
-                    number: DIMENSION_MISMATCH,
-                    place: dim,
-                };
-            }
-            if other {
-                return Reading::Refused {
-                    number: PROFILE_MISMATCH,
-                    place: 0,
-                };
-            }
-            Reading::Read(header)
-        }
-        Reading::Refused { number, place } => Reading::Refused { number, place },
-        Reading::Withdrawn => Reading::Withdrawn,
+    let Some(header) = packed_reading::read_record(bytes)? else {
+        return Ok(None);
+    };
+    let other = other_match(setup, header.bits, header.projections);
+    let dim = header.dim;
+    let needed = setup.dim;
+    if dim != needed {
+        return Err(Refusal::DimensionMismatch(dim));
     }
+    if other {
+        return Err(Refusal::ProfileMismatch(0));
+    }
+    Ok(Some(header))
 }
 
 // Whether a record's bits or projections are not the setup's.

@@ -1,9 +1,13 @@
 -- This is the score of a record under a setup and a query, and by a prepared query. Document 01: 'Scoring follows `TurboQuantizer::inner_product_estimate`: setup,
 -- query length 5, query 11, rotated 11, projected 11, record reading, 5, 20, then 12.' Document 02: 'scoring answers withdrawn in place of a score, after the query's
 -- checks.' Assumes nothing.
-use Rattle.std.specs.Prelude.{ℕ, List, [], ◌∷◌, ◌++◌, length, Float}
+use Rattle.std.specs.Prelude.{ℕ, List, [], ◌∷◌, ◌++◌, length, Float, Result, Ok, Err}
 use Rattle.error.specs.Answer.{Answer, value, refused, withdrawn, Check, first, each}
 use Rattle.error.specs.Checks.{wrong_input, bad_value}
+use Rattle.error.specs.Refusals.{number_of, place_of}
+use Rattle.error.specs.Outcomes.{says_score}
+use Rattle.error.specs.declared.Refusal.{Refusal}
+use Rattle.error.specs.declared.Scored.{Scored}
 use Rattle.setup.specs.Lent.{Lent}
 use Rattle.setup.specs.declared.Setup.{Setup}
 use Rattle.setup.specs.Setups.{counted_projections_of}
@@ -12,8 +16,6 @@ use Rattle.setup_tables.specs.Checks.{direction_checks}
 use Rattle.turbo_order.specs.Scores.{score_of}
 use Rattle.turbo_query.specs.Query.{query_checks}
 use Rattle.turbo_opening.specs.Opening.{content_of}
-use Rattle.turbo_phased.specs.declared.Phased.{Phased}
-use Rattle.turbo_phased.specs.declared.Phased.TheVariants.{Score, BeforeReading, FromReading, Withdrawn}
 use Rattle.turbo_record.specs.Scoring.{record_score, since_reading}
 
 -- ---- by a query
@@ -32,11 +34,9 @@ inner_product_estimate_of s l query bytes = where_scored s l query bytes (value 
 -- ---- with the phase of a refusal
 
 -- The outer answer refuses before the record is read; the inner one is the answer from its reading on, which may be withdrawn.
-abbrev pub says_phased : Phased → Answer (Answer Float)
-says_phased (Score x) = value (value x)
-says_phased (BeforeReading n p) = refused n p
-says_phased (FromReading n p) = value (refused n p)
-says_phased Withdrawn = value withdrawn
+abbrev pub says_phased : Result Scored Refusal → Answer (Answer Float)
+says_phased (Ok scored) = value (says_score scored)
+says_phased (Err r) = refused (number_of r) (place_of r)
 
 unfoldable pub inner_product_estimate_phased_of : Setup → Lent → List Float → List ℕ → Answer (Answer Float)
 inner_product_estimate_phased_of s l query bytes = first (query_checks s l query) (value (since_reading s bytes (estimate s l query bytes) (value (estimate s l query bytes))))

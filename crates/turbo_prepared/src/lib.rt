@@ -9,9 +9,8 @@ ghost use Rattle.error.specs.Outcomes.{says};
 ghost use Rattle.turbo_phased.specs.Estimates.{says_phased, prepared_checks, lengths_and_values};
 ghost use Rattle.turbo_prepared.specs.Phases.{inner_product_estimate_prepared_phased_of};
 
-use error::{DIMENSION_MISMATCH, Outcome};
+use error::{Refusal, Scored};
 use setup::Setup;
-use turbo_phased::Phased;
 
 // The checks of a prepared query: the scalars of the setup and its directions, both lengths, and that every value is finite.
 pub fn check_prepared(
@@ -19,17 +18,11 @@ pub fn check_prepared(
     directions: &[f32],
     rotated: &[f32],
     projected: &[f32],
-) -> Outcome
+) -> Result<(), Refusal>
     ensures { says result ≡ first (prepared_checks setup directions.now rotated.now projected.now) accepted }
 {
-    let scalars = setup::check_scalars(setup);
-    if let Outcome::Refused { number, place } = scalars {
-        return Outcome::Refused { number, place };
-    }
-    let table = setup_tables::check_directions(setup, directions);
-    if let Outcome::Refused { number, place } = table {
-        return Outcome::Refused { number, place };
-    }
+    setup::check_scalars(setup)?;
+    setup_tables::check_directions(setup, directions)?;
     check_lengths_and_values(setup, rotated, projected)
 }
 
@@ -40,35 +33,26 @@ pub fn inner_product_estimate_prepared_phased(
     rotated: &[f32],
     projected: &[f32],
     bytes: &[u8],
-) -> Phased
+) -> Result<Scored, Refusal>
     ensures { says_phased result ≡ inner_product_estimate_prepared_phased_of setup directions.now rotated.now projected.now bytes.now }
 {
-    let checked = check_prepared(setup, directions, rotated, projected);
-    if let Outcome::Refused { number, place } = checked {
-        return Phased::BeforeReading { number, place };
-    }
+    check_prepared(setup, directions, rotated, projected)?;
     turbo_phased::from_reading(turbo_record::record_score(
         setup, directions, rotated, projected, bytes,
     ))
 }
 
 // The lengths of a prepared query, then its values.
-fn check_lengths_and_values(setup: Setup, rotated: &[f32], projected: &[f32]) -> Outcome
+fn check_lengths_and_values(setup: Setup, rotated: &[f32], projected: &[f32]) -> Result<(), Refusal>
     ensures { says result ≡ first (lengths_and_values setup rotated.now projected.now) accepted }
 {
     let dim = setup.dim;
     if rotated.len() != dim {
-        return Outcome::Refused {
-            number: DIMENSION_MISMATCH,
-            place: rotated.len(),
-        };
+        return Err(Refusal::DimensionMismatch(rotated.len()));
     }
     let rows = setup::counted_projections(setup);
     if projected.len() != rows {
-        return Outcome::Refused {
-            number: DIMENSION_MISMATCH,
-            place: projected.len(),
-        };
+        return Err(Refusal::DimensionMismatch(projected.len()));
     }
     turbo_query::check_values(rotated, projected)
 }

@@ -1,4 +1,4 @@
--- Private functions of this crate, and of `turbo_phased`, ask some of these of their callers and ensure the others: a query is rotated and projected in room of its own, judged, and
+-- Private functions of this crate ensure some of these, and their proofs and those of `turbo_phased` use the others: a query is rotated and projected in room of its own, judged, and
 -- handed to two outputs. No public promise is stated by these. Assumes nothing.
 use Rattle.std.specs.Prelude.{ℕ, ◌≡◌, List, [], ◌∷◌, length, Float}
 use Rattle.error.specs.Answer.{Answer, value, Check, first, accepted, after}

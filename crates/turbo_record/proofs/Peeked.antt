@@ -7,14 +7,13 @@ use lib.IntN.{ℤ}
 use lib.ListN.{length}
 use lib.Ieee.{Float, binary32, mul}
 use lib.Ieee.Scale.{finite}
+use Rattle.std.specs.Prelude.{None, Option, Some}
 use Rattle.error.specs.Answer.{value, clear}
 use Rattle.bitpack.specs.Packing.{indices_in}
 use Rattle.bitpack.specs.Signs.{signs_in}
 use Rattle.radius.specs.Codec.{radii_for}
 use Rattle.radius.specs.Radii.{bad_radius}
 use Rattle.polar.specs.Polar.{polar_sum_of}
-use Rattle.polar_blocks.specs.declared.PayloadSum.{PayloadSum}
-use Rattle.polar_blocks.specs.declared.PayloadSum.TheVariants.{Sum, Otherwise}
 use Rattle.polar_blocks.specs.Payload.{payload_sum_of}
 use Rattle.polar_blocks.proofs.Told.{sum_told}
 use Rattle.qjl_residual.specs.Residual.{scale_of, sign_sum_of, residual_of}
@@ -53,16 +52,16 @@ module _ (bytes : List ℕ) {header : Header} (own : header ≡ header_of bytes)
   header-indices payload e = ap (λ (h : Header). indices_in h.bits (h.dim / 2) payload) own ∙ ap (indices_in (bits_of bytes) (pairs_of bytes)) e
 
   pub payload-summed : (directions rotated : List Float) (radii indices : List ℕ) → radii ≡ radii_bytes bytes → indices ≡ indices_bytes bytes
-      → (r : PayloadSum) → r ≡ payload_sum_of directions rotated header.profile header.range radii indices header.bits (header.dim / 2)
+      → (r : Option Float) → r ≡ payload_sum_of directions rotated header.profile header.range radii indices header.bits (header.dim / 2)
       → Summed r bytes (polar_sum_of rotated directions (indices_of bytes) (radii_of bytes))
-  payload-summed directions rotated radii indices f g (Sum x) e =
+  payload-summed directions rotated radii indices f g (Some x) e =
       let told = sum_told directions rotated header.profile header.range radii indices header.bits (header.dim / 2) e in (
         told.0
             ∙ ap (λ (is : List ℕ). polar_sum_of rotated directions is (radii_for header.profile (header.dim / 2) header.range radii)) (header-indices indices g)
             ∙ ap (polar_sum_of rotated directions (indices_of bytes)) (header-radii radii f),
         sym (ap (clear bad_radius) (header-radii radii f)) ∙ told.1,
       )
-  payload-summed directions rotated radii indices f g Otherwise e = tt
+  payload-summed directions rotated radii indices f g None e = tt
 
   -- ---- its residual, from the bytes of its signs
 
@@ -79,11 +78,11 @@ module _ (bytes : List ℕ) {header : Header} (own : header ≡ header_of bytes)
 -- ---- its score
 
 module _ (s : Setup) (directions rotated projected : List Float) (bytes : List ℕ) {header : Header} (p : Peeked s bytes header) where
-  either : (x : Float) (t : Bool) → finite x ≡ t → Summed (Sum x) bytes (record_score s directions rotated projected bytes) → Answered (cond t (Sum x) Otherwise) (record_score_of s directions rotated projected bytes)
+  either : (x : Float) (t : Bool) → finite x ≡ t → Summed (Some x) bytes (record_score s directions rotated projected bytes) → Answered (cond t (Some x) None) (record_score_of s directions rotated projected bytes)
   either x true f summed = record-finite s directions rotated projected bytes (peeked_opened s bytes p summed.1) x summed.0 f
   either x false f summed = tt
 
   -- a sum that is finite is the answer
-  pub summed-answered : (r : PayloadSum) → Summed r bytes (record_score s directions rotated projected bytes) → Answered (finite_sum_of r) (record_score_of s directions rotated projected bytes)
-  summed-answered (Sum x) summed = either x (finite x) refl summed
-  summed-answered Otherwise summed = tt
+  pub summed-answered : (r : Option Float) → Summed r bytes (record_score s directions rotated projected bytes) → Answered (finite_sum_of r) (record_score_of s directions rotated projected bytes)
+  summed-answered (Some x) summed = either x (finite x) refl summed
+  summed-answered None summed = tt

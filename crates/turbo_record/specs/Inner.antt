@@ -1,10 +1,8 @@
 -- Private functions of this crate ask some of these of their callers and tell them the others. No public promise is stated by these. Assumes nothing.
-use Rattle.std.specs.Prelude.{ℕ, ◌≡◌, cond, true, false, List, Float}
+use Rattle.std.specs.Prelude.{ℕ, ◌≡◌, cond, true, false, List, Float, None, Option, Some}
 use Rattle.std.specs.Float.Ieee.Scale.{finite}
 use Rattle.error.specs.Answer.{Answer, value, clear}
 use Rattle.radius.specs.Radii.{bad_radius}
-use Rattle.polar_blocks.specs.declared.PayloadSum.{PayloadSum}
-use Rattle.polar_blocks.specs.declared.PayloadSum.TheVariants.{Sum, Otherwise}
 use Rattle.setup.specs.declared.Setup.{Setup}
 use Rattle.packed.specs.declared.Header.{Header}
 use Rattle.packed.specs.Reading.{radii_of}
@@ -18,16 +16,16 @@ pub record Peeked (s : Setup) (bytes : List ℕ) (header : Header) : Type 0 wher
   pub alike : bad_match s header.bits header.projections ≡ false
 
 -- A sum over the payloads of a record is the one that is due, and no radius offends; else nothing is said.
-abbrev pub Summed : PayloadSum → List ℕ → Float → Type 0
-Summed (Sum x) bytes due = (x ≡ due) × (clear bad_radius (radii_of bytes) ≡ true)
-Summed Otherwise bytes due = Unit {0}
+abbrev pub Summed : Option Float → List ℕ → Float → Type 0
+Summed (Some x) bytes due = (x ≡ due) × (clear bad_radius (radii_of bytes) ≡ true)
+Summed None bytes due = Unit {0}
 
 -- A sum is the answer's value; else nothing is said.
-abbrev pub Answered : PayloadSum → Answer Float → Type 0
-Answered (Sum x) a = a ≡ value x
-Answered Otherwise a = Unit {0}
+abbrev pub Answered : Option Float → Answer Float → Type 0
+Answered (Some x) a = a ≡ value x
+Answered None a = Unit {0}
 
 -- This is a sum where it is finite.
-abbrev pub finite_sum_of : PayloadSum → PayloadSum
-finite_sum_of (Sum x) = cond (finite x) (Sum x) Otherwise
-finite_sum_of Otherwise = Otherwise
+abbrev pub finite_sum_of : Option Float → Option Float
+finite_sum_of (Some x) = cond (finite x) (Some x) None
+finite_sum_of None = None

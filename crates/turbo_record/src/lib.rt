@@ -16,9 +16,8 @@ ghost use Rattle.turbo_opening.specs.Inner.{opened_of};
 ghost use Rattle.turbo_record.specs.Scoring.{record_score, record_score_of};
 ghost use Rattle.turbo_record.specs.Inner.{Peeked, Summed, Answered, finite_sum_of};
 
-use error::{NON_FINITE_SCORE, Outcome, Scored};
-use packed::{Header, Reading};
-use polar_blocks::PayloadSum;
+use error::{Refusal, Scored};
+use packed::Header;
 use setup::{Setup, TurboMode};
 
 // The score of a record under a setup, behind the checks of the setup's scalars; of a withdrawn position that it is withdrawn. What is lent besides is
@@ -32,13 +31,12 @@ pub fn record_score(
 ) -> Scored
     ensures { says_score result ≡ first (scalar_checks setup) (record_score_of setup directions.now rotated.now projected.now bytes.now) }
 {
-    let checked = setup::check_scalars(setup);
-    if let Outcome::Refused { number, place } = checked {
-        return Scored::Refused { number, place };
+    if let Err(refusal) = setup::check_scalars(setup) {
+        return Scored::Refused(refusal);
     }
     match score_at_once(setup, directions, rotated, projected, bytes) {
-        PayloadSum::Sum(score) => Scored::Score(score),
-        PayloadSum::Otherwise => score_in_turn(setup, directions, rotated, projected, bytes),
+        Some(score) => Scored::Score(score),
+        None => score_in_turn(setup, directions, rotated, projected, bytes),
     }
 }
 
@@ -51,39 +49,39 @@ fn score_at_once(
     rotated: &[f32],
     projected: &[f32],
     bytes: &[u8],
-) -> PayloadSum
+) -> Option<f32>
     ensures { Answered result (record_score_of setup directions.now rotated.now projected.now bytes.now) }
 {
     match packed_reading::peek_record(bytes) {
-        Reading::Read(header) => {
+        Ok(Some(header)) => {
             let other = turbo_opening::other_match(setup, header.bits, header.projections);
             let dim = header.dim;
             let needed = setup.dim;
             if dim != needed {
-                return PayloadSum::Otherwise;
+                return None;
             }
             if other {
-                return PayloadSum::Otherwise;
+                return None;
             }
             finite_sum(peeked_score(setup, directions, rotated, projected, bytes, header))
         }
-        Reading::Refused { number, place } => PayloadSum::Otherwise,
-        Reading::Withdrawn => PayloadSum::Otherwise,
+        Err(_) => None,
+        Ok(None) => None,
     }
 }
 
 // A sum where it is finite.
-fn finite_sum(sum: PayloadSum) -> PayloadSum
+fn finite_sum(sum: Option<f32>) -> Option<f32>
     ensures { result ≡ finite_sum_of sum }
 {
     match sum {
-        PayloadSum::Sum(x) => {
+        Some(x) => {
             if float::is_finite(x) {
-                return PayloadSum::Sum(x);
+                return Some(x);
             }
-            PayloadSum::Otherwise
+            None
         }
-        PayloadSum::Otherwise => PayloadSum::Otherwise,
+        None => None,
     }
 }
 
@@ -95,27 +93,27 @@ fn peeked_score(
     projected: &[f32],
     bytes: &[u8],
     header: Header,
-) -> PayloadSum
+) -> Option<f32>
     requires { Peeked setup bytes.now header }
     ensures { Summed result bytes.now (record_score setup directions.now rotated.now projected.now bytes.now) }
 {
-    let PayloadSum::Sum(polar) = peeked_polar(directions, rotated, bytes, header) else {
-        return PayloadSum::Otherwise;
+    let Some(polar) = peeked_polar(directions, rotated, bytes, header) else {
+        return None;
     };
     let mode = setup.mode;
     match mode {
-        TurboMode::PolarOnly => PayloadSum::Sum(polar),
+        TurboMode::PolarOnly => Some(polar),
         TurboMode::PolarWithQjl => {
             if projected.len() != header.projections {
-                return PayloadSum::Otherwise;
+                return None;
             }
-            PayloadSum::Sum(polar + residual_of_bits(projected, bytes, header))
+            Some(polar + residual_of_bits(projected, bytes, header))
         }
     }
 }
 
 // The polar sum of a record, from its payloads, where no radius offends.
-fn peeked_polar(directions: &[f32], rotated: &[f32], bytes: &[u8], header: Header) -> PayloadSum
+fn peeked_polar(directions: &[f32], rotated: &[f32], bytes: &[u8], header: Header) -> Option<f32>
     requires { Whole bytes.now header }
     ensures { Summed result bytes.now (polar_sum_of rotated.now directions.now (indices_of bytes.now) (radii_of bytes.now)) }
 {
@@ -162,18 +160,15 @@ fn score_in_turn(
     ensures { says_score result ≡ record_score_of setup directions.now rotated.now projected.now bytes.now }
 {
     match turbo_opening::open_record(setup, bytes) {
-        Reading::Read(header) => {
+        Ok(Some(header)) => {
             let score = opened_score(setup, directions, rotated, projected, bytes, header);
             if float::is_finite(score) {
                 return Scored::Score(score);
             }
-            Scored::Refused {
-                number: NON_FINITE_SCORE,
-                place: 0,
-            }
+            Scored::Refused(Refusal::NonFiniteScore(0))
         }
-        Reading::Refused { number, place } => Scored::Refused { number, place },
-        Reading::Withdrawn => Scored::Withdrawn,
+        Err(refusal) => Scored::Refused(refusal),
+        Ok(None) => Scored::Withdrawn,
     }
 }
 
@@ -203,11 +198,13 @@ fn polar_part(directions: &[f32], rotated: &[f32], bytes: &[u8], header: Header)
     ensures { result ≡ polar_sum_of rotated.now directions.now (indices_of bytes.now) (radii_of bytes.now) }
 {
     let pairs = header.dim / 2;
-    let mut radii = no_radii();
-    let mut indices = no_indices();
-    packed_values::radii_at(bytes, header, &mut radii[0..pairs]);
-    packed_values::indices_at(bytes, header, &mut indices[0..pairs]);
-    polar::polar_sum(rotated, directions, &indices[0..pairs], &radii[0..pairs])
+    let mut radii = [0.0f32; 2048];
+    let mut indices = [0u16; 2048];
+    let lengths = &mut radii[0..pairs];
+    let places = &mut indices[0..pairs];
+    let _ = packed_values::radii_at(bytes, header, lengths);
+    let _ = packed_values::indices_at(bytes, header, places);
+    polar::polar_sum(rotated, directions, places, lengths)
 }
 
 // The residual of a record, by the header that was read from it, with the record's own norm.
@@ -216,27 +213,8 @@ fn residual_part(projected: &[f32], bytes: &[u8], header: Header) -> f32
     ensures { result ≡ residual_of (projections_of bytes.now) (norm_of bytes.now) projected.now (signs_of bytes.now) }
 {
     let projections = header.projections;
-    let mut signs = no_signs();
-    packed_values::signs_at(bytes, header, &mut signs[0..projections]);
-    qjl_residual::residual(
-        projections as u16,
-        header.norm,
-        projected,
-        &signs[0..projections],
-    )
-}
-
-// Room for the radii of a record, of which there are at most 2,048.
-fn no_radii() -> [f32; 2048] {
-    [0.0f32; 2048]
-}
-
-// Room for the indices of a record, of which there are at most 2,048.
-fn no_indices() -> [u16; 2048] {
-    [0u16; 2048]
-}
-
-// Room for the signs of a record, of which there are at most 4,096.
-fn no_signs() -> [i8; 4096] {
-    [0i8; 4096]
+    let mut signs = [0i8; 4096];
+    let part = &mut signs[0..projections];
+    let _ = packed_values::signs_at(bytes, header, part);
+    qjl_residual::residual(projections as u16, header.norm, projected, part)
 }

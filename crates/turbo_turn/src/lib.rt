@@ -9,7 +9,7 @@ ghost use Rattle.error.specs.Outcomes.{says};
 ghost use Rattle.setup.specs.Lent.{lent};
 ghost use Rattle.turbo_turn.specs.Turning.{space_checks, turn_rotated_of, turn_projected_of};
 
-use error::{DIMENSION_MISMATCH, OUTPUT_LENGTH, Outcome};
+use error::Refusal;
 use setup::Setup;
 
 // The query rotated into one output and projected into the other, where the lengths fit and neither the scalars nor the rotation nor the directions offend. It refuses
@@ -22,46 +22,33 @@ pub fn turn_query(
     query: &[f32],
     rotated: &mut [f32],
     projected: &mut [f32],
-) -> Outcome
+) -> Result<(), Refusal>
     ensures said { says result ≡ done (turn_rotated_of setup (lent rotation.now directions.now matrix.now) query.now (length rotated.old) (length projected.old)) }
     ensures rotated { rotated.new ≡ after (turn_rotated_of setup (lent rotation.now directions.now matrix.now) query.now (length rotated.old) (length projected.old)) rotated.old }
     ensures projected { projected.new ≡ after (turn_projected_of setup (lent rotation.now directions.now matrix.now) query.now (length rotated.old) (length projected.old)) projected.old }
 {
-    let checked = check_spaces(setup, directions, matrix.len(), projected.len());
-    if let Outcome::Refused { number, place } = checked {
-        return Outcome::Refused { number, place };
-    }
-    let turned = setup_rotation::rotate(setup, rotation, query, rotated);
-    if let Outcome::Refused { number, place } = turned {
-        return Outcome::Refused { number, place };
-    }
+    check_spaces(setup, directions, matrix.len(), projected.len())?;
+    setup_rotation::rotate(setup, rotation, query, rotated)?;
     qjl_rows::project(setup.dim, matrix, query, projected)
 }
 
 // The checks that a rotation does not make: of the scalars, of the directions, and of how many entries the matrix and the projections' output have.
-fn check_spaces(setup: Setup, directions: &[f32], entries: usize, space: usize) -> Outcome
+fn check_spaces(
+    setup: Setup,
+    directions: &[f32],
+    entries: usize,
+    space: usize,
+) -> Result<(), Refusal>
     ensures { says result ≡ first (space_checks setup directions.now entries space) accepted }
 {
-    let scalars = setup::check_scalars(setup);
-    if let Outcome::Refused { number, place } = scalars {
-        return Outcome::Refused { number, place };
-    }
-    let table = setup_tables::check_directions(setup, directions);
-    if let Outcome::Refused { number, place } = table {
-        return Outcome::Refused { number, place };
-    }
+    setup::check_scalars(setup)?;
+    setup_tables::check_directions(setup, directions)?;
     let rows = setup::counted_projections(setup);
     if entries != rows * setup.dim {
-        return Outcome::Refused {
-            number: DIMENSION_MISMATCH,
-            place: entries,
-        };
+        return Err(Refusal::DimensionMismatch(entries));
     }
     if space != rows {
-        return Outcome::Refused {
-            number: OUTPUT_LENGTH,
-            place: rows,
-        };
+        return Err(Refusal::OutputLength(rows));
     }
-    Outcome::Done
+    Ok(())
 }

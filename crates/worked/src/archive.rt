@@ -1,7 +1,7 @@
 // A small whole job: an archive of five records, in both modes and both radius forms, one with a norm, a damaged copy and a withdrawn position, under one query.
 use super::show;
-use error::Outcome;
-use packed::{Code, SourceNorm};
+use error::Refusal;
+use packed::Code;
 use radius::RadiusCodecProfileV1;
 use setup::{RotationKind, Setup, TurboMode};
 
@@ -23,7 +23,7 @@ fn first() {
     let mut made = [0u8; 15];
     kept(
         RadiusCodecProfileV1::F32,
-        SourceNorm::Absent,
+        None,
         &radii,
         &indices,
         &signs,
@@ -39,7 +39,7 @@ fn second() {
     let mut made = [0u8; 19];
     kept(
         RadiusCodecProfileV1::BlockLinearU16,
-        SourceNorm::Absent,
+        None,
         &radii,
         &indices,
         &signs,
@@ -68,7 +68,7 @@ fn third() {
     let mut made = [0u8; 20];
     kept(
         RadiusCodecProfileV1::F32,
-        SourceNorm::Absent,
+        None,
         &radii,
         &indices,
         &signs,
@@ -85,7 +85,7 @@ fn fourth() {
     let mut made = [0u8; 24];
     kept(
         RadiusCodecProfileV1::BlockLinearU16,
-        SourceNorm::Absent,
+        None,
         &radii,
         &indices,
         &signs,
@@ -101,7 +101,7 @@ fn fifth() {
     let mut made = [0u8; 24];
     kept(
         RadiusCodecProfileV1::F32,
-        SourceNorm::Given(2.0),
+        Some(2.0),
         &radii,
         &indices,
         &signs,
@@ -112,7 +112,7 @@ fn fifth() {
 // Writes a record of the archive, and asks for what it says under the setup that it was written for.
 fn kept(
     profile: RadiusCodecProfileV1,
-    norm: SourceNorm,
+    norm: Option<f32>,
     radii: &[f32],
     indices: &[u16],
     signs: &[i8],
@@ -127,7 +127,7 @@ fn kept(
 pub(crate) fn write(
     profile: RadiusCodecProfileV1,
     bits: u8,
-    norm: SourceNorm,
+    norm: Option<f32>,
     radii: &[f32],
     indices: &[u16],
     signs: &[i8],
@@ -238,7 +238,7 @@ fn prepared(record: &[u8]) {
     show::score(score);
 }
 
-fn query_prepared(rotated: &mut [f32], projected: &mut [f32]) -> Outcome {
+fn query_prepared(rotated: &mut [f32], projected: &mut [f32]) -> Result<(), Refusal> {
     let signs = turns();
     let directions = compass();
     let matrix = three_rows();

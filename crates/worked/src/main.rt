@@ -6,9 +6,7 @@ mod archive;
 mod scans;
 mod show;
 
-use packed::{Reading, SourceNorm};
 use radius::{RadiusCodecProfileV1, Range};
-use radius_writing::Compressed;
 
 fn main() {
     packing();
@@ -90,8 +88,8 @@ fn radii() {
 // Compresses radii as linear ones, and decompresses what came out.
 fn linear(radii: &[f32], payload: &mut [u8], back: &mut [f32]) {
     match radius_writing::compress(radii, RadiusCodecProfileV1::BlockLinearU16, payload) {
-        Compressed::Made(range) => decompressed(range, payload, back),
-        Compressed::Refused { number, place } => show::refusal(number, place),
+        Ok(range) => decompressed(range, payload, back),
+        Err(refusal) => show::refusal(refusal),
     }
 }
 
@@ -123,7 +121,7 @@ fn record(signs: &[i8], made: &mut [u8], back: &mut [i8]) {
     archive::write(
         RadiusCodecProfileV1::F32,
         1,
-        SourceNorm::Absent,
+        None,
         &radii,
         &indices,
         signs,
@@ -138,7 +136,7 @@ fn record(signs: &[i8], made: &mut [u8], back: &mut [i8]) {
 // What a record's header says: dimension, bits, projections, and where radii, indices and signs start and the record ends.
 fn header(made: &[u8]) {
     match packed_reading::read_record(made) {
-        Reading::Read(found) => {
+        Ok(Some(found)) => {
             let told = [
                 found.dim,
                 found.bits as usize,
@@ -150,8 +148,8 @@ fn header(made: &[u8]) {
             ];
             show::numbers(&told);
         }
-        Reading::Refused { number, place } => show::refusal(number, place),
-        Reading::Withdrawn => show::withdrawn(),
+        Err(refusal) => show::refusal(refusal),
+        Ok(None) => show::withdrawn(),
     }
 }
 

@@ -1,16 +1,12 @@
 // An answer in its place in the text: each function copies the text up to the next `|`, and then prints the answer, a space before each of its items.
-use error::{Filled, Length, Outcome, Scored};
-use polar::Angle;
-use turbo_phased::Phased;
+use error::{Refusal, Scored};
 
 // Copies the text up to the next `|` or its end, and at most 4,096 bytes.
 pub(crate) fn text() {
-    let mut left: usize = 4096;
-    while 0 < left {
+    for _ in 0..4096 {
         if !copied() {
             return;
         }
-        left -= 1;
     }
 }
 
@@ -27,12 +23,12 @@ fn copied() -> bool {
 }
 
 // A refusal's number and place.
-pub(crate) fn refusal(number: u32, place: usize) {
+pub(crate) fn refusal(refused: Refusal) {
     text();
     io::write_all(1, b" refused");
-    decimal(number as usize);
+    decimal(refused.number() as usize);
     io::write_all(1, b" at");
-    decimal(place);
+    decimal(refused.place());
 }
 
 // That a position is withdrawn.
@@ -42,10 +38,10 @@ pub(crate) fn withdrawn() {
 }
 
 // That a call is done, or its refusal.
-pub(crate) fn outcome(answer: Outcome) {
+pub(crate) fn outcome(answer: Result<(), Refusal>) {
     match answer {
-        Outcome::Done => done(),
-        Outcome::Refused { number, place } => refusal(number, place),
+        Ok(()) => done(),
+        Err(refused) => refusal(refused),
     }
 }
 
@@ -55,37 +51,37 @@ fn done() {
 }
 
 // The bytes that a call wrote, hexadecimal, or its refusal.
-pub(crate) fn bytes(outcome: Outcome, written: &[u8]) {
+pub(crate) fn bytes(outcome: Result<(), Refusal>, written: &[u8]) {
     match outcome {
-        Outcome::Done => byte_list(written),
-        Outcome::Refused { number, place } => refusal(number, place),
+        Ok(()) => byte_list(written),
+        Err(refused) => refusal(refused),
     }
 }
 
 // The floats that a call wrote, as patterns, its refusal, or that the position is withdrawn.
-pub(crate) fn floats(answer: Filled, written: &[f32]) {
+pub(crate) fn floats(answer: Result<Option<()>, Refusal>, written: &[f32]) {
     match answer {
-        Filled::Done => float_list(written),
-        Filled::Refused { number, place } => refusal(number, place),
-        Filled::Withdrawn => withdrawn(),
+        Ok(Some(())) => float_list(written),
+        Err(refused) => refusal(refused),
+        Ok(None) => withdrawn(),
     }
 }
 
 // The first index that a call wrote, its refusal, or that the position is withdrawn.
-pub(crate) fn indices(answer: Filled, written: &[u16; 1]) {
+pub(crate) fn indices(answer: Result<Option<()>, Refusal>, written: &[u16; 1]) {
     match answer {
-        Filled::Done => number(wide(written[0])),
-        Filled::Refused { number, place } => refusal(number, place),
-        Filled::Withdrawn => withdrawn(),
+        Ok(Some(())) => number(wide(written[0])),
+        Err(refused) => refusal(refused),
+        Ok(None) => withdrawn(),
     }
 }
 
 // The signs that a call wrote, + or -, its refusal, or that the position is withdrawn.
-pub(crate) fn signs(answer: Filled, written: &[i8]) {
+pub(crate) fn signs(answer: Result<Option<()>, Refusal>, written: &[i8]) {
     match answer {
-        Filled::Done => sign_list(written),
-        Filled::Refused { number, place } => refusal(number, place),
-        Filled::Withdrawn => withdrawn(),
+        Ok(Some(())) => sign_list(written),
+        Err(refused) => refusal(refused),
+        Ok(None) => withdrawn(),
     }
 }
 
@@ -93,23 +89,21 @@ pub(crate) fn signs(answer: Filled, written: &[i8]) {
 pub(crate) fn score(answer: Scored) {
     match answer {
         Scored::Score(x) => float(x),
-        Scored::Refused { number, place } => refusal(number, place),
+        Scored::Refused(refused) => refusal(refused),
         Scored::Withdrawn => withdrawn(),
     }
 }
 
 // What a record that is taken into a scan answers: as a score, and of a refusal before the record was read that it came there.
-pub(crate) fn phased(answer: Phased) {
+pub(crate) fn phased(answer: Result<Scored, Refusal>) {
     match answer {
-        Phased::Score(x) => float(x),
-        Phased::BeforeReading { number, place } => unread(number, place),
-        Phased::FromReading { number, place } => refusal(number, place),
-        Phased::Withdrawn => withdrawn(),
+        Ok(scored) => score(scored),
+        Err(refused) => unread(refused),
     }
 }
 
-fn unread(number: u32, place: usize) {
-    refusal(number, place);
+fn unread(refused: Refusal) {
+    refusal(refused);
     io::write_all(1, b" before reading");
 }
 
@@ -121,18 +115,18 @@ pub(crate) fn hit(number: u32, score: f32) {
 }
 
 // A length, or its refusal.
-pub(crate) fn length(answer: Length) {
+pub(crate) fn length(answer: Result<usize, Refusal>) {
     match answer {
-        Length::Bytes(n) => number(n),
-        Length::Refused { number, place } => refusal(number, place),
+        Ok(n) => number(n),
+        Err(refused) => refusal(refused),
     }
 }
 
 // An angle's pattern, or its refusal.
-pub(crate) fn angle(answer: Angle) {
+pub(crate) fn angle(answer: Result<f32, Refusal>) {
     match answer {
-        Angle::Radians(x) => float(x),
-        Angle::Refused { number, place } => refusal(number, place),
+        Ok(x) => float(x),
+        Err(refused) => refusal(refused),
     }
 }
 
@@ -152,37 +146,29 @@ fn number(n: usize) {
 
 pub(crate) fn byte_list(list: &[u8]) {
     text();
-    let mut i = 0;
-    while i < list.len() {
-        byte(list[i]);
-        i += 1;
+    for b in list {
+        byte(*b);
     }
 }
 
 fn float_list(list: &[f32]) {
     text();
-    let mut i = 0;
-    while i < list.len() {
-        pattern(list[i]);
-        i += 1;
+    for x in list {
+        pattern(*x);
     }
 }
 
 fn sign_list(list: &[i8]) {
     text();
-    let mut i = 0;
-    while i < list.len() {
-        sign(list[i]);
-        i += 1;
+    for s in list {
+        sign(*s);
     }
 }
 
 pub(crate) fn numbers(list: &[usize]) {
     text();
-    let mut i = 0;
-    while i < list.len() {
-        decimal(list[i]);
-        i += 1;
+    for n in list {
+        decimal(*n);
     }
 }
 

@@ -249,7 +249,9 @@ fn the_numbers_are_the_same() {
     // Where the sources are, these two are among them.
     let codes = file("crates/capi_answers/src/codes.rt").unwrap();
     let answers = file("crates/capi_answers/src/answers.rt").unwrap();
-    let mut wanted = numbers(&error, "pub const ", ": u32 = ");
+    let arms = numbers(&error, "Refusal::", "(_) => ");
+    let mut wanted: BTreeMap<String, u32> =
+        arms.into_iter().map(|(name, number)| (capitals(&name), number)).collect();
     let named = foldrima::refusal::NAMES.map(|(name, number)| (name.to_string(), number));
     assert_eq!(wanted, BTreeMap::from(named));
     // No refusal has the number of a value or of a withdrawn position.

@@ -3,7 +3,7 @@ use mathlib.Core.Logic.{⊎_elim}
 use native.Mathlib.Omega.{arith}
 use borrow.Author.Tests.{lt-ltb, le-ltb}
 use Rattle.bitpack.specs.Packing.{packed_len_of}
-use Rattle.bitpack.proofs.Lengths.{product-fits, product-exceeds, rounded-up}
+use Rattle.bitpack.proofs.Lengths.{product-fits, product-exceeds, div_ceil-bytes_for}
 use Rattle.bitpack.proofs.packed_len.Goals as goal
 
 pub returns-then-bits-lt1 : goal.returns-then-bits-lt1
@@ -19,11 +19,7 @@ pub overflow_mul-total : goal.overflow_mul-total
 overflow_mul-total c = let a = c.args in
     omega (arith, product-fits a.count a.bits c.if-bits-lt1.false c.if-width-count.false)
 
-pub overflow_add-result-2 : goal.overflow_add-result-2
-overflow_add-result-2 c = let a = c.args in
-    omega (arith, product-fits a.count a.bits c.if-bits-lt1.false c.if-width-count.false)
-
 pub returns : goal.returns
 unfolding packed_len_of
 returns c = let a = c.args in
-    simp (le-ltb _ _ c.if-bits-lt1.false, le-ltb _ _ c.if-bits-gt16.false, le-ltb _ _ (product-fits a.count a.bits c.if-bits-lt1.false c.if-width-count.false), rounded-up)
+    simp (le-ltb _ _ c.if-bits-lt1.false, le-ltb _ _ c.if-bits-gt16.false, le-ltb _ _ (product-fits a.count a.bits c.if-bits-lt1.false c.if-width-count.false), c.div_ceil.ensures, div_ceil-bytes_for)

@@ -1,5 +1,4 @@
 -- `bitpack_signs_writing::pack_sign_bytes` meets its contract: the loop keeps `SignsPacked`; a last byte is written where signs are left. Assumes nothing.
-use Prim.Native.Nat.{◌-◌}
 use mathlib.Core.List.{map}
 use lib.ListN.{length}
 use Rattle.bitpack.specs.Padding.{bytes_for}
@@ -9,6 +8,3 @@ use Rattle.bitpack_signs_writing.proofs.pack_sign_bytes.Given as goal
 
 abbrev pub invariant-loop-k : goal.invariant-loop-k
 invariant-loop-k l = SignsPacked (map bit_of_sign l.signs) (bytes_for (length l.signs)) l.out l.k
-
-abbrev pub decreases-loop-k : goal.decreases-loop-k
-decreases-loop-k l = l.full - l.k

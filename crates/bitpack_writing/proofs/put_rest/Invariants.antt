@@ -1,5 +1,5 @@
 -- `bitpack_writing::put_rest` meets its contract: the loop keeps that what is written and what is left are the digits. Assumes nothing.
-use Prim.Native.Nat.{◌-◌, ◌≤◌}
+use Prim.Native.Nat.{◌-◌}
 use mathlib.Core.Path.{◌≡◌}
 use mathlib.Core.List.{◌++◌}
 use lib.ListN.{length, take}
@@ -7,7 +7,4 @@ use Rattle.digits.specs.Digits.{digits}
 use Rattle.bitpack_writing.proofs.put_rest.Given as goal
 
 abbrev pub invariant-loop-k : goal.invariant-loop-k
-invariant-loop-k l = (length l.out ≡ length l.initial.out) × ((l.k ≤ length l.out) × (take l.from l.initial.out ++ digits 256 (length l.initial.out - l.from) l.rest ≡ take l.k l.out ++ digits 256 (length l.out - l.k) l.acc))
-
-abbrev pub decreases-loop-k : goal.decreases-loop-k
-decreases-loop-k l = length l.out - l.k
+invariant-loop-k l = take l.from l.initial.out ++ digits 256 (length l.initial.out - l.from) l.rest ≡ take l.k l.out ++ digits 256 (length l.out - l.k) l.acc

@@ -10,7 +10,7 @@ use Rattle.finite_sums.proofs.Sums.{took-start, took-then, sum-clear}
 use Rattle.finite_sums.proofs.is_sum_finite.Goals as goal
 
 pub loop-at-init : goal.loop-at-init
-loop-at-init c = (omega arith, (omega (arith, c.no_sums-sums.type_inv), took-start _ 0 _))
+loop-at-init c = (omega arith, (omega arith, took-start _ 0 _))
 
 pub overflow_sub-values : goal.overflow_sub-values
 overflow_sub-values c = omega arith

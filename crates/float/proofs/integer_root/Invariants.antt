@@ -4,7 +4,4 @@ use Rattle.float.specs.SquareRoot.{root_bits}
 use Rattle.float.proofs.integer_root.Given as goal
 
 abbrev pub invariant-loop-j : goal.invariant-loop-j
-invariant-loop-j l = (l.j ≤ 24) × (l.r + 2 ^ l.j ≤ 2 ^ 24) × (root_bits 24 0 l.m ≡ root_bits l.j l.r l.m)
-
-abbrev pub decreases-loop-j : goal.decreases-loop-j
-decreases-loop-j l = l.j
+invariant-loop-j l = record { room : l.r + 2 ^ l.j ≤ 2 ^ 24; digits : root_bits 24 0 l.m ≡ root_bits l.j l.r l.m }

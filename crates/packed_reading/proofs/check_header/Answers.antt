@@ -13,9 +13,10 @@ use Rattle.packed.specs.Fields.{map_of, mode_of, dim_of, bits_of, projections_of
 use Rattle.packed.specs.Reading.{bad_map, shape_checks}
 use Rattle.setup.specs.Checks.{bad_projections}
 use Rattle.packed.proofs.Headers.{word-run, HeaderPassed, header-shape, header-cut, header-wrong, header-right}
+use Rattle.error.proofs.Passed.{passed_on}
 use borrow.Author.Tests.{lt-ltb, le-ltb}
 use borrow.Author.Rules.{rules}
-use Rattle.packed_reading.proofs.check_header.Goals.{After-check_shape, After-outside_projections, Else-bytes-header_length, In_default}
+use Rattle.packed_reading.proofs.check_header.Goals.{After-check_shape, After-outside_projections, Else-bytes-header_length, In_ok-check_shape}
 use Rattle.packed_reading.proofs.check_header.Goals as goal
 
 pub returns-then-bytes-lt6 : goal.returns-then-bytes-lt6
@@ -39,14 +40,14 @@ shape c =
     ∙ ap (λ (m : TurboMode). first (shape_checks m c.get_u32.result (bits_of bytes)) accepted) c.mode_of.ensures
     ∙ ap (λ (n : ℕ). first (shape_checks (mode_of (map_of bytes)) n (bits_of bytes)) accepted) (c.get_u32.ensures ∙ word-run bytes 1 (search rules))
 
-shaped : (c : goal.In_default) → let bytes = c.args.bytes.now in first (shape_checks (mode_of (map_of bytes)) (dim_of bytes) (bits_of bytes)) accepted ≡ accepted
+shaped : (c : goal.In_ok-check_shape) → let bytes = c.args.bytes.now in first (shape_checks (mode_of (map_of bytes)) (dim_of bytes) (bits_of bytes)) accepted ≡ accepted
 shaped c =
     let bytes = c.args.bytes.now in
     sym
     (c.check_shape.ensures
     ∙ ap (λ (m : TurboMode). first (shape_checks m c.get_u32.result (bits_of bytes)) accepted) c.mode_of.ensures
     ∙ ap (λ (n : ℕ). first (shape_checks (mode_of (map_of bytes)) n (bits_of bytes)) accepted) (c.get_u32.ensures ∙ word-run bytes 1 (search rules)))
-    ∙ ap says c.in_default.is
+    ∙ ap says c.in_ok-check_shape.was
 
 -- all checks but the last
 passed : (c : goal.Else-bytes-header_length) →
@@ -71,14 +72,14 @@ asked c = c.outside_projections.ensures ∙ rw (c.mode_of-2.ensures, c.projectio
 pub overflow_cast-result : goal.overflow_cast-result
 overflow_cast-result c = omega (arith, c.type_inv.bytes 0)
 
-pub returns-in-Refused : goal.returns-in-Refused
-returns-in-Refused c = sym (header-shape c.args.bytes.now accepted (long (goal.at.returns-in-Refused c).After-check_shape) (known (goal.at.returns-in-Refused c).After-check_shape) (sym (shape (goal.at.returns-in-Refused c).After-check_shape) ∙ ap says c.in-Refused.is))
+pub returns-in_err-check_shape : goal.returns-in_err-check_shape
+returns-in_err-check_shape c = rw (passed_on c.from_residual.result c.from_residual.ensures.1) (sym (header-shape c.args.bytes.now accepted (long (goal.at.returns-in_err-check_shape c).After-check_shape) (known (goal.at.returns-in_err-check_shape c).After-check_shape) (sym (shape (goal.at.returns-in_err-check_shape c).After-check_shape) ∙ ap says c.in_err-check_shape.was)))
 
 pub returns-then-bytes-header_length : goal.returns-then-bytes-header_length
-returns-then-bytes-header_length c = sym (header-cut c.args.bytes.now accepted (long (goal.at.returns-then-bytes-header_length c).After-check_shape) (known (goal.at.returns-then-bytes-header_length c).After-check_shape) (shaped (goal.at.returns-then-bytes-header_length c).In_default) (ap (ltb (length c.args.bytes.now)) (sym c.header_length.ensures) ∙ lt-ltb _ _ c.if-bytes-header_length.true))
+returns-then-bytes-header_length c = sym (header-cut c.args.bytes.now accepted (long (goal.at.returns-then-bytes-header_length c).After-check_shape) (known (goal.at.returns-then-bytes-header_length c).After-check_shape) (shaped (goal.at.returns-then-bytes-header_length c).In_ok-check_shape) (ap (ltb (length c.args.bytes.now)) (sym c.header_length.ensures) ∙ lt-ltb _ _ c.if-bytes-header_length.true))
 
 pub returns-then-outside_projections : goal.returns-then-outside_projections
-returns-then-outside_projections c = ap (refused 8) c.projections_of-projections.ensures ∙ sym (header-wrong _ accepted (passed (goal.at.returns-then-outside_projections c).Else-bytes-header_length (shaped (goal.at.returns-then-outside_projections c).In_default)) (sym (asked (goal.at.returns-then-outside_projections c).After-outside_projections) ∙ c.if-outside_projections.true))
+returns-then-outside_projections c = ap (refused 8) c.projections_of-projections.ensures ∙ sym (header-wrong _ accepted (passed (goal.at.returns-then-outside_projections c).Else-bytes-header_length (shaped (goal.at.returns-then-outside_projections c).In_ok-check_shape)) (sym (asked (goal.at.returns-then-outside_projections c).After-outside_projections) ∙ c.if-outside_projections.true))
 
 pub returns : goal.returns
-returns c = sym (header-right _ accepted (passed (goal.at.returns c).Else-bytes-header_length (shaped (goal.at.returns c).In_default)) (sym (asked (goal.at.returns c).After-outside_projections) ∙ c.if-outside_projections.false))
+returns c = sym (header-right _ accepted (passed (goal.at.returns c).Else-bytes-header_length (shaped (goal.at.returns c).In_ok-check_shape)) (sym (asked (goal.at.returns c).After-outside_projections) ∙ c.if-outside_projections.false))

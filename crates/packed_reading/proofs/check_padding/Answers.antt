@@ -13,6 +13,7 @@ use Rattle.packed.specs.Layout.{pairs_of, indices_used, indices_bytes, signs_byt
 use Rattle.packed.proofs.Headers.{header-usable, bits_most, product-most}
 use Rattle.packed.proofs.Parts.{Ordered, ordered, indices_part, signs_part, header-used, header_projections_lem}
 use Rattle.packed.proofs.Payloads.{padding-indices, padding-signs}
+use Rattle.error.proofs.Passed.{passed_on}
 use Rattle.packed_reading.proofs.check_padding.Goals.{After-validate_padding_zero, Start}
 use Rattle.packed_reading.proofs.check_padding.Goals as goal
 
@@ -46,8 +47,8 @@ indices-judged c =
     ∙ ap (λ (l : List ℕ). validate_padding_zero_of l (header.dim / 2 * header.bits)) (indices_part bytes c.requires.own)
     ∙ ap (validate_padding_zero_of (indices_bytes bytes)) (header-used bytes c.requires.own)
 
-pub returns-in-Refused : goal.returns-in-Refused
-returns-in-Refused c = sym (padding-indices c.args.bytes.now c.requires.sized (sym (indices-judged (goal.at.returns-in-Refused c).After-validate_padding_zero) ∙ ap says c.in-Refused.is))
+pub returns-in_err-validate_padding_zero : goal.returns-in_err-validate_padding_zero
+returns-in_err-validate_padding_zero c = rw (passed_on c.from_residual.result c.from_residual.ensures.1) (sym (padding-indices c.args.bytes.now c.requires.sized (sym (indices-judged (goal.at.returns-in_err-validate_padding_zero c).After-validate_padding_zero) ∙ ap says c.in_err-validate_padding_zero.was)))
 
 pub slice_bounds-validate_padding_zero-count-2 : goal.slice_bounds-validate_padding_zero-count-2
 slice_bounds-validate_padding_zero-count-2 c = let w = within (goal.at.slice_bounds-validate_padding_zero-count-2 c).Start in omega (arith, w.first, w.second, w.third, w.last)
@@ -63,4 +64,4 @@ returns c = let bytes = c.args.bytes.now in
     c.validate_padding_zero-2.ensures
     ∙ ap (λ (l : List ℕ). validate_padding_zero_of l c.args.header.projections) (signs_part bytes c.requires.own)
     ∙ ap (validate_padding_zero_of (signs_bytes bytes)) (header_projections_lem bytes c.requires.own)
-    ∙ sym (padding-signs bytes c.requires.sized (sym (indices-judged (goal.at.returns c).After-validate_padding_zero) ∙ ap says c.in_default.is))
+    ∙ sym (padding-signs bytes c.requires.sized (sym (indices-judged (goal.at.returns c).After-validate_padding_zero) ∙ ap says c.in_ok-validate_padding_zero.was))

@@ -4,6 +4,7 @@ use mathlib.Core.Path.{◌≡◌, ◌∙◌}
 use native.Mathlib.Omega.{arith}
 use lib.ListN.{get_or}
 use Rattle.error.specs.Answer.{accepted}
+use Rattle.bitpack.proofs.Lengths.{div_ceil-bytes_for}
 use Rattle.packed.specs.Fields.{dim_of}
 use Rattle.packed.specs.Layout.{header_of}
 use Rattle.packed.proofs.Headers.{word-run, header-usable, bits_most, projections-most, product-most}
@@ -59,23 +60,17 @@ overflow_mul-indices c = let z = sizes (goal.at.overflow_mul-indices c).After-wi
 pub overflow_add-indices : goal.overflow_add-indices
 overflow_add-indices c = let z = sizes (goal.at.overflow_add-indices c).After-width_of in omega (arith, z.head-most, z.radii_most, z.indices_most, z.projections-most)
 
-pub overflow_cast-signs : goal.overflow_cast-signs
-overflow_cast-signs c = omega (arith, c.type_inv.bytes 5)
+pub overflow_cast-bits : goal.overflow_cast-bits
+overflow_cast-bits c = omega (arith, c.type_inv.bytes 5)
 
-pub overflow_mul-signs : goal.overflow_mul-signs
-overflow_mul-signs c = let z = sizes (goal.at.overflow_mul-signs c).After-width_of in omega (arith, z.head-most, z.radii_most, z.indices_most, z.projections-most)
+pub overflow_mul-dim : goal.overflow_mul-dim
+overflow_mul-dim c = let z = sizes (goal.at.overflow_mul-dim c).After-width_of in omega (arith, z.head-most, z.radii_most, z.indices_most, z.projections-most)
 
 pub overflow_add-signs : goal.overflow_add-signs
 overflow_add-signs c = let z = sizes (goal.at.overflow_add-signs c).After-width_of in omega (arith, z.head-most, z.radii_most, z.indices_most, z.projections-most)
 
-pub overflow_add-signs-2 : goal.overflow_add-signs-2
-overflow_add-signs-2 c = let z = sizes (goal.at.overflow_add-signs-2 c).After-width_of in omega (arith, z.head-most, z.radii_most, z.indices_most, z.projections-most)
-
 pub overflow_add-end : goal.overflow_add-end
 overflow_add-end c = let z = sizes (goal.at.overflow_add-end c).After-width_of in omega (arith, z.head-most, z.radii_most, z.indices_most, z.projections-most)
-
-pub overflow_add-end-2 : goal.overflow_add-end-2
-overflow_add-end-2 c = let z = sizes (goal.at.overflow_add-end-2 c).After-width_of in omega (arith, z.head-most, z.radii_most, z.indices_most, z.projections-most)
 
 pub bounds_of-range-requires : goal.bounds_of-range-requires
 bounds_of-range-requires c = let u = header-usable c.args.bytes.now accepted c.requires in (u.long, u.header)
@@ -85,4 +80,4 @@ norm_of-norm-requires c = let u = header-usable c.args.bytes.now accepted c.requ
 
 pub returns : goal.returns
 unfolding header_of
-returns c = simp (c.norm_of-norm.ensures, c.norm_stands-has_norm.ensures, c.bounds_of-range.ensures, c.mode_of-mode.ensures, c.width_of.ensures, c.header_length-radii.ensures, c.profile_of-profile.ensures, c.projections_of-projections.ensures, dim-read (goal.at.returns c).After-get_u32-dim)
+returns c = simp (c.div_ceil.ensures, c.div_ceil-2.ensures, div_ceil-bytes_for, c.norm_of-norm.ensures, c.norm_stands-has_norm.ensures, c.bounds_of-range.ensures, c.mode_of-mode.ensures, c.width_of.ensures, c.header_length-radii.ensures, c.profile_of-profile.ensures, c.projections_of-projections.ensures, dim-read (goal.at.returns c).After-get_u32-dim)

@@ -11,6 +11,7 @@ use Rattle.packed.specs.Layout.{header_of}
 use Rattle.packed.specs.Reading.{header_checks, is_withdrawn}
 use Rattle.packed.specs.Peeking.{frame_checks, read_frame_of}
 use Rattle.packed.proofs.Withdrawn.{unless-none, unless-some}
+use Rattle.error.proofs.Passed.{passed_on}
 use Rattle.packed_reading.proofs.read_frame.Goals.{Else-bytes-eq0}
 use Rattle.packed_reading.proofs.read_frame.Goals as goal
 
@@ -23,23 +24,23 @@ unfolding read_frame_of
 returns-then-bytes-eq0 c = let bytes = c.args.bytes.now in
     sym (unless-none bytes _ (eq-eqb (length bytes) 0 c.if-bytes-eq0.true))
 
-pub returns-in-Refused : goal.returns-in-Refused
+pub returns-in_err-check_header : goal.returns-in_err-check_header
 unfolding read_frame_of
-returns-in-Refused c = let bytes = c.args.bytes.now in
-    sym
-    (unless-some bytes _ (some (goal.at.returns-in-Refused c).Else-bytes-eq0)
-    ∙ append-refused (header_checks bytes) (frame_checks bytes) tt (value (header_of bytes)) (sym c.check_header.ensures ∙ ap says c.in-Refused.is))
+returns-in_err-check_header c = let bytes = c.args.bytes.now in
+    rw (passed_on c.from_residual.result c.from_residual.ensures.1) (sym
+    (unless-some bytes _ (some (goal.at.returns-in_err-check_header c).Else-bytes-eq0)
+    ∙ append-refused (header_checks bytes) (frame_checks bytes) tt (value (header_of bytes)) (sym c.in_err-check_header.ensures)))
 
 pub header_of-found-requires : goal.header_of-found-requires
-header_of-found-requires c = sym c.check_header.ensures ∙ ap says c.in_default.is
+header_of-found-requires c = sym c.check_header.ensures ∙ ap says c.in_ok-check_header.was
 
-pub returns-in-Refused-check_frame : goal.returns-in-Refused-check_frame
+pub returns-in_err-check_frame : goal.returns-in_err-check_frame
 unfolding read_frame_of
-returns-in-Refused-check_frame c = let bytes = c.args.bytes.now in
-    sym
-    (unless-some bytes _ (some (goal.at.returns-in-Refused-check_frame c).Else-bytes-eq0)
-    ∙ append-passed (header_checks bytes) (frame_checks bytes) tt (value (header_of bytes)) (sym c.check_header.ensures ∙ ap says c.in_default.is)
-    ∙ chains.first-refused (frame_checks bytes) (value (header_of bytes)) (sym c.check_frame.ensures ∙ ap says c.in-Refused-check_frame.is))
+returns-in_err-check_frame c = let bytes = c.args.bytes.now in
+    rw (passed_on c.from_residual-in_err-check_frame.result c.from_residual-in_err-check_frame.ensures.1) (sym
+    (unless-some bytes _ (some (goal.at.returns-in_err-check_frame c).Else-bytes-eq0)
+    ∙ append-passed (header_checks bytes) (frame_checks bytes) tt (value (header_of bytes)) (sym c.check_header.ensures ∙ ap says c.in_ok-check_header.was)
+    ∙ chains.first-refused (frame_checks bytes) (value (header_of bytes)) (sym c.in_err-check_frame.ensures)))
 
 pub returns : goal.returns
 unfolding read_frame_of
@@ -47,5 +48,5 @@ returns c = let bytes = c.args.bytes.now in
     ap value c.header_of-found.ensures
     ∙ sym
     (unless-some bytes _ (some (goal.at.returns c).Else-bytes-eq0)
-    ∙ append-passed (header_checks bytes) (frame_checks bytes) tt (value (header_of bytes)) (sym c.check_header.ensures ∙ ap says c.in_default.is)
-    ∙ chains.first-passed (frame_checks bytes) (value (header_of bytes)) (sym c.check_frame.ensures ∙ ap says c.in_default-check_frame.is))
+    ∙ append-passed (header_checks bytes) (frame_checks bytes) tt (value (header_of bytes)) (sym c.check_header.ensures ∙ ap says c.in_ok-check_header.was)
+    ∙ chains.first-passed (frame_checks bytes) (value (header_of bytes)) (sym c.check_frame.ensures ∙ ap says c.in_ok-check_frame.was))

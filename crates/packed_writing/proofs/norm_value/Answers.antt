@@ -2,6 +2,6 @@
 use lib.Ieee.{of_bits}
 use Rattle.packed_writing.proofs.norm_value.Goals as goal
 
-pub returns-in-Absent : goal.returns-in-Absent
+pub returns-in-None : goal.returns-in-None
 unfolding of_bits
-returns-in-Absent c = rw c.in-Absent.is
+returns-in-None c = rw c.in-None.is

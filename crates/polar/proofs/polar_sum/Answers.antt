@@ -7,19 +7,10 @@ use Rattle.polar.proofs.polar_sum.Goals as goal
 
 pub loop-i-init : goal.loop-i-init
 unfolding polar_sum_of of_bits
-loop-i-init c = (omega arith, total-start _ _)
-
-pub pair_term-sum-requires : goal.pair_term-sum-requires
-pair_term-sum-requires c = omega arith
-
-pub overflow_add-i : goal.overflow_add-i
-overflow_add-i c = omega arith
-
-pub loop-i-smaller : goal.loop-i-smaller
-loop-i-smaller c = omega arith
+loop-i-init c = total-start _ _
 
 pub loop-i-preserved : goal.loop-i-preserved
-loop-i-preserved c = (omega arith, total-more _ _ _ _ _ (omega arith) c.pair_term-sum.ensures c.loop-i.invariant.1)
+loop-i-preserved c = total-more _ _ _ _ _ (omega arith) c.pair_term-sum.ensures c.loop-i.invariant
 
 pub returns : goal.returns
-returns c = total-end _ _ _ _ (omega arith) c.loop-i.invariant.1
+returns c = total-end _ _ _ _ (omega arith) c.loop-i.invariant

@@ -6,8 +6,8 @@ use mathlib.Core.List.{List, ◌++◌}
 use native.Mathlib.Nat.{mul-add}
 use native.Mathlib.Omega.{arith}
 use borrow.Rule.Slice.PartMut.{post_of}
-use lib.ListN.{length, take, drop}
-use lib.Ieee.{Float}
+use lib.ListN.{length, take, drop, replicate}
+use lib.Ieee.{Float, binary32, of_bits}
 use Rattle.error.specs.Answer.{after}
 use Rattle.lists.proofs.Parts.{part-long, part-read, part-again, part-enough}
 use Rattle.radius.specs.Codec.{bad_profile, width_of, restore_of}
@@ -16,7 +16,7 @@ use Rattle.radius.specs.declared.RadiusCodecProfileV1.{RadiusCodecProfileV1}
 use Rattle.polar_blocks.specs.Inner.{part_radii}
 use Rattle.polar_blocks.proofs.Radii.{part-restored}
 use Rattle.polar_blocks.proofs.Blocks.{added-sum, added_none, block-lent}
-use Rattle.polar_blocks.proofs.add_block.Goals.{After-no_radii-block, After-width_of-width}
+use Rattle.polar_blocks.proofs.add_block.Goals.{After-width_of-width}
 use Rattle.polar_blocks.proofs.add_block.Goals as goal
 
 -- the width, as it is read
@@ -27,9 +27,9 @@ width c = c.width_of-width.ensures
 ends : (c : goal.After-width_of-width) → c.width_of-width.result * c.args.at + c.width_of-width.result * c.args.count ≤ length c.args.radii.now
 ends c = rw (width c) (omega (arith, c.requires.sized, mul-add (width_of c.args.profile) c.args.at c.args.count))
 
--- the array has room
-room : (c : goal.After-no_radii-block) → c.args.count ≤ length c.no_radii-block.result
-room c = omega (arith, c.requires.small, c.no_radii-block.type_inv)
+-- what the array holds at first
+abbrev no_radii : List Float
+no_radii = replicate 64 (of_bits binary32 0)
 
 -- what the part of the array holds that is read
 block-is : (profile : RadiusCodecProfileV1) (range : Range) (radii : List ℕ) (at count width : ℕ) (held new rest : List Float) → bad_profile profile ≡ false → width ≡ width_of profile → width_of profile * (at + count) ≤ length radii
@@ -52,18 +52,16 @@ pub slice_bounds-restore-end : goal.slice_bounds-restore-end
 slice_bounds-restore-end c = ends (goal.at.slice_bounds-restore-end c).After-width_of-width
 
 pub slice_bounds-all_good-end : goal.slice_bounds-all_good-end
-slice_bounds-all_good-end c = let k = c.args.count in
-    part-enough k c.no_radii-block.result (room (goal.at.slice_bounds-all_good-end c).After-no_radii-block) c.restore.new.out (post_of 0 (k - 0) c.no_radii-block.result) c.restore.auto.out
+slice_bounds-all_good-end c = part-enough c.args.count no_radii c.requires.small c.restore.new.out (post_of 0 (c.args.count - 0) no_radii) c.restore.auto.out
 
 pub returns-then-not-all_good : goal.returns-then-not-all_good
-returns-then-not-all_good c = added_none c.args.directions.now c.args.rotated.now c.args.profile c.args.range c.args.radii.now c.args.indices.now c.args.bits c.args.at c.args.count (block-is c.args.profile c.args.range c.args.radii.now c.args.at c.args.count c.width_of-width.result c.no_radii-block.result c.restore.new.out (post_of 0 (c.args.count - 0) c.no_radii-block.result) c.requires.known c.width_of-width.ensures c.requires.sized (room (goal.at.returns-then-not-all_good c).After-no_radii-block) c.restore.auto.out c.restore.ensures.left) c.args.sum (sym c.all_good.ensures ∙ c.if-not-all_good.true)
+returns-then-not-all_good c = added_none c.args.directions.now c.args.rotated.now c.args.profile c.args.range c.args.radii.now c.args.indices.now c.args.bits c.args.at c.args.count (block-is c.args.profile c.args.range c.args.radii.now c.args.at c.args.count c.width_of-width.result no_radii c.restore.new.out (post_of 0 (c.args.count - 0) no_radii) c.requires.known c.width_of-width.ensures c.requires.sized c.requires.small c.restore.auto.out c.restore.ensures.left) c.args.sum (sym c.all_good.ensures ∙ c.if-not-all_good.true)
 
 pub slice_bounds-block_sum-end : goal.slice_bounds-block_sum-end
-slice_bounds-block_sum-end c = let k = c.args.count in
-    part-enough k c.no_radii-block.result (room (goal.at.slice_bounds-block_sum-end c).After-no_radii-block) c.restore.new.out (post_of 0 (k - 0) c.no_radii-block.result) c.restore.auto.out
+slice_bounds-block_sum-end c = part-enough c.args.count no_radii c.requires.small c.restore.new.out (post_of 0 (c.args.count - 0) no_radii) c.restore.auto.out
 
 pub block_sum-requires : goal.block_sum-requires
-block_sum-requires c = block-lent _ c.requires (part-again c.args.count c.no_radii-block.result (room (goal.at.block_sum-requires c).After-no_radii-block) c.restore.new.out (post_of 0 (c.args.count - 0) c.no_radii-block.result) c.restore.auto.out)
+block_sum-requires c = block-lent _ c.requires (part-again c.args.count no_radii c.requires.small c.restore.new.out (post_of 0 (c.args.count - 0) no_radii) c.restore.auto.out)
 
 pub returns : goal.returns
-returns c = added-sum c.args.directions.now c.args.rotated.now c.args.profile c.args.range c.args.radii.now c.args.indices.now c.args.bits c.args.at c.args.count (block-is c.args.profile c.args.range c.args.radii.now c.args.at c.args.count c.width_of-width.result c.no_radii-block.result c.restore.new.out (post_of 0 (c.args.count - 0) c.no_radii-block.result) c.requires.known c.width_of-width.ensures c.requires.sized (room (goal.at.returns c).After-no_radii-block) c.restore.auto.out c.restore.ensures.left) c.args.sum _ (sym c.all_good.ensures ∙ c.if-not-all_good.false) c.block_sum.ensures
+returns c = added-sum c.args.directions.now c.args.rotated.now c.args.profile c.args.range c.args.radii.now c.args.indices.now c.args.bits c.args.at c.args.count (block-is c.args.profile c.args.range c.args.radii.now c.args.at c.args.count c.width_of-width.result no_radii c.restore.new.out (post_of 0 (c.args.count - 0) no_radii) c.requires.known c.width_of-width.ensures c.requires.sized c.requires.small c.restore.auto.out c.restore.ensures.left) c.args.sum _ (sym c.all_good.ensures ∙ c.if-not-all_good.false) c.block_sum.ensures

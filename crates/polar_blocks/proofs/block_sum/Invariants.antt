@@ -1,12 +1,7 @@
--- `polar_blocks::block_sum` meets its contract. The invariant: the sum so far, with the terms from pair i on, is the whole. Assumes nothing.
-use Prim.Native.Nat.{◌-◌, ◌%◌, ◌≤◌}
-use mathlib.Core.Path.{◌≡◌}
-use lib.ListN.{length}
+-- `polar_blocks::block_sum` meets its contract. The invariant: the sum so far, with the terms from pair 4 k on, is the whole. Assumes nothing.
+use Rattle.std.proofs.Common.{◌≡◌, ◌*◌}
 use Rattle.polar_blocks.specs.Inner.{block_sum_from}
 use Rattle.polar_blocks.proofs.block_sum.Given as goal
 
-abbrev pub invariant-loop-i : goal.invariant-loop-i
-invariant-loop-i l = (l.i ≤ length l.block) × (l.i % 4 ≡ 0) × (block_sum_from l.directions l.rotated l.block l.indices l.bits l.start 0 l.begun ≡ block_sum_from l.directions l.rotated l.block l.indices l.bits l.start l.i l.sum)
-
-abbrev pub decreases-loop-i : goal.decreases-loop-i
-decreases-loop-i l = length l.block - l.i
+abbrev pub invariant-loop-k : goal.invariant-loop-k
+invariant-loop-k l = block_sum_from l.directions l.rotated l.block l.indices l.bits l.start 0 l.begun ≡ block_sum_from l.directions l.rotated l.block l.indices l.bits l.start (4 * l.k) l.sum

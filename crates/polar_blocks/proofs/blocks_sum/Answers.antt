@@ -1,41 +1,31 @@
 -- `polar_blocks::blocks_sum` meets its contract. The invariant: what is left from pair `at` on, with the sum so far, is the whole. Assumes nothing.
-use Prim.Native.Nat.{◌+◌, ◌%◌, ◌≤◌, ◌<◌}
-use mathlib.Core.Path.{◌≡◌, refl, sym, ◌∙◌}
-use native.Mathlib.Omega.{arith}
+use Rattle.std.proofs.Common.{◌≡◌, ◌+◌, sym, refl, ◌∙◌, arith}
 use lib.Ieee.{of_bits}
-use Rattle.polar_blocks.proofs.Blocks.{onward-start, onward-more, onward-none, onward-end, block-there}
+use Rattle.polar_blocks.specs.Payload.{payload_sum_of}
+use Rattle.polar_blocks.proofs.Blocks.{onward_from, onward-start, onward-turn, onward-none, onward-end, block-there}
+use Rattle.polar_blocks.proofs.blocks_sum.Goals.{In_ok-sum}
 use Rattle.polar_blocks.proofs.blocks_sum.Goals as goal
 
 pub loop-at-init : goal.loop-at-init
 unfolding of_bits
-loop-at-init c = (omega arith, λ h. refl, onward-start c.args.directions.now c.args.rotated.now c.args.profile c.args.range c.args.radii.now c.args.indices.now c.args.bits c.args.pairs c.requires)
-
-pub overflow_sub-pairs : goal.overflow_sub-pairs
-overflow_sub-pairs c = c.loop-at.invariant.0
-
-pub block_of-count-requires : goal.block_of-count-requires
-block_of-count-requires c = tt
+loop-at-init c = (refl, onward-start _ _ _ _ _ _ _ _ c.requires)
 
 pub add_block-requires : goal.add_block-requires
-add_block-requires c = block-there c.args.directions.now c.args.rotated.now c.args.profile c.args.range c.args.radii.now c.args.indices.now c.args.bits c.args.pairs c.requires c.loop-at.at c.block_of-count.result (omega (arith, c.block_of-count.ensures.0, c.loop-at.invariant.0)) (c.loop-at.invariant.1 c.loop-at-test.true) c.block_of-count.ensures.1
+add_block-requires c = block-there _ _ _ c.args.range _ _ _ _ c.requires _ _ (omega arith) c.loop-at.invariant.0 (omega arith)
 
-pub returns-in-Otherwise : goal.returns-in-Otherwise
-returns-in-Otherwise c = let here = c.loop-at in
-    let b = c.block_of-count in
-    onward-none c.args.directions.now c.args.rotated.now c.args.profile c.args.range c.args.radii.now c.args.indices.now c.args.bits c.args.pairs c.requires here.at b.result (omega (arith, b.ensures.0, here.invariant.0)) here.sum (sym c.in-Otherwise.is ∙ c.add_block.ensures) here.invariant.2
+pub returns-in_err-sum : goal.returns-in_err-sum
+returns-in_err-sum c = rw c.from_residual.ensures (onward-none _ _ _ _ _ _ _ _ c.requires c.loop-at.at c.min-count.result (omega arith) _ (sym c.in_err-sum.was ∙ c.add_block.ensures) c.loop-at.invariant.1)
 
-pub overflow_add-at : goal.overflow_add-at
-overflow_add-at c = omega (arith, c.block_of-count.ensures.0, c.loop-at.invariant.0)
-
-pub loop-at-smaller : goal.loop-at-smaller
-loop-at-smaller c = omega (arith, c.block_of-count.ensures.0, c.block_of-count.ensures.2 (omega (arith, c.loop-at-test.true)), c.loop-at.invariant.0)
+-- what is left after this block is the whole
+turned : (c : In_ok-sum) → payload_sum_of c.args.directions.now c.args.rotated.now c.args.profile c.args.range c.args.radii.now c.args.indices.now c.args.bits c.args.pairs
+    ≡ onward_from c.args.directions.now c.args.rotated.now c.args.profile c.args.range c.args.radii.now c.args.indices.now c.args.bits c.args.pairs (c.loop-at.at + 64) c.in_ok-sum.sum
+turned c = onward-turn _ _ _ _ _ _ _ _ c.requires _ c.min-count.result (omega arith) (omega arith) (λ less. omega arith) _ _ (sym c.in_ok-sum.was ∙ c.add_block.ensures) c.loop-at.invariant.1
 
 pub loop-at-preserved : goal.loop-at-preserved
-loop-at-preserved c = let here = c.loop-at in
-    let b = c.block_of-count in
-    let within : here.at + b.result ≤ c.args.pairs = omega (arith, b.ensures.0, here.invariant.0) in
-    let next : here.at + b.result < c.args.pairs → (here.at + b.result) % 4 ≡ 0 = λ h. omega (arith, b.ensures.3 (omega (arith, h)), here.invariant.1 c.loop-at-test.true) in
-    (within, next, onward-more c.args.directions.now c.args.rotated.now c.args.profile c.args.range c.args.radii.now c.args.indices.now c.args.bits c.args.pairs c.requires here.at b.result within here.sum _ (sym c.in-Sum.is ∙ c.add_block.ensures) here.invariant.2)
+loop-at-preserved c = (omega (arith, c.loop-at.invariant.0), turned (goal.at.loop-at-preserved c).In_ok-sum)
 
 pub returns : goal.returns
-returns c = sym (c.loop-at.invariant.2 ∙ onward-end c.args.directions.now c.args.rotated.now c.args.profile c.args.range c.args.radii.now c.args.indices.now c.args.bits c.args.pairs c.requires c.loop-at.at c.loop-at.sum (omega arith))
+returns c = sym (c.loop-at.invariant.1 ∙ onward-end _ _ _ _ _ _ _ _ c.requires _ _ (omega arith))
+
+pub returns-in_ok-sum : goal.returns-in_ok-sum
+returns-in_ok-sum c = sym (turned (goal.at.returns-in_ok-sum c).In_ok-sum ∙ onward-end _ _ _ _ _ _ _ _ c.requires _ _ (omega arith))

@@ -4,6 +4,7 @@ use native.Mathlib.Nat.{mul-le-mul}
 use native.Mathlib.Omega.{arith}
 use borrow.Author.Tests.{le-leb, lt-leb, eq-eqb, ne_eqb}
 use Rattle.polar_blocks.specs.Payload.{fits_payload}
+use Rattle.bitpack.proofs.Lengths.{div_ceil-bytes_for}
 use Rattle.radius.proofs.Widths.{width-most}
 use Rattle.polar_blocks.proofs.fits_payload.Goals as goal
 
@@ -35,10 +36,7 @@ returns-then-radii-width c = rw
 pub overflow_mul-used : goal.overflow_mul-used
 overflow_mul-used c = record { fits = omega (arith, mul-le-mul c.if-pairs-gt2048.false c.if-bits-gt16.false) }
 
-pub overflow_add-result : goal.overflow_add-result
-overflow_add-result c = record { fits = omega (arith, mul-le-mul c.if-pairs-gt2048.false c.if-bits-gt16.false) }
-
 pub returns : goal.returns
 unfolding fits_payload
 returns c = rw
-    (le-leb _ 2048 c.if-pairs-gt2048.false, le-leb 1 _ c.if-bits-lt1.false, le-leb _ 16 c.if-bits-gt16.false, ← c.is_bad_profile.ensures, c.if-is_bad_profile.false, ← c.width_of-width.ensures, eq-eqb _ _ c.if-radii-width.false)
+    (le-leb _ 2048 c.if-pairs-gt2048.false, le-leb 1 _ c.if-bits-lt1.false, le-leb _ 16 c.if-bits-gt16.false, ← c.is_bad_profile.ensures, c.if-is_bad_profile.false, ← c.width_of-width.ensures, eq-eqb _ _ c.if-radii-width.false, ← div_ceil-bytes_for _, ← c.div_ceil.ensures)

@@ -11,11 +11,11 @@ use Rattle.qjl_score.proofs.score_checked.Goals as goal
 
 -- what the checks leave, where they are done
 passed : (c : goal.In_default) → first (vector_checks c.args.setup (lent c.args.rotation.now c.args.directions.now c.args.matrix.now) c.args.query.now) accepted ≡ accepted
-passed c = sym c.check_vector-checked.ensures ∙ ap says c.in_default.is
+passed c = sym c.check_vector.ensures ∙ ap says c.in_default.is
 
-pub returns-in-Refused : goal.returns-in-Refused
-returns-in-Refused c = let a = c.args in
-    sym (score-refused a.setup (lent a.rotation.now a.directions.now a.matrix.now) a.query.now _ _ (sym c.check_vector-checked.ensures ∙ ap says c.in-Refused.is))
+pub returns-in-Err : goal.returns-in-Err
+returns-in-Err c = let a = c.args in
+    sym (score-refused a.setup (lent a.rotation.now a.directions.now a.matrix.now) a.query.now _ _ (sym c.check_vector.ensures ∙ ap says c.in-Err.is))
 
 pub returns-then-sketch-ne0 : goal.returns-then-sketch-ne0
 returns-then-sketch-ne0 c = let a = c.args in

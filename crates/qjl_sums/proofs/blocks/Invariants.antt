@@ -1,11 +1,7 @@
 -- `qjl_sums::blocks` meets its contract: the loop keeps what the sums have taken, sixteen columns at a time. Assumes nothing.
-use Prim.Native.Nat.{◌-◌}
-use lib.ListN.{length}
+use Rattle.std.proofs.Common.{◌*◌}
 use Rattle.qjl_sums.specs.Inner.{FourSoFar}
 use Rattle.qjl_sums.proofs.blocks.Given as goal
 
-abbrev pub invariant-loop-column : goal.invariant-loop-column
-invariant-loop-column l = FourSoFar l.matrix l.query l.upper l.column l.sums.upper × FourSoFar l.matrix l.query l.lower l.column l.sums.lower
-
-abbrev pub decreases-loop-column : goal.decreases-loop-column
-decreases-loop-column l = length l.query - l.column
+abbrev pub invariant-loop-k : goal.invariant-loop-k
+invariant-loop-k l = FourSoFar l.matrix l.query l.upper (16 * l.k) l.sums.upper × FourSoFar l.matrix l.query l.lower (16 * l.k) l.sums.lower

@@ -1,10 +1,9 @@
 -- `qjl_sums::row_sum` meets its contract: the loop keeps the dot product as the running sum and what is left of both lists. Assumes nothing.
-use Prim.Native.Nat.{◌-◌, ◌≤◌}
-use Rattle.rounding.specs.Inner.{SoFar}
+use Rattle.std.proofs.Common.{◌≡◌, drop}
+use Rattle.std.specs.Iterator.Adapters.{zip_first, zip_second}
+use Rattle.std.specs.Slice.Iter.{iter_rest}
+use Rattle.rounding.specs.Sums.{running, products, dot}
 use Rattle.qjl_sums.proofs.row_sum.Given as goal
 
-abbrev pub invariant-loop-i : goal.invariant-loop-i
-invariant-loop-i l = (l.i ≤ l.columns) × SoFar l.matrix l.query l.from l.i l.sum
-
-abbrev pub decreases-loop-i : goal.decreases-loop-i
-decreases-loop-i l = l.columns - l.i
+abbrev pub invariant-loop-entry : goal.invariant-loop-entry
+invariant-loop-entry l = dot (drop l.from l.matrix) l.query ≡ running l.sum (products (iter_rest (zip_first l.entry-iterator)) (iter_rest (zip_second l.entry-iterator)))

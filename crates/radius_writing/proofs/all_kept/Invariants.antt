@@ -1,18 +1,15 @@
--- `radius_writing::all_kept` meets its contract: a turn keeps `Flagged` of the radii as they are read back. Assumes nothing.
-use Prim.Native.Nat.{◌-◌}
-use lib.ListN.{length}
-use lib.Ieee.{Float}
+-- `radius_writing::all_kept` meets its contract: where a flag stands, every radius so far passed its test. Assumes nothing.
+use Prim.Native.Nat.{ℕ, ◌<◌}
+use mathlib.Core.Path.{◌≡◌}
+use mathlib.Core.Bool.{true, false}
+use lib.Ieee.{binary32, of_bits, lt}
+use lib.ListN.{get_or}
+use Rattle.float.specs.Constants.{pos_zero}
 use Rattle.radius.specs.Linear.{quantize_radius_of, radius_of}
-use Rattle.radius.specs.declared.Range.{Range}
-use Rattle.radius.proofs.Passes.{Flagged}
 use Rattle.radius_writing.proofs.all_kept.Given as goal
 
--- what a radius is read back as, from a least radius and a span
-abbrev pub kept_of : Range → Float → Float → Float → Float
-kept_of range min span r = radius_of range (quantize_radius_of min span r)
-
-abbrev pub invariant-loop-i : goal.invariant-loop-i
-invariant-loop-i l = Flagged (kept_of l.range l.min l.span) l.radii l.i l.above l.below
-
-abbrev pub decreases-loop-i : goal.decreases-loop-i
-decreases-loop-i l = length l.radii - l.i
+abbrev pub invariant-loop-r : goal.invariant-loop-r
+invariant-loop-r l = record {
+  above : l.above ≡ true → (k : ℕ) → k < l.r-index → lt (radius_of l.range (quantize_radius_of l.min l.span (get_or l.radii k pos_zero))) pos_zero ≡ false;
+  below : l.below ≡ true → (k : ℕ) → k < l.r-index → lt (radius_of l.range (quantize_radius_of l.min l.span (get_or l.radii k pos_zero))) (of_bits binary32 0x7F80_0000) ≡ true;
+}

@@ -1,12 +1,10 @@
--- `radius_writing::write_floats` meets its contract: a turn writes the four bytes of one radius. Assumes nothing.
-use Prim.Native.Nat.{◌-◌}
-use lib.ListN.{length}
+-- `radius_writing::write_floats` meets its contract: the front holds the bytes of the radii so far. Assumes nothing.
+use Prim.Native.Nat.{◌*◌}
+use mathlib.Core.Path.{◌≡◌}
+use mathlib.Core.List.{flat_map}
+use lib.ListN.{take}
 use Rattle.float.specs.Bytes.{to_le_bytes}
-use Rattle.lists.proofs.Loops.{Written}
 use Rattle.radius_writing.proofs.write_floats.Given as goal
 
 abbrev pub invariant-loop-i : goal.invariant-loop-i
-invariant-loop-i l = Written to_le_bytes 4 l.radii l.out l.i l.at
-
-abbrev pub decreases-loop-i : goal.decreases-loop-i
-decreases-loop-i l = length l.radii - l.i
+invariant-loop-i l = take (4 * l.i) l.out ≡ flat_map to_le_bytes (take l.i l.radii)

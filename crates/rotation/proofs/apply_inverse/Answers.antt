@@ -11,26 +11,27 @@ use Rattle.rotation.specs.Rotation.{unrotated}
 use Rattle.rotation.proofs.Accepted.{Rotatable, rotatable}
 use Rattle.rotation.proofs.Applied.{inverse-refused, inverse-value}
 use Rattle.error.proofs.Clauses.{said_left}
-use Rattle.rotation.proofs.apply_inverse.Goals.{In_default}
+use Rattle.error.proofs.Passed.{passed_on}
+use Rattle.rotation.proofs.apply_inverse.Goals.{In_ok-check}
 use Rattle.rotation.proofs.apply_inverse.Goals as goal
 
 -- what the check leaves, where it is done
-passed : (c : goal.In_default) → first (rotation_checks c.args.dim c.args.signs.now (length c.args.input.now) (length c.args.output.now)) accepted ≡ accepted
-passed c = sym c.check-checked.ensures ∙ ap says c.in_default.is
+passed : (c : goal.In_ok-check) → first (rotation_checks c.args.dim c.args.signs.now (length c.args.input.now) (length c.args.output.now)) accepted ≡ accepted
+passed c = sym c.check.ensures ∙ ap says c.in_ok-check.was
 
-fit : (c : goal.In_default) → Rotatable c.args.dim c.args.signs.now (length c.args.input.now) (length c.args.output.now)
+fit : (c : goal.In_ok-check) → Rotatable c.args.dim c.args.signs.now (length c.args.input.now) (length c.args.output.now)
 fit c = rotatable _ _ _ _ (passed c)
 
-pub returns-in-Refused : goal.returns-in-Refused
-returns-in-Refused c = said_left (both-refused _ _ (inverse-refused _ _ _ _ (sym c.check-checked.ensures ∙ ap says c.in-Refused.is)))
+pub returns-in_err-check : goal.returns-in_err-check
+returns-in_err-check c = rw (passed_on c.from_residual.result c.from_residual.ensures.1) (said_left (both-refused _ _ (inverse-refused _ _ _ _ (sym c.in_err-check.ensures))))
 
 pub turn_back-requires : goal.turn_back-requires
-turn_back-requires c = let f = fit (goal.at.turn_back-requires c).In_default in
+turn_back-requires c = let f = fit (goal.at.turn_back-requires c).In_ok-check in
     let long = c.copy_into.auto.output ∙ f.output_long in
     (record { bit = f.power.bit; small = f.power.small; whole = long }, f.signs_long ∙ sym long)
 
 pub returns : goal.returns
 returns c = said_left (let a = c.args in
-    let f = fit (goal.at.returns c).In_default in
+    let f = fit (goal.at.returns c).In_ok-check in
     let copied = c.copy_into.ensures ∙ copy_into-same a.input.now a.output.now (f.input_long ∙ sym f.output_long) in
-    both-value _ _ _ (inverse-value _ _ _ _ (passed (goal.at.returns c).In_default)) (c.turn_back.ensures ∙ ap (unrotated a.dim a.signs.now) copied))
+    both-value _ _ _ (inverse-value _ _ _ _ (passed (goal.at.returns c).In_ok-check)) (c.turn_back.ensures ∙ ap (unrotated a.dim a.signs.now) copied))

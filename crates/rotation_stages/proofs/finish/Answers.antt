@@ -1,36 +1,23 @@
--- `rotation_stages::finish` is every stage that is left, in its order.
--- The loop's invariant says that the stages left, of what the values hold now, give the whole. Assumes nothing.
-use mathlib.Core.Path.{refl, ◌∙◌}
+-- `rotation_stages::finish` is every stage that is left, in its order: pair by pair, and one more where the count is odd. Assumes nothing.
+use Prim.Native.Nat.{◌+◌, ◌-◌, ◌*◌}
+use mathlib.Core.Path.{◌≡◌}
 use native.Mathlib.Omega.{arith}
-use Rattle.rotation_stages.proofs.Ordered.{running-start, steps-fours, steps-small, steps-pairs, running-twice, running_more, running-all}
+use Rattle.rotation_stages.proofs.Ordered.{steps-fours, steps-pairs, running-twice, running_more, running-all}
 use Rattle.rotation_stages.proofs.finish.Goals as goal
 
-pub loop-left-init : goal.loop-left-init
-loop-left-init c = (refl, running-start _ _ _ c.requires)
-
 pub doubles-requires : goal.doubles-requires
-doubles-requires c = steps-fours _ _ _ c.loop-left.invariant.1.steps (omega arith)
+doubles-requires c = steps-fours _ _ _ c.loop-pair.invariant.steps (omega arith)
 
-pub overflow_mul-step : goal.overflow_mul-step
-overflow_mul-step c = omega (arith, steps-small _ _ _ c.loop-left.invariant.1.steps (omega arith), c.loop-left.invariant.0, c.well_formed.0.0)
-
-pub loop-left-smaller : goal.loop-left-smaller
-loop-left-smaller c = omega arith
-
-pub loop-left-preserved : goal.loop-left-preserved
-loop-left-preserved c = (c.doubles.auto.values ∙ c.loop-left.invariant.0, running-twice _ _ _ _ _ c.loop-left.invariant.1 (omega arith) c.doubles.ensures)
-
-pub shape_of-values-then-left-eq0 : goal.shape_of-values-then-left-eq0
-shape_of-values-then-left-eq0 c = c.loop-left.invariant.0
-
-pub returns-then-left-eq0 : goal.returns-then-left-eq0
-returns-then-left-eq0 c = running-all _ _ _ _ c.loop-left.invariant.1 (omega arith)
+pub loop-pair-preserved : goal.loop-pair-preserved
+loop-pair-preserved c =
+    let left : c.args.count - 2 * (c.loop-pair._pair + 1) ≡ c.args.count - 2 * c.loop-pair._pair - 2 = omega arith in
+    rw left (running-twice _ _ _ _ _ c.loop-pair.invariant (omega arith) c.doubles.ensures)
 
 pub butterflies-requires : goal.butterflies-requires
-butterflies-requires c = steps-pairs _ _ _ c.loop-left.invariant.1.steps (omega arith)
+butterflies-requires c = steps-pairs _ _ _ c.loop-pair.invariant.steps (omega arith)
 
-pub shape_of-values : goal.shape_of-values
-shape_of-values c = c.butterflies.auto.values ∙ c.loop-left.invariant.0
+pub returns-then-count-eq1 : goal.returns-then-count-eq1
+returns-then-count-eq1 c = running-all _ _ _ _ (running_more _ _ _ _ _ c.loop-pair.invariant (omega arith) c.butterflies.ensures) (omega arith)
 
-pub returns : goal.returns
-returns c = running-all _ _ _ _ (running_more _ _ _ _ _ c.loop-left.invariant.1 (omega arith) c.butterflies.ensures) (omega arith)
+pub returns-else-count-eq1 : goal.returns-else-count-eq1
+returns-else-count-eq1 c = running-all _ _ _ _ c.loop-pair.invariant (omega arith)

@@ -1,10 +1,10 @@
 -- `rotation_stored::check_matrix` answers the first check of a dimension and of its matrix that fails, in document 02's order. Assumes nothing.
 use Prim.Native.Nat.{◌*◌, ◌≤◌}
-use mathlib.Core.Path.{sym, ◌∙◌}
+use mathlib.Core.Path.{refl, sym, ◌∙◌}
 use native.Mathlib.Nat.{mul-le-mul_right}
 use native.Mathlib.Omega.{arith}
 use borrow.Author.Tests.{eq-eqb, ne_eqb, ltb-false}
-use Rattle.error.proofs.Places.{each-offends, each-passes}
+use Rattle.error.proofs.Places.{each-offends, each-passes, is_found, is_none}
 use Rattle.error.specs.Checks.{bad_value}
 use Rattle.rotation_stored.proofs.check_matrix.Goals as goal
 
@@ -26,8 +26,8 @@ overflow_mul-dim c = let n = c.args.dim in
 pub returns-then-matrix-dim : goal.returns-then-matrix-dim
 returns-then-matrix-dim c = simp (ne_eqb _ _ c.if-dim-eq0.false, ne_eqb _ _ c.if-dim-eq1.false, sym c.outside_stored.ensures ∙ c.if-outside_stored.false, ne_eqb _ _ c.if-matrix-dim.true)
 
-pub returns-then-bad-matrix : goal.returns-then-bad-matrix
-returns-then-bad-matrix c = simp (ne_eqb _ _ c.if-dim-eq0.false, ne_eqb _ _ c.if-dim-eq1.false, sym c.outside_stored.ensures ∙ c.if-outside_stored.false, eq-eqb _ _ c.if-matrix-dim.false, each-offends bad_value _ c.first_non_finite-bad.ensures c.if-bad-matrix.true, c.first_non_finite-bad.ensures)
+pub returns-in-Some : goal.returns-in-Some
+returns-in-Some c = simp (ne_eqb _ _ c.if-dim-eq0.false, ne_eqb _ _ c.if-dim-eq1.false, sym c.outside_stored.ensures ∙ c.if-outside_stored.false, eq-eqb _ _ c.if-matrix-dim.false, each-offends bad_value _ (is_found c.first_non_finite.ensures c.in-Some.is).0 (is_found c.first_non_finite.ensures c.in-Some.is).1, (is_found c.first_non_finite.ensures c.in-Some.is).0)
 
 pub returns : goal.returns
-returns c = simp (ne_eqb _ _ c.if-dim-eq0.false, ne_eqb _ _ c.if-dim-eq1.false, sym c.outside_stored.ensures ∙ c.if-outside_stored.false, eq-eqb _ _ c.if-matrix-dim.false, each-passes bad_value _ c.first_non_finite-bad.ensures c.if-bad-matrix.false)
+returns c = simp (ne_eqb _ _ c.if-dim-eq0.false, ne_eqb _ _ c.if-dim-eq1.false, sym c.outside_stored.ensures ∙ c.if-outside_stored.false, eq-eqb _ _ c.if-matrix-dim.false, each-passes bad_value _ refl (is_none c.first_non_finite.ensures c.in_default.is))

@@ -1,11 +1,7 @@
--- `rotation_stored::sum_rows` leaves the sum along each row: the sums start at +0.0 and take four columns at a time, and `add_rest` takes what is left. Assumes nothing.
-use Prim.Native.Nat.{◌-◌}
-use lib.ListN.{length}
+-- `rotation_stored::sum_rows` leaves the sum along each row: the loop's invariant says how many columns each sum has taken, four at a time. Assumes nothing.
+use Prim.Native.Nat.{◌*◌}
 use Rattle.rotation_stored.specs.Inner.{Taken}
 use Rattle.rotation_stored.proofs.sum_rows.Given as goal
 
-abbrev pub invariant-loop-column : goal.invariant-loop-column
-invariant-loop-column l = Taken l.matrix l.input l.column l.output
-
-abbrev pub decreases-loop-column : goal.decreases-loop-column
-decreases-loop-column l = length l.input - l.column
+abbrev pub invariant-loop-i : goal.invariant-loop-i
+invariant-loop-i l = Taken l.matrix l.input (4 * l.i) l.output

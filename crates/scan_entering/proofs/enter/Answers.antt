@@ -15,7 +15,7 @@ returns-in-Score c = let a = c.args in
 
 pub returns-in-Refused : goal.returns-in-Refused
 returns-in-Refused c = let a = c.args in
-    entered-refused a.tally a.numbers.now a.scores.now (search rules) a.scored _ _ c.in-Refused.is c.wrapping_add_u32.ensures.value
+    entered-refused a.tally a.numbers.now a.scores.now (search rules) a.scored _ c.in-Refused.is c.wrapping_add_u32.ensures.value
 
 pub returns-in-Withdrawn : goal.returns-in-Withdrawn
 returns-in-Withdrawn c = let a = c.args in

@@ -7,19 +7,19 @@ use Rattle.scan_entering.proofs.find_place.Goals as goal
 
 pub returns-then-not-scores-i : goal.returns-then-not-scores-i
 returns-then-not-scores-i c = let a = c.args in
-    let l = c.loop-i in
-    let here = up-stopped a.score a.scores.now l.i c.loop-i-test.true (c.if-not-scores-i.true) in
-    record { at = sym (l.invariant.1 ∙ here.0); within = omega (arith, l.invariant.0); compared = omega (arith, l.invariant.2, here.1) }
+    let inv = c.loop-i.invariant in
+    let here = up-stopped a.score a.scores.now c.loop-i.i c.loop-i-test.true c.if-not-scores-i.true in
+    record { at = omega (arith, inv.1, here.0); within = omega arith; compared = omega (arith, inv.2, here.1) }
 
 pub loop-i-preserved : goal.loop-i-preserved
 loop-i-preserved c = let a = c.args in
-    let l = c.loop-i in
-    let passed = up-passed a.score a.scores.now l.i c.loop-i-test.true (c.if-not-scores-i.false) in
-    (omega (arith, l.invariant.0, c.loop-i-test.true), l.invariant.1 ∙ passed.0, omega (arith, l.invariant.2, passed.1))
+    let inv = c.loop-i.invariant in
+    let passed = up-passed a.score a.scores.now c.loop-i.i c.loop-i-test.true c.if-not-scores-i.false in
+    (omega arith, inv.1 ∙ passed.0, omega (arith, inv.2, passed.1))
 
 pub returns : goal.returns
 returns c = let a = c.args in
-    let l = c.loop-i in
-    let end : l.i ≡ 0 = omega (arith, c.loop-i-test.false) in
+    let inv = c.loop-i.invariant in
+    let end : c.loop-i.i ≡ 0 = omega arith in
     let none = up_none a.score a.scores.now in
-    record { at = sym (l.invariant.1 ∙ ap (place_up a.score a.scores.now) end ∙ none.0); within = omega arith; compared = omega (arith, l.invariant.2, ap (compared_up a.score a.scores.now) end, none.1) }
+    record { at = sym (inv.1 ∙ ap (place_up a.score a.scores.now) end ∙ none.0); within = omega arith; compared = omega (arith, inv.2, ap (compared_up a.score a.scores.now) end, none.1) }

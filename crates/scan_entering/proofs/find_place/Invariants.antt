@@ -6,6 +6,3 @@ use Rattle.scan_entering.proofs.find_place.Given as goal
 
 abbrev pub invariant-loop-i : goal.invariant-loop-i
 invariant-loop-i l = (l.compared + l.i ≡ l.held) × (place_up l.score l.scores l.held ≡ place_up l.score l.scores l.i) × (compared_up l.score l.scores l.held ≡ l.compared + compared_up l.score l.scores l.i)
-
-abbrev pub decreases-loop-i : goal.decreases-loop-i
-decreases-loop-i l = l.i

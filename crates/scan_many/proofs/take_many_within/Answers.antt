@@ -16,10 +16,10 @@ use Rattle.scan_many.proofs.Led.{many-led}
 use Rattle.scan_many.proofs.Answers.{passed-scalars, passed-ends, many-refused, many-passed}
 use Rattle.scan_many.proofs.take_many_within.Goals as goal
 
-pub returns-in-Refused : goal.returns-in-Refused
-returns-in-Refused c = let a = c.args in
+pub returns-in-Err : goal.returns-in-Err
+returns-in-Err c = let a = c.args in
     let scan = scan_of a.tally a.numbers.now a.scores.now in
-    let e = many-refused scan a.setup a.directions.now a.rotated.now a.projected.now a.bytes.now a.ends.now (sym c.check_many-checked.ensures ∙ ap says c.in-Refused.is) in
+    let e = many-refused scan a.setup a.directions.now a.rotated.now a.projected.now a.bytes.now a.ends.now (sym c.check_many-checked.ensures ∙ ap says c.in-Err.is) in
     record { said = sym (ap done e); left = sym (ap (λ (x : Answer Scan). after x scan) e); led = (λ k earlier f led. value-not-refused (sym f)); plain = as-by_query a.setup a.directions.now a.rotated.now a.projected.now }
 
 pub enter_many-next-requires : goal.enter_many-next-requires

@@ -1,15 +1,17 @@
 -- `setup_tables::check_rotation` meets its contract, rotation by rotation. Assumes nothing.
+use mathlib.Core.Path.{refl}
 use Rattle.setup_tables.proofs.Rotations.{sign-offends, signs-pass, entry-offends, entries-pass}
+use Rattle.error.proofs.Places.{is_found, is_none}
 use Rattle.setup_tables.proofs.check_rotation.Goals as goal
 
-pub returns-then-sign-entries : goal.returns-then-sign-entries
-returns-then-sign-entries c = sign-offends _ _ c.in-FastHadamard.is c.first_bad_sign-sign.ensures c.if-sign-entries.true
+pub returns-in-Some : goal.returns-in-Some
+returns-in-Some c = let found = is_found c.first_bad_sign.ensures c.in-Some.is in sign-offends _ _ c.in-FastHadamard.is found.0 found.1
 
-pub returns-then-entry-entries : goal.returns-then-entry-entries
-returns-then-entry-entries c = entry-offends _ _ c.in-Stored.is c.first_non_finite-entry.ensures c.if-entry-entries.true
+pub returns-in-Some-first_non_finite : goal.returns-in-Some-first_non_finite
+returns-in-Some-first_non_finite c = let found = is_found c.first_non_finite.ensures c.in-Some-first_non_finite.is in entry-offends _ _ c.in-Stored.is found.0 found.1
 
-pub returns-else-sign-entries : goal.returns-else-sign-entries
-returns-else-sign-entries c = signs-pass _ _ c.in-FastHadamard.is c.first_bad_sign-sign.ensures c.if-sign-entries.false
+pub returns-in_default : goal.returns-in_default
+returns-in_default c = signs-pass _ _ c.in-FastHadamard.is refl (is_none c.first_bad_sign.ensures c.in_default.is)
 
-pub returns-else-entry-entries : goal.returns-else-entry-entries
-returns-else-entry-entries c = entries-pass _ _ c.in-Stored.is c.first_non_finite-entry.ensures c.if-entry-entries.false
+pub returns-in_default-first_non_finite : goal.returns-in_default-first_non_finite
+returns-in_default-first_non_finite c = entries-pass _ _ c.in-Stored.is refl (is_none c.first_non_finite.ensures c.in_default-first_non_finite.is)

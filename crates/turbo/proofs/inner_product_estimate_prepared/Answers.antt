@@ -13,11 +13,11 @@ pub returns-in-Score : goal.returns-in-Score
 returns-in-Score c = let a = c.args in
     record { said = sym (prepared-scored a.setup a.directions.now a.rotated.now a.projected.now a.bytes.now (c.is_fitting.ensures c.if-is_fitting.true) (sym (ap says_score c.in-Score.is) ∙ c.record_score-scored.ensures)); ordered = prepared-stands a.setup a.directions.now a.rotated.now a.projected.now (λ j h. c.type_inv.directions j) }
 
-pub returns-in-Refused : goal.returns-in-Refused
-returns-in-Refused c = let a = c.args in
-    record { said = sym (prepared-refused a.setup a.directions.now a.rotated.now a.projected.now a.bytes.now (sym c.check_prepared-checked.ensures ∙ ap says c.in-Refused.is)); ordered = prepared-stands a.setup a.directions.now a.rotated.now a.projected.now (λ j h. c.type_inv.directions j) }
+pub returns-in-Err : goal.returns-in-Err
+returns-in-Err c = let a = c.args in
+    record { said = sym (prepared-refused a.setup a.directions.now a.rotated.now a.projected.now a.bytes.now (sym c.check_prepared.ensures ∙ ap says c.in-Err.is)); ordered = prepared-stands a.setup a.directions.now a.rotated.now a.projected.now (λ j h. c.type_inv.directions j) }
 
 pub returns : goal.returns
 returns c = let a = c.args in
-    let passed = sym c.check_prepared-checked.ensures ∙ ap says c.in_default-checked.is in
+    let passed = sym c.check_prepared.ensures ∙ ap says c.in_default-check_prepared.is in
     record { said = c.record_score.ensures ∙ first-passed (scalar_checks a.setup) _ (ready-usable a.setup a.directions.now a.rotated.now a.projected.now passed) ∙ sym (prepared-passed a.setup a.directions.now a.rotated.now a.projected.now a.bytes.now passed); ordered = prepared-stands a.setup a.directions.now a.rotated.now a.projected.now (λ j h. c.type_inv.directions j) }

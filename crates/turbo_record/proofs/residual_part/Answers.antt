@@ -1,12 +1,11 @@
 -- `turbo_record::residual_part` meets its contract: the part of the array that was filled is the part that the residual reads. Assumes nothing.
-use Prim.Native.Nat.{ℕ, ◌-◌}
+use Prim.Native.Nat.{ℕ}
 use mathlib.Core.Path.{ap, ◌∙◌}
 use mathlib.Core.List.{List}
 use native.Mathlib.Omega.{arith}
-use borrow.Rule.Slice.PartMut.{post_of}
 use lib.IntN.{ℤ}
 use lib.Ieee.{Float}
-use Rattle.lists.proofs.Parts.{part-enough}
+use Rattle.lists.proofs.Parts.{part-long}
 use Rattle.qjl_residual.specs.Residual.{residual_of}
 use Rattle.packed.specs.Fields.{norm_of}
 use Rattle.packed.specs.Reading.{signs_of}
@@ -16,18 +15,14 @@ use Rattle.packed_values.proofs.Scratch.{read-projections-most, signs-lent}
 use Rattle.turbo_record.proofs.residual_part.Goals as goal
 
 pub slice_bounds-signs-end : goal.slice_bounds-signs-end
-slice_bounds-signs-end c = let bytes = c.args.bytes.now in let most = read-projections-most bytes c.requires in omega (arith, most, c.no_signs-signs.type_inv)
+slice_bounds-signs-end c = let bytes = c.args.bytes.now in let most = read-projections-most bytes c.requires in omega (arith, most)
 
 pub overflow_cast-projections : goal.overflow_cast-projections
 overflow_cast-projections c = let bytes = c.args.bytes.now in let most = read-projections-most bytes c.requires in omega (arith, most)
 
-pub slice_bounds-residual-end : goal.slice_bounds-residual-end
-slice_bounds-residual-end c = let bytes = c.args.bytes.now in let most = read-projections-most bytes c.requires in
-    part-enough c.args.header.projections c.no_signs-signs.result (omega (arith, most, c.no_signs-signs.type_inv)) c.signs_at.new.out (post_of 0 (c.args.header.projections - 0) c.no_signs-signs.result) c.signs_at.auto.out
-
 pub returns : goal.returns
 returns c = let bytes = c.args.bytes.now in let most = read-projections-most bytes c.requires in let is = header_projections_lem bytes (read-header bytes c.requires) in
-    let ss = signs-lent bytes c.requires c.no_signs-signs.result (omega (arith, most, c.no_signs-signs.type_inv)) c.signs_at.new.out (post_of 0 (c.args.header.projections - 0) c.no_signs-signs.result) c.signs_at.auto.out c.signs_at.ensures.left in
+    let ss = signs-lent bytes c.requires _ _ (part-long _ _ (omega (arith, most))) c.signs_at.ensures.left in
     c.residual.ensures
     ∙ ap (λ (l : List ℤ). residual_of c.args.header.projections c.args.header.norm c.args.projected.now l) ss
     ∙ ap (λ (x : Float). residual_of c.args.header.projections x c.args.projected.now (signs_of bytes)) (header_norm_lem bytes (read-header bytes c.requires))

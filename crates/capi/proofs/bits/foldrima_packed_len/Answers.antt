@@ -3,4 +3,4 @@ use Rattle.capi_answers.proofs.Tell.{told-as, left_as}
 use Rattle.capi.proofs.bits.foldrima_packed_len.Goals as goal
 
 pub returns : goal.returns
-returns c = record { answer = told-as c.tell_length.ensures.answer c.packed_len.ensures; left = left_as c.args.value.now c.tell_length.ensures.left c.packed_len.ensures }
+returns c = record { answer = told-as c.tell_value.ensures.answer c.packed_len.ensures; left = left_as c.args.value.now c.tell_value.ensures.left c.packed_len.ensures }

@@ -3,4 +3,4 @@ use Rattle.capi_answers.proofs.Tell.{told-as, left_as}
 use Rattle.capi.proofs.books.foldrima_dequantize_angle.Goals as goal
 
 pub returns : goal.returns
-returns c = record { answer = told-as c.tell_angle.ensures.answer c.dequantize_angle.ensures; left = left_as c.args.value.now c.tell_angle.ensures.left c.dequantize_angle.ensures }
+returns c = record { answer = told-as c.tell_value.ensures.answer c.dequantize_angle.ensures; left = left_as c.args.value.now c.tell_value.ensures.left c.dequantize_angle.ensures }

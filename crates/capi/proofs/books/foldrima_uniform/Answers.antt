@@ -3,4 +3,4 @@ use Rattle.capi_answers.proofs.Tell.{told-as}
 use Rattle.capi.proofs.books.foldrima_uniform.Goals as goal
 
 pub returns : goal.returns
-returns c = told-as c.tell_made.ensures c.uniform.ensures
+returns c = told-as c.tell.ensures c.uniform.ensures

@@ -8,4 +8,4 @@ use Rattle.capi.proofs.radii.foldrima_encoded_bytes.Goals as goal
 pub returns : goal.returns
 returns c = let a = c.args in
     let e = c.encoded_bytes.ensures ∙ ap (λ (p : RadiusCodecProfileV1). encoded_bytes_of p a.payload.now) c.profile-chosen.ensures in
-    record { answer = told-as c.tell_length.ensures.answer e; left = left_as a.value.now c.tell_length.ensures.left e }
+    record { answer = told-as c.tell_value.ensures.answer e; left = left_as a.value.now c.tell_value.ensures.left e }

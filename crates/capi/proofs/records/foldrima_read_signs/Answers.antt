@@ -3,4 +3,4 @@ use Rattle.capi_answers.proofs.Tell.{told-as}
 use Rattle.capi.proofs.records.foldrima_read_signs.Goals as goal
 
 pub returns : goal.returns
-returns c = record { answer = told-as c.tell_filled.ensures c.read_signs.ensures.said; left = c.read_signs.ensures.left }
+returns c = record { answer = told-as c.tell_unless_withdrawn.ensures c.read_signs.ensures.said; left = c.read_signs.ensures.left }

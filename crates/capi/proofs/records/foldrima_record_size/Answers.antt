@@ -9,4 +9,4 @@ pub returns : goal.returns
 unfolding of_bits
 returns c = let a = c.args in
     let e = c.record_size.ensures ∙ ap record_size_of c.code-code.ensures in
-    record { answer = told-as c.tell_length.ensures.answer e; left = left_as a.value.now c.tell_length.ensures.left e }
+    record { answer = told-as c.tell_value.ensures.answer e; left = left_as a.value.now c.tell_value.ensures.left e }

@@ -11,4 +11,4 @@ use Rattle.capi.proofs.scores.foldrima_decode_approximate.Goals as goal
 pub returns : goal.returns
 returns c = let a = c.args in
     let e = c.decode_approximate.ensures.said ∙ ap (λ (s : Setup). done (decode_approximate_of s (lent a.rotation.now a.directions.now a.matrix.now) a.bytes.now (length a.out.now))) c.setup-scalars.ensures in
-    record { answer = told-as c.tell_filled.ensures e; left = c.decode_approximate.ensures.left ∙ ap (λ (s : Setup). after (decode_approximate_of s (lent a.rotation.now a.directions.now a.matrix.now) a.bytes.now (length a.out.now)) a.out.now) c.setup-scalars.ensures }
+    record { answer = told-as c.tell_unless_withdrawn.ensures e; left = c.decode_approximate.ensures.left ∙ ap (λ (s : Setup). after (decode_approximate_of s (lent a.rotation.now a.directions.now a.matrix.now) a.bytes.now (length a.out.now)) a.out.now) c.setup-scalars.ensures }

@@ -4,14 +4,15 @@ use Rattle.error.specs.Answer.{value}
 use Rattle.error.specs.Outcomes.{says}
 use Rattle.codebook.specs.Codebook.{uniform_of}
 use Rattle.codebook.proofs.Checks.{check-refused, check-passed}
+use Rattle.error.proofs.Passed.{passed_on}
 use Rattle.codebook.proofs.ScalarCodebook.uniform.Goals as goal
 
-pub returns-in-Done : goal.returns-in-Done
+pub returns : goal.returns
 unfolding uniform_of
-returns-in-Done c = let a = c.args in
-    sym (check-passed a.bits a.min a.max (value (record { bits = a.bits; min = a.min; max = a.max })) (sym c.check.ensures ∙ ap says c.in-Done.is))
+returns c = let a = c.args in
+    sym (check-passed a.bits a.min a.max (value (record { bits = a.bits; min = a.min; max = a.max })) (sym c.check.ensures ∙ ap says c.in_ok-check.was))
 
-pub returns-in-Refused : goal.returns-in-Refused
+pub returns-in_err-check : goal.returns-in_err-check
 unfolding uniform_of
-returns-in-Refused c = let a = c.args in
-    sym (check-refused a.bits a.min a.max (value (record { bits = a.bits; min = a.min; max = a.max })) (sym c.check.ensures ∙ ap says c.in-Refused.is))
+returns-in_err-check c = let a = c.args in
+    rw (passed_on c.from_residual.result c.from_residual.ensures.1) (sym (check-refused a.bits a.min a.max (value (record { bits = a.bits; min = a.min; max = a.max })) (sym c.in_err-check.ensures)))
