@@ -70,7 +70,7 @@ module _ (packed : List ℕ) (bits room : ℕ) (asked : Unpackable packed bits r
     eights-read = omega (arith, mul-le-mul_right bits inv.within, asked.enough)
 
     module _ (narrow : bits ≤ 8) (more : k < room / 8) where
-      eights-room : 8 * k + 4 + 4 ≤ room
+      pub eights-room : 8 * k + 4 + 4 ≤ room
       eights-room = omega (arith, more)
 
       eights-more : k * bits + bits ≤ length packed

@@ -61,10 +61,10 @@ pub record SignsUnpacked (packed : List ℕ) (room : ℕ) (out : List ℤ) (k : 
 module _ (packed : List ℕ) (room : ℕ) (enough : room ≤ 8 * length packed) where
   module _ (out : List ℤ) (k : ℕ) (inv : SignsUnpacked packed room out k) where
     module _ (more : k < room / 8) where
-      unsigns-byte : k < length packed
+      pub unsigns-byte : k < length packed
       unsigns-byte = omega (arith, more, enough)
 
-      unsigns-room : 8 * k + 4 + 4 ≤ room
+      pub unsigns-room : 8 * k + 4 + 4 ≤ room
       unsigns-room = omega (arith, more)
 
       pub unsigns-turn : (out' out'' : List ℤ) → get_or packed k 0 < 256 → out' ≡ take (8 * k) out ++ map sign_of_bit (digits 2 4 (get_or packed k 0)) ++ drop (8 * k + 4) out → out'' ≡ take (8 * k + 4) out' ++ map sign_of_bit (digits 2 4 (get_or packed k 0 / 16)) ++ drop (8 * k + 4 + 4) out' → SignsUnpacked packed room out'' (k + 1)

@@ -85,10 +85,16 @@ run_inside n (suc j) zero l h = absurd (omega (arith, h))
 run_inside n (suc j) (suc m) [] h = refl
 run_inside n (suc j) (suc m) (x ∷ l) h = run_inside n j m l (omega (arith, h))
 
-pub block_at : (bits block : List ℕ) (n j v : ℕ) → block ≡ take 256 (drop (256 * n) bits) → j < 32 → v ≡ number 2 (take 8 (drop (8 * j) block)) → v ≡ number 2 (take 8 (drop (8 * (32 * n + j)) bits))
-block_at bits block n j v is h e =
-    let at : 256 * n + 8 * j ≡ 8 * (32 * n + j) = omega arith in
+pub block_at : (bits block : List ℕ) (k j v : ℕ) → block ≡ take 256 (drop (8 * k) bits) → j < 32 → v ≡ number 2 (take 8 (drop (8 * j) block)) → v ≡ number 2 (take 8 (drop (8 * (k + j)) bits))
+block_at bits block k j v is h e =
+    let at : 8 * k + 8 * j ≡ 8 * (k + j) = omega arith in
     e
     ∙ ap (λ (l : List ℕ). number 2 (take 8 (drop (8 * j) l))) is
-    ∙ ap (number 2) (run_inside 8 (8 * j) 256 (drop (256 * n) bits) (omega arith) ∙ ap (take 8) (drop-drop (8 * j) (256 * n) bits))
+    ∙ ap (number 2) (run_inside 8 (8 * j) 256 (drop (8 * k) bits) (omega arith) ∙ ap (take 8) (drop-drop (8 * j) (8 * k) bits))
     ∙ ap (λ (m : ℕ). number 2 (take 8 (drop m bits))) at
+
+-- the same of the n-th block
+pub whole_block_at : (bits block : List ℕ) (n j v : ℕ) → block ≡ take 256 (drop (256 * n) bits) → j < 32 → v ≡ number 2 (take 8 (drop (8 * j) block)) → v ≡ number 2 (take 8 (drop (8 * (32 * n + j)) bits))
+whole_block_at bits block n j v is h e =
+    let at : 256 * n ≡ 8 * (32 * n) = omega arith in
+    block_at bits block (32 * n) j v (is ∙ ap (λ (m : ℕ). take 256 (drop m bits)) at) h e

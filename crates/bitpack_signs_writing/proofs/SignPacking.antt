@@ -55,10 +55,10 @@ module _ (bits : List ℕ) (n room : ℕ) (counted : length bits ≡ n) (exact :
         (store-next out k v (digits 256 (room - (k + 1)) next) (omega (arith, inv.sized, more)))
 
     module _ (more : k < n / 8) where
-      signs-inside : 8 * k + 4 + 4 ≤ n
+      pub signs-inside : 8 * k + 4 + 4 ≤ n
       signs-inside = omega (arith, more)
 
-      signs-room : k < room
+      pub signs-room : k < room
       signs-room = omega (arith, more, exact)
 
       -- the next byte has the next eight bits
@@ -83,7 +83,7 @@ module _ (bits : List ℕ) (n room : ℕ) (counted : length bits ≡ n) (exact :
 
     -- the last byte, or none
     module _ (done : n / 8 ≤ k) where
-      signs-left : n < 8 * k + 8
+      pub signs-left : n < 8 * k + 8
       signs-left = omega (arith, done)
 
       pub signs-last : (v : ℕ) → k < length out → v ≡ number 2 (drop (8 * k) bits) → v < 256 → set out k v ≡ digits 256 room (number 2 bits)

@@ -176,7 +176,7 @@ module _ (indices : List ℕ) (bits room : ℕ) (asked : Packable indices bits r
     gathered-within = omega (arith, mul-le-mul_right bits inv.within, asked.exact)
 
     module _ (more : k < length indices / 8) where
-      gathered-more : 8 * k + 4 + 4 ≤ length indices
+      pub gathered-more : 8 * k + 4 + 4 ≤ length indices
       gathered-more = omega (arith, more)
 
       gathered-room : k * bits + bits ≤ room

@@ -1,4 +1,5 @@
--- A `Refusal` is a number and a place: '1: bits outside 1..16', and so on down document 01's list and what document 02 adds to it. Assumes nothing.
+-- A `Refusal` is a number and a place: '1: bits outside 1..16', and so on down document 01's list and what document 02 adds to it; any other number stands by itself.
+-- Assumes nothing.
 use Rattle.std.specs.Prelude.{ℕ}
 use Rattle.error.specs.declared.Refusal.{Refusal}
 use Rattle.error.specs.declared.Refusal.TheVariants as refusal
@@ -29,6 +30,7 @@ number_of (refusal.ScanFull p) = 22
 number_of (refusal.MalformedNorm p) = 23
 number_of (refusal.ScanNotShorter p) = 25
 number_of (refusal.StoredDimension p) = 26
+number_of (refusal.Other n p) = n
 
 abbrev pub place_of : Refusal → ℕ
 place_of (refusal.InvalidBitWidth p) = p
@@ -56,3 +58,4 @@ place_of (refusal.ScanFull p) = p
 place_of (refusal.MalformedNorm p) = p
 place_of (refusal.ScanNotShorter p) = p
 place_of (refusal.StoredDimension p) = p
+place_of (refusal.Other n p) = p

@@ -61,6 +61,8 @@ pub enum Refusal {
     ScanNotShorter(usize),
     // 26. A stored rotation's dimension is above 512. Place 0.
     StoredDimension(usize),
+    // Any other number, with its place. No call makes one; those that take an answer take it as any other.
+    Other { number: u32, place: usize },
 }
 
 impl Refusal {
@@ -94,6 +96,7 @@ impl Refusal {
             Refusal::MalformedNorm(_) => 23,
             Refusal::ScanNotShorter(_) => 25,
             Refusal::StoredDimension(_) => 26,
+            Refusal::Other { number, .. } => number,
         }
     }
 
@@ -127,6 +130,7 @@ impl Refusal {
             Refusal::MalformedNorm(place) => place,
             Refusal::ScanNotShorter(place) => place,
             Refusal::StoredDimension(place) => place,
+            Refusal::Other { place, .. } => place,
         }
     }
 }

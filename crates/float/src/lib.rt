@@ -45,7 +45,7 @@ pub fn from_bits(bits: u32) -> f32
 pub fn to_bits(x: f32) -> u32
     ensures { result ≡ to_bits binary32 x }
 {
-    if x.is_nan() {
+    if is_nan(x) {
         0x7FC0_0000
     } else {
         f32::to_bits(x)
@@ -111,7 +111,9 @@ pub fn copy_into(input: &[f32], output: &mut [f32])
     if input.len() != output.len() {
         return;
     }
-    output.copy_from_slice(input);
+    for i in 0..output.len() {
+        output[i] = input[i];
+    }
 }
 
 // The significand of a pattern with a clear sign, which stands for significand * 2^shift units of 2^-149.

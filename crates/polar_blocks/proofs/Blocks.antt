@@ -186,7 +186,7 @@ module _ (directions rotated : List Float) (profile : RadiusCodecProfileV1) (ran
         split false b x = refl
 
     -- a block that is added, and one with a radius that is refused
-    onward-more : (sum more : Float) {whole : Option Float} → Some more ≡ added_block directions rotated profile range radii indices bits at count sum → whole ≡ onward at sum → whole ≡ onward (at + count) more
+    pub onward-more : (sum more : Float) {whole : Option Float} → Some more ≡ added_block directions rotated profile range radii indices bits at count sum → whole ≡ onward at sum → whole ≡ onward (at + count) more
     onward-more sum more e inv = inv ∙ onward-block sum ∙ split (clear bad_radius block) _ e
       where
         split : (b : Bool) (x : Float) → Some more ≡ cond b (Some x) None → cond b (onward (at + count) x) None ≡ onward (at + count) more

@@ -54,7 +54,7 @@ module _ (n : ℕ) (matrix xs : List Float) (room : ℕ) (whole : length xs ≤ 
   within-refused e = stored-inverse-refused n matrix xs (length xs) (sym room-checks ∙ sym (done-checks room) ∙ sym e)
 
   module _ (e : accepted ≡ done (stored_apply_inverse_of n matrix xs room)) where
-    within-passed : first (stored_checks n matrix (length xs) room) accepted ≡ accepted
+    pub within-passed : first (stored_checks n matrix (length xs) room) accepted ≡ accepted
     within-passed = sym (done-checks room) ∙ sym e
 
     -- what the part holds is copied back, which is as long as the values

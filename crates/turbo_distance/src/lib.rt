@@ -15,7 +15,7 @@ pub fn distance_from_score(query: &[f32], radii: &[f32], score: f32) -> Scored
 {
     let norms = squared_norm(query) + squared_norm(radii);
     let sum = norms - 2.0 * score;
-    if sum.is_nan() {
+    if float::is_nan(sum) {
         return Scored::Refused(Refusal::NonFiniteScore(0));
     }
     error::finite_score(cut_at_zero(sum))

@@ -9,4 +9,4 @@ unfolding to_bits
 nan_pattern = refl
 
 pub returns-then-is_nan : goal.returns-then-is_nan
-returns-then-is_nan c = nan_pattern ∙ ap (to_bits binary32) (sym (nan-only _ (sym c.is_nan.ensures.value ∙ c.if-is_nan.true)))
+returns-then-is_nan c = nan_pattern ∙ ap (to_bits binary32) (sym (nan-only _ (sym c.is_nan.ensures ∙ c.if-is_nan.true)))

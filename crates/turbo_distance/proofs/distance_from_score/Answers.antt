@@ -16,7 +16,7 @@ module _ (c : goal.After-is_nan) where
   summed = sum-of-norms _ _ _ c.squared_norm.ensures c.squared_norm-2.ensures
 
   tested : let a = c.args in is_nan (distance_sum a.query.now a.radii.now a.score) ≡ c.is_nan.result
-  tested = ap is_nan (sym summed) ∙ sym c.is_nan.ensures.value
+  tested = ap is_nan (sym summed) ∙ sym c.is_nan.ensures
 
 pub returns-then-is_nan : goal.returns-then-is_nan
 returns-then-is_nan c = sym (by-sum-nan _ (tested (goal.at.returns-then-is_nan c).After-is_nan ∙ c.if-is_nan.true))
