@@ -7,3 +7,4 @@ pub mod Differs
 pub mod AtOnce
 pub mod Clauses
 pub mod Passed
+pub mod OneRefusal

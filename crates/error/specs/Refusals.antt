@@ -1,5 +1,5 @@
--- A `Refusal` is a number and a place: '1: bits outside 1..16', and so on down document 01's list and what document 02 adds to it; any other number stands by itself.
--- Assumes nothing.
+-- A `Refusal` is a number and a place: '1: bits outside 1..16', and so on down document 01's list, and what the requests of document 02 that have landed add to it; any
+-- other number stands by itself. Assumes nothing.
 use Rattle.std.specs.Prelude.{ℕ}
 use Rattle.error.specs.declared.Refusal.{Refusal}
 use Rattle.error.specs.declared.Refusal.TheVariants as refusal
@@ -30,7 +30,7 @@ number_of (refusal.ScanFull p) = 22
 number_of (refusal.MalformedNorm p) = 23
 number_of (refusal.ScanNotShorter p) = 25
 number_of (refusal.StoredDimension p) = 26
-number_of (refusal.Other n p) = n
+number_of (refusal.Other u p) = u.number
 
 abbrev pub place_of : Refusal → ℕ
 place_of (refusal.InvalidBitWidth p) = p
@@ -58,4 +58,4 @@ place_of (refusal.ScanFull p) = p
 place_of (refusal.MalformedNorm p) = p
 place_of (refusal.ScanNotShorter p) = p
 place_of (refusal.StoredDimension p) = p
-place_of (refusal.Other n p) = p
+place_of (refusal.Other u p) = p

@@ -8,6 +8,10 @@ ghost use Rattle.error.specs.Refusals.{number_of, place_of};
 ghost use Rattle.error.specs.Outcomes.{says, says_unless_withdrawn, says_score};
 ghost use Rattle.error.specs.Answer.{clear, found};
 
+mod unlisted;
+
+pub use unlisted::Unlisted;
+
 // Why a call refuses: a refusal number of documents 01 and 02, and a place. A name is the Rust's where it has one.
 #[derive(Clone, Copy, Debug, PartialEq, Eq)]
 pub enum Refusal {
@@ -61,11 +65,46 @@ pub enum Refusal {
     ScanNotShorter(usize),
     // 26. A stored rotation's dimension is above 512. Place 0.
     StoredDimension(usize),
-    // Any other number, with its place. No call makes one; those that take an answer take it as any other.
-    Other { number: u32, place: usize },
+    // Any other number, with its place. No call but `new` makes one, and no program calls that; those that take an answer take it as any other.
+    Other(Unlisted, usize),
 }
 
 impl Refusal {
+    // The refusal of this number and this place: there is one.
+    pub fn new(number: u32, place: usize) -> Refusal
+        ensures numbered { number_of result ≡ number }
+        ensures placed { place_of result ≡ place }
+    {
+        match number {
+            1 => Refusal::InvalidBitWidth(place),
+            2 => Refusal::ZeroDimension(place),
+            3 => Refusal::OddDimension(place),
+            4 => Refusal::RotationFailed(place),
+            5 => Refusal::DimensionMismatch(place),
+            6 => Refusal::OutputLength(place),
+            7 => Refusal::InvalidDirection(place),
+            8 => Refusal::ZeroProjectionCount(place),
+            9 => Refusal::NonFiniteMatrix(place),
+            10 => Refusal::MalformedSign(place),
+            11 => Refusal::NonFiniteInput(place),
+            12 => Refusal::NonFiniteScore(place),
+            13 => Refusal::MalformedLength(place),
+            14 => Refusal::MalformedPadding(place),
+            15 => Refusal::MalformedIndex(place),
+            16 => Refusal::MalformedRadius(place),
+            17 => Refusal::MalformedRange(place),
+            18 => Refusal::UndefinedProfile(place),
+            19 => Refusal::LengthOverflow(place),
+            20 => Refusal::ProfileMismatch(place),
+            21 => Refusal::ScanLength(place),
+            22 => Refusal::ScanFull(place),
+            23 => Refusal::MalformedNorm(place),
+            25 => Refusal::ScanNotShorter(place),
+            26 => Refusal::StoredDimension(place),
+            _ => Refusal::Other(Unlisted { number }, place),
+        }
+    }
+
     // The number of a refusal.
     pub fn number(self) -> u32
         ensures { result ≡ number_of self }
@@ -96,7 +135,7 @@ impl Refusal {
             Refusal::MalformedNorm(_) => 23,
             Refusal::ScanNotShorter(_) => 25,
             Refusal::StoredDimension(_) => 26,
-            Refusal::Other { number, .. } => number,
+            Refusal::Other(other, _) => other.number,
         }
     }
 
@@ -130,7 +169,7 @@ impl Refusal {
             Refusal::MalformedNorm(place) => place,
             Refusal::ScanNotShorter(place) => place,
             Refusal::StoredDimension(place) => place,
-            Refusal::Other { place, .. } => place,
+            Refusal::Other(_, place) => place,
         }
     }
 }

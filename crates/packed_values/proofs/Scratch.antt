@@ -8,7 +8,7 @@ use borrow.Author.Tests.{eq-eqb}
 use lib.IntN.{ℤ}
 use lib.ListN.{length}
 use lib.Ieee.{Float}
-use Rattle.error.specs.Answer.{Answer, value, after}
+use Rattle.error.specs.Answer.{value, after}
 use Rattle.error.specs.Checks.{wrong_room}
 use Rattle.error.proofs.Answers.{after-value}
 use Rattle.error.proofs.Chains.{append-passed}
